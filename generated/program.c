@@ -52780,387 +52780,389 @@ static uint8_t tp_timer_commands_verbs_do_verb_3(byte *p1, byte *p2, byte *p3, b
 	ALIGN(8) byte p12[48];
 	ALIGN(8) byte p13[88];
 	ALIGN(8) byte p14[16];
-	ALIGN(8) byte p15[1056];
-	ALIGN(8) byte p16[24];
-	ALIGN(8) byte p17[1216];
-	ALIGN(8) byte p18[96];
-	ALIGN(8) byte p19[24];
-	ALIGN(8) byte p20[88];
-	ALIGN(8) byte p21[24];
-	ALIGN(8) byte p22[88];
+	ALIGN(8) byte p15[16];
+	ALIGN(8) byte p16[1056];
+	ALIGN(8) byte p17[24];
+	ALIGN(8) byte p18[1216];
+	ALIGN(8) byte p19[96];
+	ALIGN(8) byte p20[24];
+	ALIGN(8) byte p21[88];
+	ALIGN(8) byte p22[24];
 	ALIGN(8) byte p23[88];
-	ALIGN(8) byte p24[48];
-	ALIGN(8) byte p25[88];
-	ALIGN(8) byte p26[16];
-	ALIGN(8) byte p27[1056];
-	ALIGN(8) byte p28[24];
-	ALIGN(8) byte p29[1216];
-	ALIGN(8) byte p30[96];
-	ALIGN(8) byte p31[24];
-	ALIGN(8) byte p32[88];
+	ALIGN(8) byte p24[88];
+	ALIGN(8) byte p25[48];
+	ALIGN(8) byte p26[88];
+	ALIGN(8) byte p27[16];
+	ALIGN(8) byte p28[16];
+	ALIGN(8) byte p29[1056];
+	ALIGN(8) byte p30[24];
+	ALIGN(8) byte p31[1216];
+	ALIGN(8) byte p32[96];
 	ALIGN(8) byte p33[24];
 	ALIGN(8) byte p34[88];
-	ALIGN(8) byte p35[88];
-	ALIGN(8) byte p36[48];
+	ALIGN(8) byte p35[24];
+	ALIGN(8) byte p36[88];
 	ALIGN(8) byte p37[88];
-	ALIGN(8) byte p38[16];
-	ALIGN(8) byte p39[1056];
-	ALIGN(8) byte p40[24];
-	ALIGN(8) byte p41[1216];
-	ALIGN(8) byte p42[96];
+	ALIGN(8) byte p38[48];
+	ALIGN(8) byte p39[88];
+	ALIGN(8) byte p40[16];
+	ALIGN(8) byte p41[16];
+	ALIGN(8) byte p42[1056];
 	ALIGN(8) byte p43[24];
-	ALIGN(8) byte p44[88];
-	ALIGN(8) byte p45[72];
+	ALIGN(8) byte p44[1216];
+	ALIGN(8) byte p45[96];
 	ALIGN(8) byte p46[24];
-	ALIGN(8) byte p47[1168];
-	ALIGN(8) byte p48[24];
-	ALIGN(8) byte p49[16];
-	ALIGN(8) byte p50[1056];
-	ALIGN(8) byte p51[32];
-	uint8_t n52 = load8(p1 + 1);
-	uint8_t n53 = load8(p1 + 9);
-	uint8_t n54 = load8(p1 + 10);
-	uint8_t n55 = load8(p1 + 16);
-	uint64_t n56 = load64u(p1 + 24);
-	uint8_t n57 = load8(p1 + 32);
-	uint64_t n58 = load64u(p1 + 40);
-	uint8_t n59 = load8(p1 + 48);
-	uint64_t n60 = load64u(p1 + 56);
-	uint8_t n61 = load8(p1 + 64);
-	uint64_t n62 = load64u(p1 + 72);
-	uint64_t n63 = load64u(p2);
-	uint64_t n64 = load64u(p2 + 8);
-	byte *p65 = loadptru(p2 + 16);
-	uint64_t n66 = load64u(p2 + 24);
-	uint64_t n67 = load64u(p2 + 32);
-	byte *p68 = loadptru(p2 + 1112);
-	uint64_t n69 = load64u(p2 + 1120);
-	uint64_t n70 = load64u(p2 + 1128);
-	uint64_t n71 = load64u(p2 + 1136);
+	ALIGN(8) byte p47[88];
+	ALIGN(8) byte p48[72];
+	ALIGN(8) byte p49[24];
+	ALIGN(8) byte p50[1168];
+	ALIGN(8) byte p51[24];
+	ALIGN(8) byte p52[16];
+	ALIGN(8) byte p53[16];
+	ALIGN(8) byte p54[1056];
+	ALIGN(8) byte p55[32];
+	uint8_t n56 = load8(p1 + 1);
+	uint8_t n57 = load8(p1 + 9);
+	uint8_t n58 = load8(p1 + 10);
+	uint8_t n59 = load8(p1 + 16);
+	uint64_t n60 = load64u(p1 + 24);
+	uint8_t n61 = load8(p1 + 32);
+	uint64_t n62 = load64u(p1 + 40);
+	uint8_t n63 = load8(p1 + 48);
+	uint64_t n64 = load64u(p1 + 56);
+	uint8_t n65 = load8(p1 + 64);
+	uint64_t n66 = load64u(p1 + 72);
+	byte *p67 = loadptru(p2 + 16);
+	uint64_t n68 = load64u(p2 + 24);
+	uint64_t n69 = load64u(p2 + 32);
+	byte *p70 = loadptru(p2 + 1112);
+	uint64_t n71 = load64u(p2 + 1120);
+	uint64_t n72 = load64u(p2 + 1128);
+	uint64_t n73 = load64u(p2 + 1136);
 	switch (MOSTLY_0(load8(p1))) {
 	case 0: {
-		uint8_t n213;
-		uint64_t n214;
-		memcpy(p49, p2 + 40, 16);
-		memcpy(p50, p2 + 56, 1056);
-		memset(p51, 0, 32);
-		tp_input_read_script(p51, p3);
-		if (load8(p51) == 0) {
-			byte *p76;
-			uint8_t n198;
-			uint64_t n199;
-			byte *p72 = loadptru(p51 + 8);
-			uint64_t n73 = load64u(p51 + 16);
-			bool b74 = load64u(p51 + 24) == 0;
-			memset(p48, 0, 24);
-			store64(p47 + 8, n64);
-			storeptr(p47 + 16, p65);
-			store64(p47 + 24, n66);
-			store64(p47 + 32, n67);
-			memcpy(p47 + 40, p49, 16);
-			memcpy(p47 + 56, p50, 1056);
-			storeptr(p47 + 1112, p68);
-			store64(p47 + 1120, n69);
-			store64(p47 + 1128, n70);
-			store64(p47 + 1136, n71);
-			store64u(p47, n63);
-			storeptru(p47 + 1144, p5);
-			memset(p47 + 1152, 0, 16);
-			uint64_t n75 = (n73 > UINT64_C(4611686018427387903)) ? UINT64_MAX : (n73 << 2);
-			if (n75 != 0) {
-				uint64_t n77, n79;
-				byte *p78;
-				if ((int64_t)n75 < (int64_t)0) {
-					n77 = n70;
-					p78 = p68;
-					n79 = n67;
+		uint8_t n215;
+		uint64_t n216;
+		memcpy(p52, p2, 16);
+		memcpy(p53, p2 + 40, 16);
+		memcpy(p54, p2 + 56, 1056);
+		memset(p55, 0, 32);
+		tp_input_read_script(p55, p3);
+		if (load8(p55) == 0) {
+			byte *p78;
+			uint8_t n200;
+			uint64_t n201;
+			byte *p74 = loadptru(p55 + 8);
+			uint64_t n75 = load64u(p55 + 16);
+			bool b76 = load64u(p55 + 24) == 0;
+			memset(p51, 0, 24);
+			memcpy(p50, p52, 16);
+			storeptr(p50 + 16, p67);
+			store64(p50 + 24, n68);
+			store64(p50 + 32, n69);
+			memcpy(p50 + 40, p53, 16);
+			memcpy(p50 + 56, p54, 1056);
+			storeptr(p50 + 1112, p70);
+			store64(p50 + 1120, n71);
+			store64(p50 + 1128, n72);
+			store64(p50 + 1136, n73);
+			storeptru(p50 + 1144, p5);
+			memset(p50 + 1152, 0, 16);
+			uint64_t n77 = (n75 > UINT64_C(4611686018427387903)) ? UINT64_MAX : (n75 << 2);
+			if (n77 != 0) {
+				uint64_t n79, n81;
+				byte *p80;
+				if ((int64_t)n77 < (int64_t)0) {
+					n79 = n72;
+					p80 = p70;
+					n81 = n69;
 				} else {
-					of_i64_i64 s80 = rattle_alloc(n75, 1);
-					if ((s80.f0 & 1) != 0) {
-						p76 = (byte *)(uintptr_t)s80.f1;
+					of_i64_i64 s82 = rattle_alloc(n77, 1);
+					if ((s82.f0 & 1) != 0) {
+						p78 = (byte *)(uintptr_t)s82.f1;
 						goto L1;
 					}
-					n77 = load64u(p47 + 1128);
-					p78 = loadptru(p47 + 1112);
-					n79 = load64u(p47 + 32);
+					n79 = load64u(p50 + 1128);
+					p80 = loadptru(p50 + 1112);
+					n81 = load64u(p50 + 32);
 				}
+				if (n81 != 0)
+					rattle_dealloc(loadptru(p50 + 16));
 				if (n79 != 0)
-					rattle_dealloc(loadptru(p47 + 16));
-				if (n77 != 0)
-					rattle_dealloc(p78);
-				if (load64u(p47 + 1160) == 0)
+					rattle_dealloc(p80);
+				if (load64u(p50 + 1160) == 0)
 					goto L2;
-				rattle_dealloc(loadptru(p47 + 1144));
+				rattle_dealloc(loadptru(p50 + 1144));
 				goto L2;
 			}
-			p76 = p5;
+			p78 = p5;
 L1:
 			{
-				bool b193;
-				uint64_t n194;
-				storeptru(p48, p76);
-				store64u(p48 + 8, 0);
-				store64u(p48 + 16, n75);
-				memset(p46 + 8, 0, 16);
-				storeptru(p46, p5);
-				uint64_t n81 = 0;
-				byte *p82 = p72;
-				uint64_t n83 = n73;
+				bool b195;
+				uint64_t n196;
+				storeptru(p51, p78);
+				store64u(p51 + 8, 0);
+				store64u(p51 + 16, n77);
+				memset(p49 + 8, 0, 16);
+				storeptru(p49, p5);
+				uint64_t n83 = 0;
+				byte *p84 = p74;
+				uint64_t n85 = n75;
 				for (;;) {
-					byte *p122, *p140, *p147, *p153, *p159, *p160, *p186;
-					uint64_t n123, n124, n125, n126, n127, n141, n142, n143, n144, n145, n148, n149, n150, n151, n154, n155, n156, n157, n161, n162, n163, n164, n187;
-					uint8_t n188;
-					if (n83 == 0)
+					byte *p124, *p142, *p149, *p155, *p161, *p162, *p188;
+					uint64_t n125, n126, n127, n128, n129, n143, n144, n145, n146, n147, n150, n151, n152, n153, n156, n157, n158, n159, n163, n164, n165, n166, n189;
+					uint8_t n190;
+					if (n85 == 0)
 						goto L3;
-					if (n83 < 6) {
-						if (n83 != 5)
+					if (n85 < 6) {
+						if (n85 != 5)
 							goto L4;
-						uint32_t n84 = ((((uint32_t)load8(p82 + 3) << 24) | ((uint32_t)load8(p82 + 2) << 16)) | ((uint32_t)load8(p82 + 1) << 8)) | (uint32_t)load8(p82);
-						if (n84 != 1886352499)
+						uint32_t n86 = ((((uint32_t)load8(p84 + 3) << 24) | ((uint32_t)load8(p84 + 2) << 16)) | ((uint32_t)load8(p84 + 1) << 8)) | (uint32_t)load8(p84);
+						if (n86 != 1886352499)
 							goto L5;
-						uint64_t n85 = 0;
-						bool b86 = false;
-						while (n85 != 1) {
-							n85 = 1;
-							b86 = (int)b86 | (int)(32 != load8(p82 + 4));
-						}
 						uint64_t n87 = 0;
 						bool b88 = false;
 						while (n87 != 1) {
 							n87 = 1;
-							b88 = (int)b88 | (int)(32 != load8(p82 + 4));
+							b88 = (int)b88 | (int)(32 != load8(p84 + 4));
 						}
 						uint64_t n89 = 0;
 						bool b90 = false;
 						while (n89 != 1) {
 							n89 = 1;
-							b90 = (int)b90 | (int)(32 != load8(p82 + 4));
+							b90 = (int)b90 | (int)(32 != load8(p84 + 4));
 						}
-						if ((int)((int)b86 | (int)b88) | (int)b90)
+						uint64_t n91 = 0;
+						bool b92 = false;
+						while (n91 != 1) {
+							n91 = 1;
+							b92 = (int)b92 | (int)(32 != load8(p84 + 4));
+						}
+						if ((int)((int)b88 | (int)b90) | (int)b92)
 							goto L5;
 					} else {
-						uint32_t n91 = ((((uint32_t)load8(p82 + 3) << 24) | ((uint32_t)load8(p82 + 2) << 16)) | ((uint32_t)load8(p82 + 1) << 8)) | (uint32_t)load8(p82);
-						switch (n91) {
+						uint32_t n93 = ((((uint32_t)load8(p84 + 3) << 24) | ((uint32_t)load8(p84 + 2) << 16)) | ((uint32_t)load8(p84 + 1) << 8)) | (uint32_t)load8(p84);
+						switch (n93) {
 						case 1918989427: {
-							uint64_t n101, n107, n113, n119;
-							uint64_t n92 = 0;
-							bool b93 = false;
-							while (n92 != 1) {
-								n92 = 1;
-								b93 = (int)b93 | (int)(116 != load8(p82 + 4));
-							}
+							uint64_t n103, n109, n115, n121;
 							uint64_t n94 = 0;
 							bool b95 = false;
 							while (n94 != 1) {
 								n94 = 1;
-								b95 = (int)b95 | (int)(32 != load8(p82 + 5));
+								b95 = (int)b95 | (int)(116 != load8(p84 + 4));
 							}
 							uint64_t n96 = 0;
 							bool b97 = false;
 							while (n96 != 1) {
 								n96 = 1;
-								b97 = (int)b97 | (int)(32 != load8(p82 + 5));
+								b97 = (int)b97 | (int)(32 != load8(p84 + 5));
 							}
-							if ((int)((int)b93 | (int)b95) | (int)b97)
+							uint64_t n98 = 0;
+							bool b99 = false;
+							while (n98 != 1) {
+								n98 = 1;
+								b99 = (int)b99 | (int)(32 != load8(p84 + 5));
+							}
+							if ((int)((int)b95 | (int)b97) | (int)b99)
 								goto L5;
-							uint64_t n98 = n83 - 6;
-							uint64_t n99 = 0;
-							uint64_t n100 = 0;
+							uint64_t n100 = n85 - 6;
+							uint64_t n101 = 0;
+							uint64_t n102 = 0;
 							for (;;) {
-								if (n99 == n98) {
-									n101 = n98;
+								if (n101 == n100) {
+									n103 = n100;
 									break;
 								}
-								uint8_t n102 = load8(at(p82 + 6, n99));
-								if ((uint8_t)(n102 - 48) >= 10) {
-									n101 = n99;
+								uint8_t n104 = load8(at(p84 + 6, n101));
+								if ((uint8_t)(n104 - 48) >= 10) {
+									n103 = n101;
 									break;
 								}
-								n99 = n99 + 1;
-								n100 = (n100 * 10) + (uint64_t)(uint8_t)(n102 & 15);
+								n101 = n101 + 1;
+								n102 = (n102 * 10) + (uint64_t)(uint8_t)(n104 & 15);
 							}
-							switch (n101) {
+							switch (n103) {
 							case 0: {
 								goto L6;
 							}
 							case 1: {
-								if (n100 > UINT64_C(1152921504606846975))
+								if (n102 > UINT64_C(1152921504606846975))
 									goto L6;
 								break;
 							}
 							default: {
-								if (((int)(load8(p82 + 6) == 48) | (int)(n101 > 19)) || (n100 > UINT64_C(1152921504606846975)))
+								if (((int)(load8(p84 + 6) == 48) | (int)(n103 > 19)) || (n102 > UINT64_C(1152921504606846975)))
 									goto L6;
 								break;
 							}
 							}
-							byte *p103 = at(p82 + 6, n101);
-							if (n98 == n101)
+							byte *p105 = at(p84 + 6, n103);
+							if (n100 == n103)
 								goto L6;
-							if (load8(p103) != 32)
+							if (load8(p105) != 32)
 								goto L6;
-							uint64_t n104 = n98 + (n101 ^ UINT64_MAX);
-							uint64_t n105 = 0;
-							uint64_t n106 = 0;
+							uint64_t n106 = n100 + (n103 ^ UINT64_MAX);
+							uint64_t n107 = 0;
+							uint64_t n108 = 0;
 							for (;;) {
-								if (n105 == n104) {
-									n107 = n104;
+								if (n107 == n106) {
+									n109 = n106;
 									break;
 								}
-								uint8_t n108 = load8(at(p103 + 1, n105));
-								if ((uint8_t)(n108 - 48) >= 10) {
-									n107 = n105;
+								uint8_t n110 = load8(at(p105 + 1, n107));
+								if ((uint8_t)(n110 - 48) >= 10) {
+									n109 = n107;
 									break;
 								}
-								n105 = n105 + 1;
-								n106 = (n106 * 10) + (uint64_t)(uint8_t)(n108 & 15);
+								n107 = n107 + 1;
+								n108 = (n108 * 10) + (uint64_t)(uint8_t)(n110 & 15);
 							}
-							switch (n107) {
+							switch (n109) {
 							case 0: {
 								goto L6;
 							}
 							case 1: {
-								if (n106 > UINT64_C(1152921504606846975))
+								if (n108 > UINT64_C(1152921504606846975))
 									goto L6;
 								break;
 							}
 							default: {
-								if (((int)(load8(p103 + 1) == 48) | (int)(n107 > 19)) || (n106 > UINT64_C(1152921504606846975)))
+								if (((int)(load8(p105 + 1) == 48) | (int)(n109 > 19)) || (n108 > UINT64_C(1152921504606846975)))
 									goto L6;
 								break;
 							}
 							}
-							byte *p109 = at(p103 + 1, n107);
-							if (n104 == n107)
+							byte *p111 = at(p105 + 1, n109);
+							if (n106 == n109)
 								goto L6;
-							if (load8(p109) != 32)
+							if (load8(p111) != 32)
 								goto L6;
-							uint64_t n110 = n104 + (n107 ^ UINT64_MAX);
-							uint64_t n111 = 0;
-							uint64_t n112 = 0;
+							uint64_t n112 = n106 + (n109 ^ UINT64_MAX);
+							uint64_t n113 = 0;
+							uint64_t n114 = 0;
 							for (;;) {
-								if (n111 == n110) {
-									n113 = n110;
+								if (n113 == n112) {
+									n115 = n112;
 									break;
 								}
-								uint8_t n114 = load8(at(p109 + 1, n111));
-								if ((uint8_t)(n114 - 48) >= 10) {
-									n113 = n111;
+								uint8_t n116 = load8(at(p111 + 1, n113));
+								if ((uint8_t)(n116 - 48) >= 10) {
+									n115 = n113;
 									break;
 								}
-								n111 = n111 + 1;
-								n112 = (n112 * 10) + (uint64_t)(uint8_t)(n114 & 15);
+								n113 = n113 + 1;
+								n114 = (n114 * 10) + (uint64_t)(uint8_t)(n116 & 15);
 							}
-							switch (n113) {
+							switch (n115) {
 							case 0: {
 								goto L6;
 							}
 							case 1: {
-								if (n112 > UINT64_C(1152921504606846975))
+								if (n114 > UINT64_C(1152921504606846975))
 									goto L6;
 								break;
 							}
 							default: {
-								if (((int)(load8(p109 + 1) == 48) | (int)(n113 > 19)) || (n112 > UINT64_C(1152921504606846975)))
+								if (((int)(load8(p111 + 1) == 48) | (int)(n115 > 19)) || (n114 > UINT64_C(1152921504606846975)))
 									goto L6;
 								break;
 							}
 							}
-							byte *p115 = at(p109 + 1, n113);
-							if (n110 == n113)
+							byte *p117 = at(p111 + 1, n115);
+							if (n112 == n115)
 								goto L6;
-							if (load8(p115) != 32)
+							if (load8(p117) != 32)
 								goto L6;
-							uint64_t n116 = n110 + (n113 ^ UINT64_MAX);
-							uint64_t n117 = 0;
-							uint64_t n118 = 0;
+							uint64_t n118 = n112 + (n115 ^ UINT64_MAX);
+							uint64_t n119 = 0;
+							uint64_t n120 = 0;
 							for (;;) {
-								if (n117 == n116) {
-									n119 = n116;
+								if (n119 == n118) {
+									n121 = n118;
 									break;
 								}
-								uint8_t n120 = load8(at(p115 + 1, n117));
-								if ((uint8_t)(n120 - 48) >= 10) {
-									n119 = n117;
+								uint8_t n122 = load8(at(p117 + 1, n119));
+								if ((uint8_t)(n122 - 48) >= 10) {
+									n121 = n119;
 									break;
 								}
-								n117 = n117 + 1;
-								n118 = (n118 * 10) + (uint64_t)(uint8_t)(n120 & 15);
+								n119 = n119 + 1;
+								n120 = (n120 * 10) + (uint64_t)(uint8_t)(n122 & 15);
 							}
-							switch (n119) {
+							switch (n121) {
 							case 0: {
 								goto L6;
 							}
 							case 1: {
-								if (n118 > UINT64_C(1152921504606846975))
+								if (n120 > UINT64_C(1152921504606846975))
 									goto L6;
 								break;
 							}
 							default: {
-								if (((int)(load8(p115 + 1) == 48) | (int)(n119 > 19)) || (n118 > UINT64_C(1152921504606846975)))
+								if (((int)(load8(p117 + 1) == 48) | (int)(n121 > 19)) || (n120 > UINT64_C(1152921504606846975)))
 									goto L6;
 								break;
 							}
 							}
-							byte *p121 = at(p115 + 1, n119);
-							if (n116 == n119)
+							byte *p123 = at(p117 + 1, n121);
+							if (n118 == n121)
 								goto L6;
-							if (load8(p121) != 10)
+							if (load8(p123) != 10)
 								goto L6;
-							p122 = p121 + 1;
-							n123 = n116 + (n119 ^ UINT64_MAX);
-							n124 = n100;
-							n125 = n106;
-							n126 = n112;
-							n127 = n118;
+							p124 = p123 + 1;
+							n125 = n118 + (n121 ^ UINT64_MAX);
+							n126 = n102;
+							n127 = n108;
+							n128 = n114;
+							n129 = n120;
 							goto L7;
 						}
 						case 1886352499: {
-							uint64_t n128 = 0;
-							bool b129 = false;
-							while (n128 != 1) {
-								n128 = 1;
-								b129 = (int)b129 | (int)(32 != load8(p82 + 4));
-							}
 							uint64_t n130 = 0;
 							bool b131 = false;
 							while (n130 != 1) {
 								n130 = 1;
-								b131 = (int)b131 | (int)(32 != load8(p82 + 4));
+								b131 = (int)b131 | (int)(32 != load8(p84 + 4));
 							}
 							uint64_t n132 = 0;
 							bool b133 = false;
 							while (n132 != 1) {
 								n132 = 1;
-								b133 = (int)b133 | (int)(32 != load8(p82 + 4));
+								b133 = (int)b133 | (int)(32 != load8(p84 + 4));
 							}
-							if ((int)((int)b129 | (int)b131) | (int)b133)
-								goto L5;
-							break;
-						}
-						case 1936682083: {
 							uint64_t n134 = 0;
 							bool b135 = false;
 							while (n134 != 1) {
 								n134 = 1;
-								b135 = (int)b135 | (int)(101 != load8(p82 + 4));
+								b135 = (int)b135 | (int)(32 != load8(p84 + 4));
 							}
+							if ((int)((int)b131 | (int)b133) | (int)b135)
+								goto L5;
+							break;
+						}
+						case 1936682083: {
 							uint64_t n136 = 0;
 							bool b137 = false;
 							while (n136 != 1) {
 								n136 = 1;
-								b137 = (int)b137 | (int)(10 != load8(p82 + 5));
+								b137 = (int)b137 | (int)(101 != load8(p84 + 4));
 							}
 							uint64_t n138 = 0;
 							bool b139 = false;
 							while (n138 != 1) {
 								n138 = 1;
-								b139 = (int)b139 | (int)(10 != load8(p82 + 5));
+								b139 = (int)b139 | (int)(10 != load8(p84 + 5));
 							}
-							if ((int)((int)b135 | (int)b137) | (int)b139)
+							uint64_t n140 = 0;
+							bool b141 = false;
+							while (n140 != 1) {
+								n140 = 1;
+								b141 = (int)b141 | (int)(10 != load8(p84 + 5));
+							}
+							if ((int)((int)b137 | (int)b139) | (int)b141)
 								goto L5;
-							p140 = p82 + 6;
-							n141 = n83 - 6;
+							p142 = p84 + 6;
+							n143 = n85 - 6;
 							goto L8;
 						}
 						default: {
@@ -53168,228 +53170,228 @@ L1:
 						}
 						}
 					}
-					n142 = n83 - 5;
-					n143 = 0;
-					n144 = 0;
+					n144 = n85 - 5;
+					n145 = 0;
+					n146 = 0;
 					for (;;) {
-						if (n143 == n142) {
-							n145 = n142;
+						if (n145 == n144) {
+							n147 = n144;
 							break;
 						}
-						uint8_t n146 = load8(at(p82 + 5, n143));
-						if ((uint8_t)(n146 - 48) >= 10) {
-							n145 = n143;
+						uint8_t n148 = load8(at(p84 + 5, n145));
+						if ((uint8_t)(n148 - 48) >= 10) {
+							n147 = n145;
 							break;
 						}
-						n143 = n143 + 1;
-						n144 = (n144 * 10) + (uint64_t)(uint8_t)(n146 & 15);
+						n145 = n145 + 1;
+						n146 = (n146 * 10) + (uint64_t)(uint8_t)(n148 & 15);
 					}
-					switch (n145) {
+					switch (n147) {
 					case 0: {
 						goto L6;
 					}
 					case 1: {
-						if (n144 > UINT64_C(1152921504606846975))
+						if (n146 > UINT64_C(1152921504606846975))
 							goto L6;
 						break;
 					}
 					default: {
-						if (((int)(load8(p82 + 5) == 48) | (int)(n145 > 19)) || (n144 > UINT64_C(1152921504606846975)))
+						if (((int)(load8(p84 + 5) == 48) | (int)(n147 > 19)) || (n146 > UINT64_C(1152921504606846975)))
 							goto L6;
 						break;
 					}
 					}
-					p147 = at(p82 + 5, n145);
-					if (n142 == n145)
+					p149 = at(p84 + 5, n147);
+					if (n144 == n147)
 						goto L6;
-					if (load8(p147) != 32)
+					if (load8(p149) != 32)
 						goto L6;
-					n148 = n142 + (n145 ^ UINT64_MAX);
-					n149 = 0;
-					n150 = 0;
+					n150 = n144 + (n147 ^ UINT64_MAX);
+					n151 = 0;
+					n152 = 0;
 					for (;;) {
-						if (n149 == n148) {
-							n151 = n148;
+						if (n151 == n150) {
+							n153 = n150;
 							break;
 						}
-						uint8_t n152 = load8(at(p147 + 1, n149));
-						if ((uint8_t)(n152 - 48) >= 10) {
-							n151 = n149;
+						uint8_t n154 = load8(at(p149 + 1, n151));
+						if ((uint8_t)(n154 - 48) >= 10) {
+							n153 = n151;
 							break;
 						}
-						n149 = n149 + 1;
-						n150 = (n150 * 10) + (uint64_t)(uint8_t)(n152 & 15);
+						n151 = n151 + 1;
+						n152 = (n152 * 10) + (uint64_t)(uint8_t)(n154 & 15);
 					}
-					switch (n151) {
+					switch (n153) {
 					case 0: {
 						goto L6;
 					}
 					case 1: {
-						if (n150 > UINT64_C(1152921504606846975))
+						if (n152 > UINT64_C(1152921504606846975))
 							goto L6;
 						break;
 					}
 					default: {
-						if (((int)(load8(p147 + 1) == 48) | (int)(n151 > 19)) || (n150 > UINT64_C(1152921504606846975)))
+						if (((int)(load8(p149 + 1) == 48) | (int)(n153 > 19)) || (n152 > UINT64_C(1152921504606846975)))
 							goto L6;
 						break;
 					}
 					}
-					p153 = at(p147 + 1, n151);
-					if (n148 == n151)
+					p155 = at(p149 + 1, n153);
+					if (n150 == n153)
 						goto L6;
-					if (load8(p153) != 32)
+					if (load8(p155) != 32)
 						goto L6;
-					n154 = n148 + (n151 ^ UINT64_MAX);
-					n155 = 0;
-					n156 = 0;
+					n156 = n150 + (n153 ^ UINT64_MAX);
+					n157 = 0;
+					n158 = 0;
 					for (;;) {
-						if (n155 == n154) {
-							n157 = n154;
+						if (n157 == n156) {
+							n159 = n156;
 							break;
 						}
-						uint8_t n158 = load8(at(p153 + 1, n155));
-						if ((uint8_t)(n158 - 48) >= 10) {
-							n157 = n155;
+						uint8_t n160 = load8(at(p155 + 1, n157));
+						if ((uint8_t)(n160 - 48) >= 10) {
+							n159 = n157;
 							break;
 						}
-						n155 = n155 + 1;
-						n156 = (n156 * 10) + (uint64_t)(uint8_t)(n158 & 15);
+						n157 = n157 + 1;
+						n158 = (n158 * 10) + (uint64_t)(uint8_t)(n160 & 15);
 					}
-					switch (n157) {
+					switch (n159) {
 					case 0: {
 						goto L6;
 					}
 					case 1: {
-						if (n156 > UINT64_C(1152921504606846975))
+						if (n158 > UINT64_C(1152921504606846975))
 							goto L6;
 						break;
 					}
 					default: {
-						if (((int)(load8(p153 + 1) == 48) | (int)(n157 > 19)) || (n156 > UINT64_C(1152921504606846975)))
+						if (((int)(load8(p155 + 1) == 48) | (int)(n159 > 19)) || (n158 > UINT64_C(1152921504606846975)))
 							goto L6;
 						break;
 					}
 					}
-					p159 = at(p153 + 1, n157);
-					if (n154 == n157)
+					p161 = at(p155 + 1, n159);
+					if (n156 == n159)
 						goto L6;
-					if (load8(p159) != 10)
+					if (load8(p161) != 10)
 						goto L6;
-					p160 = p159 + 1;
-					n161 = n154 + (n157 ^ UINT64_MAX);
-					n162 = n144;
-					n163 = n150;
-					n164 = n156;
+					p162 = p161 + 1;
+					n163 = n156 + (n159 ^ UINT64_MAX);
+					n164 = n146;
+					n165 = n152;
+					n166 = n158;
 					goto L9;
 L5:
 					{
-						uint8_t n172;
-						uint64_t n173, n174, n175, n176, n177, n178, n180, n181, n183;
-						byte *p179;
-						bool b182, b184;
-						memset(p45, 0, 72);
-						uint32_t n165 = ((((uint32_t)load8(p82 + 3) << 24) | ((uint32_t)load8(p82 + 2) << 16)) | ((uint32_t)load8(p82 + 1) << 8)) | (uint32_t)load8(p82);
-						if (n165 == 1801677172) {
-							if (n83 == 4)
+						uint8_t n174;
+						uint64_t n175, n176, n177, n178, n179, n180, n182, n183, n185;
+						byte *p181;
+						bool b184, b186;
+						memset(p48, 0, 72);
+						uint32_t n167 = ((((uint32_t)load8(p84 + 3) << 24) | ((uint32_t)load8(p84 + 2) << 16)) | ((uint32_t)load8(p84 + 1) << 8)) | (uint32_t)load8(p84);
+						if (n167 == 1801677172) {
+							if (n85 == 4)
 								goto L4;
-							uint64_t n166 = 0;
-							bool b167 = false;
-							while (n166 != 1) {
-								n166 = 1;
-								b167 = (int)b167 | (int)(32 != load8(p82 + 4));
-							}
 							uint64_t n168 = 0;
 							bool b169 = false;
 							while (n168 != 1) {
 								n168 = 1;
-								b169 = (int)b169 | (int)(32 != load8(p82 + 4));
+								b169 = (int)b169 | (int)(32 != load8(p84 + 4));
 							}
 							uint64_t n170 = 0;
 							bool b171 = false;
 							while (n170 != 1) {
 								n170 = 1;
-								b171 = (int)b171 | (int)(32 != load8(p82 + 4));
+								b171 = (int)b171 | (int)(32 != load8(p84 + 4));
 							}
-							if (!((int)((int)b167 | (int)b169) | (int)b171)) {
-								tp_lines_read_tick(p45, p82 + 5, n83 - 5);
-								n172 = load8(p45);
-								n173 = load64u(p45 + 8);
-								n174 = load64u(p45 + 16);
-								n175 = load64u(p45 + 24);
-								n176 = load64u(p45 + 32);
-								n177 = load64u(p45 + 40);
-								n178 = load64u(p45 + 48);
-								p179 = loadptru(p45 + 56);
-								n180 = load64u(p45 + 64);
+							uint64_t n172 = 0;
+							bool b173 = false;
+							while (n172 != 1) {
+								n172 = 1;
+								b173 = (int)b173 | (int)(32 != load8(p84 + 4));
+							}
+							if (!((int)((int)b169 | (int)b171) | (int)b173)) {
+								tp_lines_read_tick(p48, p84 + 5, n85 - 5);
+								n174 = load8(p48);
+								n175 = load64u(p48 + 8);
+								n176 = load64u(p48 + 16);
+								n177 = load64u(p48 + 24);
+								n178 = load64u(p48 + 32);
+								n179 = load64u(p48 + 40);
+								n180 = load64u(p48 + 48);
+								p181 = loadptru(p48 + 56);
+								n182 = load64u(p48 + 64);
 								goto L10;
 							}
 						}
-						if (!((int)(n83 > 7) & (int)(n165 == 1953719666)))
+						if (!((int)(n85 > 7) & (int)(n167 == 1953719666)))
 							goto L4;
-						n181 = 0;
-						b182 = false;
-						while (n181 != 4) {
-							b182 = (int)b182 | (int)(load8(at((byte *)tp_static_220 + 4, n181)) != load8(at(p82 + 4, n181)));
-							n181 = n181 + 1;
-						}
 						n183 = 0;
 						b184 = false;
 						while (n183 != 4) {
-							b184 = (int)b184 | (int)(load8(at((byte *)tp_static_220 + 4, n183)) != load8(at(p82 + 4, n183)));
+							b184 = (int)b184 | (int)(load8(at((byte *)tp_static_220 + 4, n183)) != load8(at(p84 + 4, n183)));
 							n183 = n183 + 1;
 						}
-						if ((int)b182 | (int)b184)
+						n185 = 0;
+						b186 = false;
+						while (n185 != 4) {
+							b186 = (int)b186 | (int)(load8(at((byte *)tp_static_220 + 4, n185)) != load8(at(p84 + 4, n185)));
+							n185 = n185 + 1;
+						}
+						if ((int)b184 | (int)b186)
 							goto L4;
-						tp_lines_read_restart(p45, p82 + 8, n83 - 8);
-						n172 = load8(p45);
-						n173 = load64u(p45 + 8);
-						n174 = load64u(p45 + 16);
-						n175 = load64u(p45 + 24);
-						n176 = load64u(p45 + 32);
-						n177 = load64u(p45 + 40);
-						n178 = load64u(p45 + 48);
-						p179 = loadptru(p45 + 56);
-						n180 = load64u(p45 + 64);
+						tp_lines_read_restart(p48, p84 + 8, n85 - 8);
+						n174 = load8(p48);
+						n175 = load64u(p48 + 8);
+						n176 = load64u(p48 + 16);
+						n177 = load64u(p48 + 24);
+						n178 = load64u(p48 + 32);
+						n179 = load64u(p48 + 40);
+						n180 = load64u(p48 + 48);
+						p181 = loadptru(p48 + 56);
+						n182 = load64u(p48 + 64);
 L10:
 						{
-							if (n172 != 1)
+							if (n174 != 1)
 								goto L6;
-							switch (MOSTLY_0((uint8_t)n173)) {
+							switch (MOSTLY_0((uint8_t)n175)) {
 							case 0: {
-								p122 = p179;
-								n123 = n180;
-								n124 = n174;
-								n125 = n175;
+								p124 = p181;
+								n125 = n182;
 								n126 = n176;
 								n127 = n177;
+								n128 = n178;
+								n129 = n179;
 								goto L7;
 							}
 							case 1: {
-								p160 = p179;
-								n161 = n180;
-								n162 = n174;
-								n163 = n175;
+								p162 = p181;
+								n163 = n182;
 								n164 = n176;
+								n165 = n177;
+								n166 = n178;
 								goto L9;
 							}
 							case 2: {
-								uint8_t n185 = tp_timer_script_script_run_answer_restart_3(p47, n174, n175, n176, n177, n178, p48);
-								p186 = p179;
-								n187 = n180;
-								n188 = n185;
+								uint8_t n187 = tp_timer_script_script_run_answer_restart_3(p50, n176, n177, n178, n179, n180, p51);
+								p188 = p181;
+								n189 = n182;
+								n190 = n187;
 								goto L11;
 							}
 							case 3: {
-								uint8_t n189 = tp_timer_script_script_run_answer_ticks_3(p47, n174, p46, p48);
-								p186 = p179;
-								n187 = n180;
-								n188 = n189;
+								uint8_t n191 = tp_timer_script_script_run_answer_ticks_3(p50, n176, p49, p51);
+								p188 = p181;
+								n189 = n182;
+								n190 = n191;
 								goto L11;
 							}
 							case 4: {
-								p140 = p179;
-								n141 = n180;
+								p142 = p181;
+								n143 = n182;
 								break;
 							}
 							default: {
@@ -53400,1127 +53402,1127 @@ L10:
 					}
 L8:
 					{
-						uint8_t n190 = tp_timer_script_script_run_answer_close_3(p47, p46, p48);
-						p186 = p140;
-						n187 = n141;
-						n188 = n190;
+						uint8_t n192 = tp_timer_script_script_run_answer_close_3(p50, p49, p51);
+						p188 = p142;
+						n189 = n143;
+						n190 = n192;
 						goto L11;
 					}
 L9:
 					{
-						uint8_t n191 = tp_timer_script_script_run_answer_stop_3(p47, n162, n163, n164, p48);
-						p186 = p160;
-						n187 = n161;
-						n188 = n191;
+						uint8_t n193 = tp_timer_script_script_run_answer_stop_3(p50, n164, n165, n166, p51);
+						p188 = p162;
+						n189 = n163;
+						n190 = n193;
 						goto L11;
 					}
 L7:
 					{
-						uint8_t n192 = tp_timer_script_script_run_answer_start_3(p47, n124, n125, n126, n127, p48);
-						p186 = p122;
-						n187 = n123;
-						n188 = n192;
+						uint8_t n194 = tp_timer_script_script_run_answer_start_3(p50, n126, n127, n128, n129, p51);
+						p188 = p124;
+						n189 = n125;
+						n190 = n194;
 					}
 L11:
 					{
-						if ((n188 & 1) != 0)
+						if ((n190 & 1) != 0)
 							break;
-						n81 = n81 + 1;
-						p82 = p186;
-						n83 = n187;
+						n83 = n83 + 1;
+						p84 = p188;
+						n85 = n189;
 					}
 				}
-				if (load64u(p46 + 16) == 0) {
-					b193 = true;
-					n194 = 0;
+				if (load64u(p49 + 16) == 0) {
+					b195 = true;
+					n196 = 0;
 					goto L12;
 				}
-				rattle_dealloc(loadptru(p46));
-				b193 = true;
-				n194 = 0;
+				rattle_dealloc(loadptru(p49));
+				b195 = true;
+				n196 = 0;
 				goto L12;
 L4: ;
 L6:
 				{
-					uint64_t n195 = n81 + 1;
-					if (load64u(p46 + 16) == 0) {
-						b193 = false;
-						n194 = n195;
+					uint64_t n197 = n83 + 1;
+					if (load64u(p49 + 16) == 0) {
+						b195 = false;
+						n196 = n197;
 					} else {
-						rattle_dealloc(loadptru(p46));
-						b193 = false;
-						n194 = n195;
+						rattle_dealloc(loadptru(p49));
+						b195 = false;
+						n196 = n197;
 					}
 				}
 L12:
 				{
-					if (load64u(p48 + 16) != 0)
-						rattle_dealloc(loadptru(p48));
-					byte *p196 = loadptru(p47 + 1112);
-					uint64_t n197 = load64u(p47 + 1128);
-					if (load64u(p47 + 32) != 0)
-						rattle_dealloc(loadptru(p47 + 16));
-					if (n197 != 0)
-						rattle_dealloc(p196);
-					if (load64u(p47 + 1160) != 0)
-						rattle_dealloc(loadptru(p47 + 1144));
-					if (b193)
+					if (load64u(p51 + 16) != 0)
+						rattle_dealloc(loadptru(p51));
+					byte *p198 = loadptru(p50 + 1112);
+					uint64_t n199 = load64u(p50 + 1128);
+					if (load64u(p50 + 32) != 0)
+						rattle_dealloc(loadptru(p50 + 16));
+					if (n199 != 0)
+						rattle_dealloc(p198);
+					if (load64u(p50 + 1160) != 0)
+						rattle_dealloc(loadptru(p50 + 1144));
+					if (b195)
 						goto L13;
-					n198 = 2;
-					n199 = n194;
+					n200 = 2;
+					n201 = n196;
 					goto L14;
 				}
 L3:
 				{
-					if (load64u(p46 + 16) != 0)
-						rattle_dealloc(loadptru(p46));
-					uint8_t n200 = tp_text_push_end(p48, load64(p47), load64(p47 + 24) - load64(p47 + 40));
-					if ((n200 & 1) == 0) {
-						uint64_t n203 = load64u(p48);
-						uint64_t n204 = load64u(p48 + 8);
-						uint64_t n205 = load64u(p48 + 16);
-						byte *p206 = loadptru(p47 + 1112);
-						uint64_t n207 = load64u(p47 + 1128);
-						if (load64u(p47 + 32) != 0)
-							rattle_dealloc(loadptru(p47 + 16));
-						if (n207 != 0)
-							rattle_dealloc(p206);
-						if (load64u(p47 + 1160) != 0)
-							rattle_dealloc(loadptru(p47 + 1144));
-						byte *p208 = (byte *)(uintptr_t)n203;
-						uint64_t n209 = 0;
-						while (n209 < n204) {
-							uint64_t n210 = n204 - n209;
-							uint64_t n211 = os_write(1, at(p208, n209), n210);
-							if ((int64_t)n211 < (int64_t)0) {
-								tp_error_last_error(p44);
+					if (load64u(p49 + 16) != 0)
+						rattle_dealloc(loadptru(p49));
+					uint8_t n202 = tp_text_push_end(p51, load64(p50), load64(p50 + 24) - load64(p50 + 40));
+					if ((n202 & 1) == 0) {
+						uint64_t n205 = load64u(p51);
+						uint64_t n206 = load64u(p51 + 8);
+						uint64_t n207 = load64u(p51 + 16);
+						byte *p208 = loadptru(p50 + 1112);
+						uint64_t n209 = load64u(p50 + 1128);
+						if (load64u(p50 + 32) != 0)
+							rattle_dealloc(loadptru(p50 + 16));
+						if (n209 != 0)
+							rattle_dealloc(p208);
+						if (load64u(p50 + 1160) != 0)
+							rattle_dealloc(loadptru(p50 + 1144));
+						byte *p210 = (byte *)(uintptr_t)n205;
+						uint64_t n211 = 0;
+						while (n211 < n206) {
+							uint64_t n212 = n206 - n211;
+							uint64_t n213 = os_write(1, at(p210, n211), n212);
+							if ((int64_t)n213 < (int64_t)0) {
+								tp_error_last_error(p47);
 								goto L15;
 							}
-							uint64_t n212 = umin64(n211, n210);
-							if (n212 == 0)
+							uint64_t n214 = umin64(n213, n212);
+							if (n214 == 0)
 								goto L15;
-							n209 = n209 + n212;
+							n211 = n211 + n214;
 						}
-						if (n205 != 0)
-							rattle_dealloc(p208);
-						if (!b74)
-							rattle_dealloc(p72);
+						if (n207 != 0)
+							rattle_dealloc(p210);
+						if (!b76)
+							rattle_dealloc(p74);
 						return 0;
 L15:
 						{
 							store8(p3 + 1, 1);
-							if (n205 != 0)
-								rattle_dealloc(p208);
-							if (b74) {
-								n213 = 4;
-								n214 = n209;
+							if (n207 != 0)
+								rattle_dealloc(p210);
+							if (b76) {
+								n215 = 4;
+								n216 = n211;
 								goto L16;
 							}
-							rattle_dealloc(p72);
-							n213 = 4;
-							n214 = n209;
+							rattle_dealloc(p74);
+							n215 = 4;
+							n216 = n211;
 							goto L16;
 						}
 					}
-					if (load64u(p48 + 16) != 0)
-						rattle_dealloc(loadptru(p48));
-					byte *p201 = loadptru(p47 + 1112);
-					uint64_t n202 = load64u(p47 + 1128);
-					if (load64u(p47 + 32) != 0)
-						rattle_dealloc(loadptru(p47 + 16));
-					if (n202 != 0)
-						rattle_dealloc(p201);
-					if (load64u(p47 + 1160) != 0)
-						rattle_dealloc(loadptru(p47 + 1144));
+					if (load64u(p51 + 16) != 0)
+						rattle_dealloc(loadptru(p51));
+					byte *p203 = loadptru(p50 + 1112);
+					uint64_t n204 = load64u(p50 + 1128);
+					if (load64u(p50 + 32) != 0)
+						rattle_dealloc(loadptru(p50 + 16));
+					if (n204 != 0)
+						rattle_dealloc(p203);
+					if (load64u(p50 + 1160) != 0)
+						rattle_dealloc(loadptru(p50 + 1144));
 				}
 			}
 L2: ;
 L13:
 			{
-				n198 = 3;
-				n199 = 0;
+				n200 = 3;
+				n201 = 0;
 			}
 L14:
 			{
-				if (b74) {
-					n213 = n198;
-					n214 = n199;
+				if (b76) {
+					n215 = n200;
+					n216 = n201;
 				} else {
-					rattle_dealloc(p72);
-					n213 = n198;
-					n214 = n199;
+					rattle_dealloc(p74);
+					n215 = n200;
+					n216 = n201;
 				}
 			}
 		} else {
-			uint8_t n215;
-			switch (MOSTLY_0(load8(p51 + 1))) {
+			uint8_t n217;
+			switch (MOSTLY_0(load8(p55 + 1))) {
 			case 0: {
-				n215 = 0;
+				n217 = 0;
 				break;
 			}
 			case 1: {
-				n215 = 1;
+				n217 = 1;
 				break;
 			}
 			case 2: {
-				n215 = 3;
+				n217 = 3;
 				break;
 			}
 			default: {
 				UNREACHABLE();
 			}
 			}
-			if (n67 != 0)
-				rattle_dealloc(p65);
-			if (n70 == 0) {
-				n213 = n215;
-				n214 = 0;
+			if (n69 != 0)
+				rattle_dealloc(p67);
+			if (n72 == 0) {
+				n215 = n217;
+				n216 = 0;
 			} else {
-				rattle_dealloc(p68);
-				n213 = n215;
-				n214 = 0;
+				rattle_dealloc(p70);
+				n215 = n217;
+				n216 = 0;
 			}
 		}
 L16:
 		{
-			tp_timer_commands_error_report_report(n213, n214, p4);
+			tp_timer_commands_error_report_report(n215, n216, p4);
 			return 1;
 		}
 	}
 	case 1: {
-		uint8_t n298, n349;
-		uint64_t n299, n348;
+		uint8_t n300, n351;
+		uint64_t n301, n350;
 		if ((load8(p1 + 2) & 1) != 0) {
-			uint8_t n217, n284;
-			uint64_t n218, n283;
-			memcpy(p38, p2 + 40, 16);
-			memcpy(p39, p2 + 56, 1056);
-			memset(p40, 0, 24);
-			memset(p41, 0, 1216);
-			memset(p42, 0, 96);
+			uint8_t n219, n286;
+			uint64_t n220, n285;
+			memcpy(p40, p2, 16);
+			memcpy(p41, p2 + 40, 16);
+			memcpy(p42, p2 + 56, 1056);
 			memset(p43, 0, 24);
-			of_i64_i64 s216 = rattle_alloc(16384, 1);
-			if ((s216.f0 & 1) == 0) {
-				if (n67 != 0)
-					rattle_dealloc(p65);
-				if (n70 == 0) {
-					n217 = 2;
-					n218 = 0;
+			memset(p44, 0, 1216);
+			memset(p45, 0, 96);
+			memset(p46, 0, 24);
+			of_i64_i64 s218 = rattle_alloc(16384, 1);
+			if ((s218.f0 & 1) == 0) {
+				if (n69 != 0)
+					rattle_dealloc(p67);
+				if (n72 == 0) {
+					n219 = 2;
+					n220 = 0;
 				} else {
-					rattle_dealloc(p68);
-					n217 = 2;
-					n218 = 0;
+					rattle_dealloc(p70);
+					n219 = 2;
+					n220 = 0;
 				}
 			} else {
-				uint64_t n224, n235, n236, n255, n257;
-				uint8_t n252;
-				byte *p254, *p256;
-				byte *p219 = (byte *)(uintptr_t)s216.f1;
-				uint64_t n220 = 0;
-				while (n220 != 16383) {
-					store8(inside(p219, n220), 0);
-					n220 = n220 + 1;
+				uint64_t n226, n237, n238, n257, n259;
+				uint8_t n254;
+				byte *p256, *p258;
+				byte *p221 = (byte *)(uintptr_t)s218.f1;
+				uint64_t n222 = 0;
+				while (n222 != 16383) {
+					store8(inside(p221, n222), 0);
+					n222 = n222 + 1;
 				}
-				store8(p219 + 16383, 0);
-				storeptru(p40, p5);
-				memset(p40 + 8, 0, 16);
-				store64u(p41, n63);
-				store64u(p41 + 8, n64);
-				storeptru(p41 + 16, p65);
-				store64u(p41 + 24, n66);
-				store64u(p41 + 32, n67);
-				memcpy(p41 + 40, p38, 16);
-				memcpy(p41 + 56, p39, 1056);
-				storeptru(p41 + 1112, p68);
-				store64u(p41 + 1120, n69);
-				store64u(p41 + 1128, n70);
-				store64u(p41 + 1136, n71);
-				storeptru(p41 + 1144, p5);
-				memset(p41 + 1152, 0, 16);
-				storeptru(p41 + 1168, p5);
-				memset(p41 + 1176, 0, 16);
-				storeptru(p41 + 1192, p5);
-				memset(p41 + 1200, 0, 16);
-				store8(p42, n52);
-				memset(p42 + 1, 0, 7);
-				storeptru(p42 + 8, p5);
-				memset(p42 + 16, 0, 16);
-				storeptru(p42 + 32, p5);
-				memset(p42 + 40, 0, 16);
-				storeptru(p42 + 56, p5);
-				memset(p42 + 64, 0, 16);
-				store64u(p42 + 80, 1);
-				store8(p42 + 88, 1);
-				memset(p42 + 89, 0, 7);
-				uint64_t n221 = 0;
+				store8(p221 + 16383, 0);
+				storeptru(p43, p5);
+				memset(p43 + 8, 0, 16);
+				memcpy(p44, p40, 16);
+				storeptru(p44 + 16, p67);
+				store64u(p44 + 24, n68);
+				store64u(p44 + 32, n69);
+				memcpy(p44 + 40, p41, 16);
+				memcpy(p44 + 56, p42, 1056);
+				storeptru(p44 + 1112, p70);
+				store64u(p44 + 1120, n71);
+				store64u(p44 + 1128, n72);
+				store64u(p44 + 1136, n73);
+				storeptru(p44 + 1144, p5);
+				memset(p44 + 1152, 0, 16);
+				storeptru(p44 + 1168, p5);
+				memset(p44 + 1176, 0, 16);
+				storeptru(p44 + 1192, p5);
+				memset(p44 + 1200, 0, 16);
+				store8(p45, n56);
+				memset(p45 + 1, 0, 7);
+				storeptru(p45 + 8, p5);
+				memset(p45 + 16, 0, 16);
+				storeptru(p45 + 32, p5);
+				memset(p45 + 40, 0, 16);
+				storeptru(p45 + 56, p5);
+				memset(p45 + 64, 0, 16);
+				store64u(p45 + 80, 1);
+				store8(p45 + 88, 1);
+				memset(p45 + 89, 0, 7);
+				uint64_t n223 = 0;
 				for (;;) {
-					if (n221 == UINT64_MAX)
+					if (n223 == UINT64_MAX)
 						goto L17;
-					uint64_t n222 = os_read(0, p219, 16384);
-					if ((int64_t)n222 < (int64_t)0)
+					uint64_t n224 = os_read(0, p221, 16384);
+					if ((int64_t)n224 < (int64_t)0)
 						goto L18;
-					tp_Cutter_take_in(p43, p42, p219, umin64(n222, 16384), p4);
-					if (load8(p43) != 0)
+					tp_Cutter_take_in(p46, p45, p221, umin64(n224, 16384), p4);
+					if (load8(p46) != 0)
 						break;
-					uint8_t n223 = load8(p43 + 8);
-					n224 = load64u(p43 + 16);
-					byte *p225 = loadptr(p42 + 8);
-					uint64_t n226 = load64(p42 + 16);
-					if (load64(p40 + 8) != 0)
-						store64(p40 + 8, 0);
-					uint64_t n227 = 0;
-					while (n227 != n226) {
-						byte *p228 = at(p225, n227 * 48);
-						uint64_t n229 = load64u(p228 + 8);
-						uint64_t n230 = load64u(p228 + 16);
-						uint64_t n231 = load64u(p228 + 24);
-						uint64_t n232 = load64u(p228 + 32);
-						uint64_t n233 = load64u(p228 + 40);
-						store64u(p36, (uint64_t)load8(p228));
-						store64(p36 + 8, n229);
-						store64(p36 + 16, n230);
-						store64(p36 + 24, n231);
-						store64(p36 + 32, n232);
-						store64(p36 + 40, n233);
-						uint8_t n234 = tp_timer_script_session_Session_play_one_2(p41, p36, p40);
-						if ((n234 & 1) != 0) {
-							n235 = load64(p40 + 8);
+					uint8_t n225 = load8(p46 + 8);
+					n226 = load64u(p46 + 16);
+					byte *p227 = loadptr(p45 + 8);
+					uint64_t n228 = load64(p45 + 16);
+					if (load64(p43 + 8) != 0)
+						store64(p43 + 8, 0);
+					uint64_t n229 = 0;
+					while (n229 != n228) {
+						byte *p230 = at(p227, n229 * 48);
+						uint64_t n231 = load64u(p230 + 8);
+						uint64_t n232 = load64u(p230 + 16);
+						uint64_t n233 = load64u(p230 + 24);
+						uint64_t n234 = load64u(p230 + 32);
+						uint64_t n235 = load64u(p230 + 40);
+						store64u(p38, (uint64_t)load8(p230));
+						store64(p38 + 8, n231);
+						store64(p38 + 16, n232);
+						store64(p38 + 24, n233);
+						store64(p38 + 32, n234);
+						store64(p38 + 40, n235);
+						uint8_t n236 = tp_timer_script_session_Session_play_one_2(p44, p38, p43);
+						if ((n236 & 1) != 0) {
+							n237 = load64(p43 + 8);
 							goto L19;
 						}
-						n236 = load64(p40 + 8);
-						byte *p237 = loadptr(p41 + 16);
-						uint64_t n238 = load64(p41 + 24);
-						uint64_t n239 = load64(p41);
-						uint64_t n240 = 0;
-						uint64_t n241 = 0;
-						uint8_t n242 = 0;
-						while (n240 != n238) {
-							uint64_t n244;
-							uint8_t n245;
-							uint64_t n243 = load64(at(p237, n240 * 40) + 24);
-							if (n239 < n243) {
-								if (n242 == 1) {
-									n244 = umin64(n243, n241);
-									n245 = 1;
+						n238 = load64(p43 + 8);
+						byte *p239 = loadptr(p44 + 16);
+						uint64_t n240 = load64(p44 + 24);
+						uint64_t n241 = load64(p44);
+						uint64_t n242 = 0;
+						uint64_t n243 = 0;
+						uint8_t n244 = 0;
+						while (n242 != n240) {
+							uint64_t n246;
+							uint8_t n247;
+							uint64_t n245 = load64(at(p239, n242 * 40) + 24);
+							if (n241 < n245) {
+								if (n244 == 1) {
+									n246 = umin64(n245, n243);
+									n247 = 1;
 								} else {
-									n244 = n243;
-									n245 = 1;
+									n246 = n245;
+									n247 = 1;
 								}
 							} else {
-								n244 = n241;
-								n245 = n242;
+								n246 = n243;
+								n247 = n244;
 							}
-							n240 = n240 + 1;
-							n241 = n244;
-							n242 = n245;
+							n242 = n242 + 1;
+							n243 = n246;
+							n244 = n247;
 						}
-						uint8_t n246 = tp_render_push_wakeup(p40, n242, n241);
-						if ((n246 & 1) != 0)
+						uint8_t n248 = tp_render_push_wakeup(p43, n244, n243);
+						if ((n248 & 1) != 0)
 							goto L20;
-						byte *p247 = loadptr(p40);
-						uint64_t n248 = load64(p40 + 8);
-						uint64_t n249 = 0;
-						while (n249 < n248) {
-							uint64_t n250 = n248 - n249;
-							uint64_t n251 = os_write(1, at(p247, n249), n250);
-							if ((int64_t)n251 < (int64_t)0) {
-								tp_error_last_error(p34);
+						byte *p249 = loadptr(p43);
+						uint64_t n250 = load64(p43 + 8);
+						uint64_t n251 = 0;
+						while (n251 < n250) {
+							uint64_t n252 = n250 - n251;
+							uint64_t n253 = os_write(1, at(p249, n251), n252);
+							if ((int64_t)n253 < (int64_t)0) {
+								tp_error_last_error(p36);
 								store8(p3 + 1, 1);
-								n252 = 3;
+								n254 = 3;
 								goto L21;
 							}
-							uint64_t n253 = umin64(n251, n250);
-							if (n253 == 0) {
+							uint64_t n255 = umin64(n253, n252);
+							if (n255 == 0) {
 								store8(p3 + 1, 1);
-								n252 = 3;
+								n254 = 3;
 								goto L21;
 							}
-							n249 = n249 + n253;
+							n251 = n251 + n255;
 						}
-						if (load64(p40 + 8) != 0)
-							store64(p40 + 8, 0);
-						n227 = n227 + 1;
+						if (load64(p43 + 8) != 0)
+							store64(p43 + 8, 0);
+						n229 = n229 + 1;
 					}
-					if (n223 == 1)
+					if (n225 == 1)
 						goto L22;
-					if (n222 == 0)
+					if (n224 == 0)
 						goto L23;
-					n221 = n221 + 1;
+					n223 = n223 + 1;
 				}
-				if (load64u(p42 + 24) != 0)
-					rattle_dealloc(loadptru(p42 + 8));
-				if (load64u(p42 + 48) != 0)
-					rattle_dealloc(loadptru(p42 + 32));
-				if (load64u(p42 + 72) != 0)
-					rattle_dealloc(loadptru(p42 + 56));
-				p254 = loadptru(p41 + 1112);
-				n255 = load64u(p41 + 1128);
-				p256 = loadptru(p41 + 1144);
-				n257 = load64u(p41 + 1160);
-				if (load64u(p41 + 32) != 0)
-					rattle_dealloc(loadptru(p41 + 16));
-				if (n255 != 0)
-					rattle_dealloc(p254);
+				if (load64u(p45 + 24) != 0)
+					rattle_dealloc(loadptru(p45 + 8));
+				if (load64u(p45 + 48) != 0)
+					rattle_dealloc(loadptru(p45 + 32));
+				if (load64u(p45 + 72) != 0)
+					rattle_dealloc(loadptru(p45 + 56));
+				p256 = loadptru(p44 + 1112);
+				n257 = load64u(p44 + 1128);
+				p258 = loadptru(p44 + 1144);
+				n259 = load64u(p44 + 1160);
+				if (load64u(p44 + 32) != 0)
+					rattle_dealloc(loadptru(p44 + 16));
 				if (n257 != 0)
 					rattle_dealloc(p256);
-				if (load64u(p41 + 1184) != 0)
-					rattle_dealloc(loadptru(p41 + 1168));
-				if (load64u(p41 + 1208) != 0)
-					rattle_dealloc(loadptru(p41 + 1192));
-				if (load64u(p40 + 16) != 0)
-					rattle_dealloc(loadptru(p40));
-				rattle_dealloc(p219);
-				n217 = 2;
-				n218 = 0;
+				if (n259 != 0)
+					rattle_dealloc(p258);
+				if (load64u(p44 + 1184) != 0)
+					rattle_dealloc(loadptru(p44 + 1168));
+				if (load64u(p44 + 1208) != 0)
+					rattle_dealloc(loadptru(p44 + 1192));
+				if (load64u(p43 + 16) != 0)
+					rattle_dealloc(loadptru(p43));
+				rattle_dealloc(p221);
+				n219 = 2;
+				n220 = 0;
 				goto L24;
 L20:
 				{
-					uint64_t n258 = load64(p40 + 8);
-					if (n258 > n236) {
-						store64(p40 + 8, n236);
-						n235 = n236;
+					uint64_t n260 = load64(p43 + 8);
+					if (n260 > n238) {
+						store64(p43 + 8, n238);
+						n237 = n238;
 					} else {
-						n235 = n258;
+						n237 = n260;
 					}
 				}
 L19:
 				{
-					byte *p259 = loadptr(p40);
-					uint64_t n260 = 0;
+					byte *p261 = loadptr(p43);
+					uint64_t n262 = 0;
 					for (;;) {
-						if (n260 >= n235) {
-							n252 = 2;
+						if (n262 >= n237) {
+							n254 = 2;
 							break;
 						}
-						uint64_t n261 = n235 - n260;
-						uint64_t n262 = os_write(1, at(p259, n260), n261);
-						if ((int64_t)n262 < (int64_t)0) {
-							tp_error_last_error(p35);
+						uint64_t n263 = n237 - n262;
+						uint64_t n264 = os_write(1, at(p261, n262), n263);
+						if ((int64_t)n264 < (int64_t)0) {
+							tp_error_last_error(p37);
 							store8(p3 + 1, 1);
-							n252 = 3;
+							n254 = 3;
 							break;
 						}
-						uint64_t n263 = umin64(n262, n261);
-						if (n263 == 0) {
+						uint64_t n265 = umin64(n264, n263);
+						if (n265 == 0) {
 							store8(p3 + 1, 1);
-							n252 = 3;
+							n254 = 3;
 							break;
 						}
-						n260 = n260 + n263;
+						n262 = n262 + n265;
 					}
 				}
 L21:
 				{
-					if (load64u(p42 + 24) != 0)
-						rattle_dealloc(loadptru(p42 + 8));
-					if (load64u(p42 + 48) != 0)
-						rattle_dealloc(loadptru(p42 + 32));
-					if (load64u(p42 + 72) != 0)
-						rattle_dealloc(loadptru(p42 + 56));
-					byte *p264 = loadptru(p41 + 1112);
-					uint64_t n265 = load64u(p41 + 1128);
-					byte *p266 = loadptru(p41 + 1144);
-					uint64_t n267 = load64u(p41 + 1160);
-					if (load64u(p41 + 32) != 0)
-						rattle_dealloc(loadptru(p41 + 16));
-					if (n265 != 0)
-						rattle_dealloc(p264);
+					if (load64u(p45 + 24) != 0)
+						rattle_dealloc(loadptru(p45 + 8));
+					if (load64u(p45 + 48) != 0)
+						rattle_dealloc(loadptru(p45 + 32));
+					if (load64u(p45 + 72) != 0)
+						rattle_dealloc(loadptru(p45 + 56));
+					byte *p266 = loadptru(p44 + 1112);
+					uint64_t n267 = load64u(p44 + 1128);
+					byte *p268 = loadptru(p44 + 1144);
+					uint64_t n269 = load64u(p44 + 1160);
+					if (load64u(p44 + 32) != 0)
+						rattle_dealloc(loadptru(p44 + 16));
 					if (n267 != 0)
 						rattle_dealloc(p266);
-					if (load64u(p41 + 1184) != 0)
-						rattle_dealloc(loadptru(p41 + 1168));
-					if (load64u(p41 + 1208) != 0)
-						rattle_dealloc(loadptru(p41 + 1192));
-					if (load64u(p40 + 16) != 0)
-						rattle_dealloc(loadptru(p40));
-					rattle_dealloc(p219);
-					n217 = n252;
-					n218 = 0;
+					if (n269 != 0)
+						rattle_dealloc(p268);
+					if (load64u(p44 + 1184) != 0)
+						rattle_dealloc(loadptru(p44 + 1168));
+					if (load64u(p44 + 1208) != 0)
+						rattle_dealloc(loadptru(p44 + 1192));
+					if (load64u(p43 + 16) != 0)
+						rattle_dealloc(loadptru(p43));
+					rattle_dealloc(p221);
+					n219 = n254;
+					n220 = 0;
 					goto L24;
 				}
 L23:
 				{
-					uint64_t n268;
-					uint8_t n269, n270;
-					bool b271;
-					memset(p33, 0, 24);
-					tp_Cutter_end(p33, p42, p4);
-					if (load8(p33) == 0) {
-						if (load8(p33 + 8) == 1) {
-							n268 = load64u(p33 + 16);
-							n269 = 1;
-							n270 = 1;
-							b271 = true;
+					uint64_t n270;
+					uint8_t n271, n272;
+					bool b273;
+					memset(p35, 0, 24);
+					tp_Cutter_end(p35, p45, p4);
+					if (load8(p35) == 0) {
+						if (load8(p35 + 8) == 1) {
+							n270 = load64u(p35 + 16);
+							n271 = 1;
+							n272 = 1;
+							b273 = true;
 						} else {
-							if (load64(p40 + 8) != 0)
-								store64(p40 + 8, 0);
-							uint8_t n272 = tp_text_push_end(p40, load64(p41), load64(p41 + 24) - load64(p41 + 40));
-							if ((n272 & 1) != 0) {
-								n268 = 0;
-								n269 = 2;
-								n270 = 1;
-								b271 = true;
+							if (load64(p43 + 8) != 0)
+								store64(p43 + 8, 0);
+							uint8_t n274 = tp_text_push_end(p43, load64(p44), load64(p44 + 24) - load64(p44 + 40));
+							if ((n274 & 1) != 0) {
+								n270 = 0;
+								n271 = 2;
+								n272 = 1;
+								b273 = true;
 							} else {
-								byte *p273 = loadptr(p40);
-								uint64_t n274 = load64(p40 + 8);
-								uint64_t n275 = 0;
-								while (n275 < n274) {
-									uint64_t n276 = n274 - n275;
-									uint64_t n277 = os_write(1, at(p273, n275), n276);
-									if ((int64_t)n277 < (int64_t)0) {
-										tp_error_last_error(p32);
+								byte *p275 = loadptr(p43);
+								uint64_t n276 = load64(p43 + 8);
+								uint64_t n277 = 0;
+								while (n277 < n276) {
+									uint64_t n278 = n276 - n277;
+									uint64_t n279 = os_write(1, at(p275, n277), n278);
+									if ((int64_t)n279 < (int64_t)0) {
+										tp_error_last_error(p34);
 										goto L25;
 									}
-									uint64_t n278 = umin64(n277, n276);
-									if (n278 == 0)
+									uint64_t n280 = umin64(n279, n278);
+									if (n280 == 0)
 										goto L25;
-									n275 = n275 + n278;
+									n277 = n277 + n280;
 								}
-								n268 = 0;
-								n269 = 0;
-								n270 = (uint8_t)(load8(p42 + 88) ^ 1);
-								b271 = false;
+								n270 = 0;
+								n271 = 0;
+								n272 = (uint8_t)(load8(p45 + 88) ^ 1);
+								b273 = false;
 								goto L26;
 L25:
 								{
 									store8(p3 + 1, 1);
-									n268 = 0;
-									n269 = 3;
-									n270 = 1;
-									b271 = true;
+									n270 = 0;
+									n271 = 3;
+									n272 = 1;
+									b273 = true;
 								}
 							}
 						}
 					} else {
-						n268 = 0;
-						n269 = 2;
-						n270 = 1;
-						b271 = true;
+						n270 = 0;
+						n271 = 2;
+						n272 = 1;
+						b273 = true;
 					}
 L26:
 					{
-						if (load64u(p42 + 24) != 0)
-							rattle_dealloc(loadptru(p42 + 8));
-						if (load64u(p42 + 48) != 0)
-							rattle_dealloc(loadptru(p42 + 32));
-						if (load64u(p42 + 72) != 0)
-							rattle_dealloc(loadptru(p42 + 56));
-						byte *p279 = loadptru(p41 + 1112);
-						uint64_t n280 = load64u(p41 + 1128);
-						byte *p281 = loadptru(p41 + 1144);
-						uint64_t n282 = load64u(p41 + 1160);
-						if (load64u(p41 + 32) != 0)
-							rattle_dealloc(loadptru(p41 + 16));
-						if (n280 != 0)
-							rattle_dealloc(p279);
+						if (load64u(p45 + 24) != 0)
+							rattle_dealloc(loadptru(p45 + 8));
+						if (load64u(p45 + 48) != 0)
+							rattle_dealloc(loadptru(p45 + 32));
+						if (load64u(p45 + 72) != 0)
+							rattle_dealloc(loadptru(p45 + 56));
+						byte *p281 = loadptru(p44 + 1112);
+						uint64_t n282 = load64u(p44 + 1128);
+						byte *p283 = loadptru(p44 + 1144);
+						uint64_t n284 = load64u(p44 + 1160);
+						if (load64u(p44 + 32) != 0)
+							rattle_dealloc(loadptru(p44 + 16));
 						if (n282 != 0)
 							rattle_dealloc(p281);
-						if (load64u(p41 + 1184) != 0)
-							rattle_dealloc(loadptru(p41 + 1168));
-						if (load64u(p41 + 1208) != 0)
-							rattle_dealloc(loadptru(p41 + 1192));
-						if (load64u(p40 + 16) != 0)
-							rattle_dealloc(loadptru(p40));
-						rattle_dealloc(p219);
-						if (!b271)
-							return n270;
-						n283 = n268;
-						n284 = n269;
+						if (n284 != 0)
+							rattle_dealloc(p283);
+						if (load64u(p44 + 1184) != 0)
+							rattle_dealloc(loadptru(p44 + 1168));
+						if (load64u(p44 + 1208) != 0)
+							rattle_dealloc(loadptru(p44 + 1192));
+						if (load64u(p43 + 16) != 0)
+							rattle_dealloc(loadptru(p43));
+						rattle_dealloc(p221);
+						if (!b273)
+							return n272;
+						n285 = n270;
+						n286 = n271;
 						goto L27;
 					}
 				}
 L22:
 				{
-					if (load64u(p42 + 24) != 0)
-						rattle_dealloc(loadptru(p42 + 8));
-					if (load64u(p42 + 48) != 0)
-						rattle_dealloc(loadptru(p42 + 32));
-					if (load64u(p42 + 72) != 0)
-						rattle_dealloc(loadptru(p42 + 56));
-					byte *p285 = loadptru(p41 + 1112);
-					uint64_t n286 = load64u(p41 + 1128);
-					byte *p287 = loadptru(p41 + 1144);
-					uint64_t n288 = load64u(p41 + 1160);
-					if (load64u(p41 + 32) != 0)
-						rattle_dealloc(loadptru(p41 + 16));
-					if (n286 != 0)
-						rattle_dealloc(p285);
+					if (load64u(p45 + 24) != 0)
+						rattle_dealloc(loadptru(p45 + 8));
+					if (load64u(p45 + 48) != 0)
+						rattle_dealloc(loadptru(p45 + 32));
+					if (load64u(p45 + 72) != 0)
+						rattle_dealloc(loadptru(p45 + 56));
+					byte *p287 = loadptru(p44 + 1112);
+					uint64_t n288 = load64u(p44 + 1128);
+					byte *p289 = loadptru(p44 + 1144);
+					uint64_t n290 = load64u(p44 + 1160);
+					if (load64u(p44 + 32) != 0)
+						rattle_dealloc(loadptru(p44 + 16));
 					if (n288 != 0)
 						rattle_dealloc(p287);
-					if (load64u(p41 + 1184) != 0)
-						rattle_dealloc(loadptru(p41 + 1168));
-					if (load64u(p41 + 1208) != 0)
-						rattle_dealloc(loadptru(p41 + 1192));
-					if (load64u(p40 + 16) != 0)
-						rattle_dealloc(loadptru(p40));
-					rattle_dealloc(p219);
-					n217 = 1;
-					n218 = n224;
+					if (n290 != 0)
+						rattle_dealloc(p289);
+					if (load64u(p44 + 1184) != 0)
+						rattle_dealloc(loadptru(p44 + 1168));
+					if (load64u(p44 + 1208) != 0)
+						rattle_dealloc(loadptru(p44 + 1192));
+					if (load64u(p43 + 16) != 0)
+						rattle_dealloc(loadptru(p43));
+					rattle_dealloc(p221);
+					n219 = 1;
+					n220 = n226;
 					goto L24;
 				}
 L18:
 				{
-					tp_error_last_error(p37);
+					tp_error_last_error(p39);
 					store8(p3, 1);
-					if (load64u(p42 + 24) != 0)
-						rattle_dealloc(loadptru(p42 + 8));
-					if (load64u(p42 + 48) != 0)
-						rattle_dealloc(loadptru(p42 + 32));
-					if (load64u(p42 + 72) != 0)
-						rattle_dealloc(loadptru(p42 + 56));
-					byte *p289 = loadptru(p41 + 1112);
-					uint64_t n290 = load64u(p41 + 1128);
-					byte *p291 = loadptru(p41 + 1144);
-					uint64_t n292 = load64u(p41 + 1160);
-					if (load64u(p41 + 32) != 0)
-						rattle_dealloc(loadptru(p41 + 16));
-					if (n290 != 0)
-						rattle_dealloc(p289);
+					if (load64u(p45 + 24) != 0)
+						rattle_dealloc(loadptru(p45 + 8));
+					if (load64u(p45 + 48) != 0)
+						rattle_dealloc(loadptru(p45 + 32));
+					if (load64u(p45 + 72) != 0)
+						rattle_dealloc(loadptru(p45 + 56));
+					byte *p291 = loadptru(p44 + 1112);
+					uint64_t n292 = load64u(p44 + 1128);
+					byte *p293 = loadptru(p44 + 1144);
+					uint64_t n294 = load64u(p44 + 1160);
+					if (load64u(p44 + 32) != 0)
+						rattle_dealloc(loadptru(p44 + 16));
 					if (n292 != 0)
 						rattle_dealloc(p291);
-					if (load64u(p41 + 1184) != 0)
-						rattle_dealloc(loadptru(p41 + 1168));
-					if (load64u(p41 + 1208) != 0)
-						rattle_dealloc(loadptru(p41 + 1192));
-					if (load64u(p40 + 16) != 0)
-						rattle_dealloc(loadptru(p40));
-					rattle_dealloc(p219);
-					n217 = 0;
-					n218 = 0;
+					if (n294 != 0)
+						rattle_dealloc(p293);
+					if (load64u(p44 + 1184) != 0)
+						rattle_dealloc(loadptru(p44 + 1168));
+					if (load64u(p44 + 1208) != 0)
+						rattle_dealloc(loadptru(p44 + 1192));
+					if (load64u(p43 + 16) != 0)
+						rattle_dealloc(loadptru(p43));
+					rattle_dealloc(p221);
+					n219 = 0;
+					n220 = 0;
 					goto L24;
 				}
 L17:
 				{
-					if (load64u(p42 + 24) != 0)
-						rattle_dealloc(loadptru(p42 + 8));
-					if (load64u(p42 + 48) != 0)
-						rattle_dealloc(loadptru(p42 + 32));
-					if (load64u(p42 + 72) != 0)
-						rattle_dealloc(loadptru(p42 + 56));
-					byte *p293 = loadptru(p41 + 1112);
-					uint64_t n294 = load64u(p41 + 1128);
-					byte *p295 = loadptru(p41 + 1144);
-					uint64_t n296 = load64u(p41 + 1160);
-					if (load64u(p41 + 32) != 0)
-						rattle_dealloc(loadptru(p41 + 16));
-					if (n294 != 0)
-						rattle_dealloc(p293);
+					if (load64u(p45 + 24) != 0)
+						rattle_dealloc(loadptru(p45 + 8));
+					if (load64u(p45 + 48) != 0)
+						rattle_dealloc(loadptru(p45 + 32));
+					if (load64u(p45 + 72) != 0)
+						rattle_dealloc(loadptru(p45 + 56));
+					byte *p295 = loadptru(p44 + 1112);
+					uint64_t n296 = load64u(p44 + 1128);
+					byte *p297 = loadptru(p44 + 1144);
+					uint64_t n298 = load64u(p44 + 1160);
+					if (load64u(p44 + 32) != 0)
+						rattle_dealloc(loadptru(p44 + 16));
 					if (n296 != 0)
 						rattle_dealloc(p295);
-					if (load64u(p41 + 1184) != 0)
-						rattle_dealloc(loadptru(p41 + 1168));
-					if (load64u(p41 + 1208) != 0)
-						rattle_dealloc(loadptru(p41 + 1192));
-					if (load64u(p40 + 16) != 0)
-						rattle_dealloc(loadptru(p40));
-					rattle_dealloc(p219);
-					n217 = 4;
-					n218 = 0;
+					if (n298 != 0)
+						rattle_dealloc(p297);
+					if (load64u(p44 + 1184) != 0)
+						rattle_dealloc(loadptru(p44 + 1168));
+					if (load64u(p44 + 1208) != 0)
+						rattle_dealloc(loadptru(p44 + 1192));
+					if (load64u(p43 + 16) != 0)
+						rattle_dealloc(loadptru(p43));
+					rattle_dealloc(p221);
+					n219 = 4;
+					n220 = 0;
 				}
 			}
 L24:
 			{
-				n283 = n218;
-				n284 = n217;
+				n285 = n220;
+				n286 = n219;
 			}
 L27:
 			{
-				tp_timer_commands_error_report_report_2(n284, n283, p4);
+				tp_timer_commands_error_report_report_2(n286, n285, p4);
 				return 1;
 			}
 		}
-		memcpy(p26, p2 + 40, 16);
-		memcpy(p27, p2 + 56, 1056);
-		memset(p28, 0, 24);
-		memset(p29, 0, 1216);
-		memset(p30, 0, 96);
-		memset(p31, 0, 24);
-		of_i64_i64 s297 = rattle_alloc(16384, 1);
-		if ((s297.f0 & 1) == 0) {
-			if (n67 != 0)
-				rattle_dealloc(p65);
-			if (n70 == 0) {
-				n298 = 2;
-				n299 = 0;
+		memcpy(p27, p2, 16);
+		memcpy(p28, p2 + 40, 16);
+		memcpy(p29, p2 + 56, 1056);
+		memset(p30, 0, 24);
+		memset(p31, 0, 1216);
+		memset(p32, 0, 96);
+		memset(p33, 0, 24);
+		of_i64_i64 s299 = rattle_alloc(16384, 1);
+		if ((s299.f0 & 1) == 0) {
+			if (n69 != 0)
+				rattle_dealloc(p67);
+			if (n72 == 0) {
+				n300 = 2;
+				n301 = 0;
 			} else {
-				rattle_dealloc(p68);
-				n298 = 2;
-				n299 = 0;
+				rattle_dealloc(p70);
+				n300 = 2;
+				n301 = 0;
 			}
 		} else {
-			uint64_t n305, n324, n326;
-			uint8_t n321;
-			byte *p323, *p325;
-			byte *p300 = (byte *)(uintptr_t)s297.f1;
-			uint64_t n301 = 0;
-			while (n301 != 16383) {
-				store8(inside(p300, n301), 0);
-				n301 = n301 + 1;
+			uint64_t n307, n326, n328;
+			uint8_t n323;
+			byte *p325, *p327;
+			byte *p302 = (byte *)(uintptr_t)s299.f1;
+			uint64_t n303 = 0;
+			while (n303 != 16383) {
+				store8(inside(p302, n303), 0);
+				n303 = n303 + 1;
 			}
-			store8(p300 + 16383, 0);
-			storeptru(p28, p5);
-			memset(p28 + 8, 0, 16);
-			store64u(p29, n63);
-			store64u(p29 + 8, n64);
-			storeptru(p29 + 16, p65);
-			store64u(p29 + 24, n66);
-			store64u(p29 + 32, n67);
-			memcpy(p29 + 40, p26, 16);
-			memcpy(p29 + 56, p27, 1056);
-			storeptru(p29 + 1112, p68);
-			store64u(p29 + 1120, n69);
-			store64u(p29 + 1128, n70);
-			store64u(p29 + 1136, n71);
-			storeptru(p29 + 1144, p5);
-			memset(p29 + 1152, 0, 16);
-			storeptru(p29 + 1168, p5);
-			memset(p29 + 1176, 0, 16);
-			storeptru(p29 + 1192, p5);
-			memset(p29 + 1200, 0, 16);
-			store8(p30, n52);
-			memset(p30 + 1, 0, 7);
-			storeptru(p30 + 8, p5);
-			memset(p30 + 16, 0, 16);
-			storeptru(p30 + 32, p5);
-			memset(p30 + 40, 0, 16);
-			storeptru(p30 + 56, p5);
-			memset(p30 + 64, 0, 16);
-			store64u(p30 + 80, 1);
-			store8(p30 + 88, 1);
-			memset(p30 + 89, 0, 7);
-			uint64_t n302 = 0;
+			store8(p302 + 16383, 0);
+			storeptru(p30, p5);
+			memset(p30 + 8, 0, 16);
+			memcpy(p31, p27, 16);
+			storeptru(p31 + 16, p67);
+			store64u(p31 + 24, n68);
+			store64u(p31 + 32, n69);
+			memcpy(p31 + 40, p28, 16);
+			memcpy(p31 + 56, p29, 1056);
+			storeptru(p31 + 1112, p70);
+			store64u(p31 + 1120, n71);
+			store64u(p31 + 1128, n72);
+			store64u(p31 + 1136, n73);
+			storeptru(p31 + 1144, p5);
+			memset(p31 + 1152, 0, 16);
+			storeptru(p31 + 1168, p5);
+			memset(p31 + 1176, 0, 16);
+			storeptru(p31 + 1192, p5);
+			memset(p31 + 1200, 0, 16);
+			store8(p32, n56);
+			memset(p32 + 1, 0, 7);
+			storeptru(p32 + 8, p5);
+			memset(p32 + 16, 0, 16);
+			storeptru(p32 + 32, p5);
+			memset(p32 + 40, 0, 16);
+			storeptru(p32 + 56, p5);
+			memset(p32 + 64, 0, 16);
+			store64u(p32 + 80, 1);
+			store8(p32 + 88, 1);
+			memset(p32 + 89, 0, 7);
+			uint64_t n304 = 0;
 			for (;;) {
-				if (n302 == UINT64_MAX)
+				if (n304 == UINT64_MAX)
 					goto L28;
-				uint64_t n303 = os_read(0, p300, 16384);
-				if ((int64_t)n303 < (int64_t)0)
+				uint64_t n305 = os_read(0, p302, 16384);
+				if ((int64_t)n305 < (int64_t)0)
 					goto L29;
-				tp_Cutter_take_in(p31, p30, p300, umin64(n303, 16384), p4);
-				if (load8(p31) != 0)
+				tp_Cutter_take_in(p33, p32, p302, umin64(n305, 16384), p4);
+				if (load8(p33) != 0)
 					break;
-				uint8_t n304 = load8(p31 + 8);
-				n305 = load64u(p31 + 16);
-				byte *p306 = loadptr(p30 + 8);
-				uint64_t n307 = load64(p30 + 16);
-				if (load64(p28 + 8) != 0)
-					store64(p28 + 8, 0);
-				uint64_t n308 = 0;
-				while (n308 != n307) {
-					byte *p309 = at(p306, n308 * 48);
-					uint64_t n310 = load64u(p309 + 8);
-					uint64_t n311 = load64u(p309 + 16);
-					uint64_t n312 = load64u(p309 + 24);
-					uint64_t n313 = load64u(p309 + 32);
-					uint64_t n314 = load64u(p309 + 40);
-					store64u(p24, (uint64_t)load8(p309));
-					store64(p24 + 8, n310);
-					store64(p24 + 16, n311);
-					store64(p24 + 24, n312);
-					store64(p24 + 32, n313);
-					store64(p24 + 40, n314);
-					uint8_t n315 = tp_timer_script_session_Session_play_one_2(p29, p24, p28);
-					if ((n315 & 1) != 0)
+				uint8_t n306 = load8(p33 + 8);
+				n307 = load64u(p33 + 16);
+				byte *p308 = loadptr(p32 + 8);
+				uint64_t n309 = load64(p32 + 16);
+				if (load64(p30 + 8) != 0)
+					store64(p30 + 8, 0);
+				uint64_t n310 = 0;
+				while (n310 != n309) {
+					byte *p311 = at(p308, n310 * 48);
+					uint64_t n312 = load64u(p311 + 8);
+					uint64_t n313 = load64u(p311 + 16);
+					uint64_t n314 = load64u(p311 + 24);
+					uint64_t n315 = load64u(p311 + 32);
+					uint64_t n316 = load64u(p311 + 40);
+					store64u(p25, (uint64_t)load8(p311));
+					store64(p25 + 8, n312);
+					store64(p25 + 16, n313);
+					store64(p25 + 24, n314);
+					store64(p25 + 32, n315);
+					store64(p25 + 40, n316);
+					uint8_t n317 = tp_timer_script_session_Session_play_one_2(p31, p25, p30);
+					if ((n317 & 1) != 0)
 						goto L30;
-					n308 = n308 + 1;
+					n310 = n310 + 1;
 				}
-				byte *p316 = loadptr(p28);
-				uint64_t n317 = load64(p28 + 8);
-				uint64_t n318 = 0;
-				while (n318 < n317) {
-					uint64_t n319 = n317 - n318;
-					uint64_t n320 = os_write(1, at(p316, n318), n319);
-					if ((int64_t)n320 < (int64_t)0) {
-						tp_error_last_error(p22);
+				byte *p318 = loadptr(p30);
+				uint64_t n319 = load64(p30 + 8);
+				uint64_t n320 = 0;
+				while (n320 < n319) {
+					uint64_t n321 = n319 - n320;
+					uint64_t n322 = os_write(1, at(p318, n320), n321);
+					if ((int64_t)n322 < (int64_t)0) {
+						tp_error_last_error(p23);
 						store8(p3 + 1, 1);
-						n321 = 3;
+						n323 = 3;
 						goto L31;
 					}
-					uint64_t n322 = umin64(n320, n319);
-					if (n322 == 0) {
+					uint64_t n324 = umin64(n322, n321);
+					if (n324 == 0) {
 						store8(p3 + 1, 1);
-						n321 = 3;
+						n323 = 3;
 						goto L31;
 					}
-					n318 = n318 + n322;
+					n320 = n320 + n324;
 				}
-				if (n304 == 1)
+				if (n306 == 1)
 					goto L32;
-				if (n303 == 0)
+				if (n305 == 0)
 					goto L33;
-				n302 = n302 + 1;
+				n304 = n304 + 1;
 			}
-			if (load64u(p30 + 24) != 0)
-				rattle_dealloc(loadptru(p30 + 8));
-			if (load64u(p30 + 48) != 0)
-				rattle_dealloc(loadptru(p30 + 32));
-			if (load64u(p30 + 72) != 0)
-				rattle_dealloc(loadptru(p30 + 56));
-			p323 = loadptru(p29 + 1112);
-			n324 = load64u(p29 + 1128);
-			p325 = loadptru(p29 + 1144);
-			n326 = load64u(p29 + 1160);
-			if (load64u(p29 + 32) != 0)
-				rattle_dealloc(loadptru(p29 + 16));
-			if (n324 != 0)
-				rattle_dealloc(p323);
+			if (load64u(p32 + 24) != 0)
+				rattle_dealloc(loadptru(p32 + 8));
+			if (load64u(p32 + 48) != 0)
+				rattle_dealloc(loadptru(p32 + 32));
+			if (load64u(p32 + 72) != 0)
+				rattle_dealloc(loadptru(p32 + 56));
+			p325 = loadptru(p31 + 1112);
+			n326 = load64u(p31 + 1128);
+			p327 = loadptru(p31 + 1144);
+			n328 = load64u(p31 + 1160);
+			if (load64u(p31 + 32) != 0)
+				rattle_dealloc(loadptru(p31 + 16));
 			if (n326 != 0)
 				rattle_dealloc(p325);
-			if (load64u(p29 + 1184) != 0)
-				rattle_dealloc(loadptru(p29 + 1168));
-			if (load64u(p29 + 1208) != 0)
-				rattle_dealloc(loadptru(p29 + 1192));
-			if (load64u(p28 + 16) != 0)
-				rattle_dealloc(loadptru(p28));
-			rattle_dealloc(p300);
-			n298 = 2;
-			n299 = 0;
+			if (n328 != 0)
+				rattle_dealloc(p327);
+			if (load64u(p31 + 1184) != 0)
+				rattle_dealloc(loadptru(p31 + 1168));
+			if (load64u(p31 + 1208) != 0)
+				rattle_dealloc(loadptru(p31 + 1192));
+			if (load64u(p30 + 16) != 0)
+				rattle_dealloc(loadptru(p30));
+			rattle_dealloc(p302);
+			n300 = 2;
+			n301 = 0;
 			goto L34;
 L30:
 			{
-				byte *p327 = loadptr(p28);
-				uint64_t n328 = load64(p28 + 8);
-				uint64_t n329 = 0;
+				byte *p329 = loadptr(p30);
+				uint64_t n330 = load64(p30 + 8);
+				uint64_t n331 = 0;
 				for (;;) {
-					if (n329 >= n328) {
-						n321 = 2;
+					if (n331 >= n330) {
+						n323 = 2;
 						goto L31;
 					}
-					uint64_t n330 = n328 - n329;
-					uint64_t n331 = os_write(1, at(p327, n329), n330);
-					if ((int64_t)n331 < (int64_t)0) {
-						tp_error_last_error(p23);
+					uint64_t n332 = n330 - n331;
+					uint64_t n333 = os_write(1, at(p329, n331), n332);
+					if ((int64_t)n333 < (int64_t)0) {
+						tp_error_last_error(p24);
 						store8(p3 + 1, 1);
-						n321 = 3;
+						n323 = 3;
 						goto L31;
 					}
-					uint64_t n332 = umin64(n331, n330);
-					if (n332 == 0) {
+					uint64_t n334 = umin64(n333, n332);
+					if (n334 == 0) {
 						store8(p3 + 1, 1);
-						n321 = 3;
+						n323 = 3;
 						goto L31;
 					}
-					n329 = n329 + n332;
+					n331 = n331 + n334;
 				}
 			}
 L33:
 			{
-				uint64_t n333;
-				uint8_t n334, n335;
-				bool b336;
-				memset(p21, 0, 24);
-				tp_Cutter_end(p21, p30, p4);
-				if (load8(p21) == 0) {
-					if (load8(p21 + 8) == 1) {
-						n333 = load64u(p21 + 16);
-						n334 = 1;
-						n335 = 1;
-						b336 = true;
+				uint64_t n335;
+				uint8_t n336, n337;
+				bool b338;
+				memset(p22, 0, 24);
+				tp_Cutter_end(p22, p32, p4);
+				if (load8(p22) == 0) {
+					if (load8(p22 + 8) == 1) {
+						n335 = load64u(p22 + 16);
+						n336 = 1;
+						n337 = 1;
+						b338 = true;
 					} else {
-						if (load64(p28 + 8) != 0)
-							store64(p28 + 8, 0);
-						uint8_t n337 = tp_text_push_end(p28, load64(p29), load64(p29 + 24) - load64(p29 + 40));
-						if ((n337 & 1) != 0) {
-							n333 = 0;
-							n334 = 2;
-							n335 = 1;
-							b336 = true;
+						if (load64(p30 + 8) != 0)
+							store64(p30 + 8, 0);
+						uint8_t n339 = tp_text_push_end(p30, load64(p31), load64(p31 + 24) - load64(p31 + 40));
+						if ((n339 & 1) != 0) {
+							n335 = 0;
+							n336 = 2;
+							n337 = 1;
+							b338 = true;
 						} else {
-							byte *p338 = loadptr(p28);
-							uint64_t n339 = load64(p28 + 8);
-							uint64_t n340 = 0;
-							while (n340 < n339) {
-								uint64_t n341 = n339 - n340;
-								uint64_t n342 = os_write(1, at(p338, n340), n341);
-								if ((int64_t)n342 < (int64_t)0) {
-									tp_error_last_error(p20);
+							byte *p340 = loadptr(p30);
+							uint64_t n341 = load64(p30 + 8);
+							uint64_t n342 = 0;
+							while (n342 < n341) {
+								uint64_t n343 = n341 - n342;
+								uint64_t n344 = os_write(1, at(p340, n342), n343);
+								if ((int64_t)n344 < (int64_t)0) {
+									tp_error_last_error(p21);
 									goto L35;
 								}
-								uint64_t n343 = umin64(n342, n341);
-								if (n343 == 0)
+								uint64_t n345 = umin64(n344, n343);
+								if (n345 == 0)
 									goto L35;
-								n340 = n340 + n343;
+								n342 = n342 + n345;
 							}
-							n333 = 0;
-							n334 = 0;
-							n335 = (uint8_t)(load8(p30 + 88) ^ 1);
-							b336 = false;
+							n335 = 0;
+							n336 = 0;
+							n337 = (uint8_t)(load8(p32 + 88) ^ 1);
+							b338 = false;
 							goto L36;
 L35:
 							{
 								store8(p3 + 1, 1);
-								n333 = 0;
-								n334 = 3;
-								n335 = 1;
-								b336 = true;
+								n335 = 0;
+								n336 = 3;
+								n337 = 1;
+								b338 = true;
 							}
 						}
 					}
 				} else {
-					n333 = 0;
-					n334 = 2;
-					n335 = 1;
-					b336 = true;
+					n335 = 0;
+					n336 = 2;
+					n337 = 1;
+					b338 = true;
 				}
 L36:
 				{
-					if (load64u(p30 + 24) != 0)
-						rattle_dealloc(loadptru(p30 + 8));
-					if (load64u(p30 + 48) != 0)
-						rattle_dealloc(loadptru(p30 + 32));
-					if (load64u(p30 + 72) != 0)
-						rattle_dealloc(loadptru(p30 + 56));
-					byte *p344 = loadptru(p29 + 1112);
-					uint64_t n345 = load64u(p29 + 1128);
-					byte *p346 = loadptru(p29 + 1144);
-					uint64_t n347 = load64u(p29 + 1160);
-					if (load64u(p29 + 32) != 0)
-						rattle_dealloc(loadptru(p29 + 16));
-					if (n345 != 0)
-						rattle_dealloc(p344);
+					if (load64u(p32 + 24) != 0)
+						rattle_dealloc(loadptru(p32 + 8));
+					if (load64u(p32 + 48) != 0)
+						rattle_dealloc(loadptru(p32 + 32));
+					if (load64u(p32 + 72) != 0)
+						rattle_dealloc(loadptru(p32 + 56));
+					byte *p346 = loadptru(p31 + 1112);
+					uint64_t n347 = load64u(p31 + 1128);
+					byte *p348 = loadptru(p31 + 1144);
+					uint64_t n349 = load64u(p31 + 1160);
+					if (load64u(p31 + 32) != 0)
+						rattle_dealloc(loadptru(p31 + 16));
 					if (n347 != 0)
 						rattle_dealloc(p346);
-					if (load64u(p29 + 1184) != 0)
-						rattle_dealloc(loadptru(p29 + 1168));
-					if (load64u(p29 + 1208) != 0)
-						rattle_dealloc(loadptru(p29 + 1192));
-					if (load64u(p28 + 16) != 0)
-						rattle_dealloc(loadptru(p28));
-					rattle_dealloc(p300);
-					if (!b336)
-						return n335;
-					n348 = n333;
-					n349 = n334;
+					if (n349 != 0)
+						rattle_dealloc(p348);
+					if (load64u(p31 + 1184) != 0)
+						rattle_dealloc(loadptru(p31 + 1168));
+					if (load64u(p31 + 1208) != 0)
+						rattle_dealloc(loadptru(p31 + 1192));
+					if (load64u(p30 + 16) != 0)
+						rattle_dealloc(loadptru(p30));
+					rattle_dealloc(p302);
+					if (!b338)
+						return n337;
+					n350 = n335;
+					n351 = n336;
 					goto L37;
 				}
 			}
 L32:
 			{
-				if (load64u(p30 + 24) != 0)
-					rattle_dealloc(loadptru(p30 + 8));
-				if (load64u(p30 + 48) != 0)
-					rattle_dealloc(loadptru(p30 + 32));
-				if (load64u(p30 + 72) != 0)
-					rattle_dealloc(loadptru(p30 + 56));
-				byte *p350 = loadptru(p29 + 1112);
-				uint64_t n351 = load64u(p29 + 1128);
-				byte *p352 = loadptru(p29 + 1144);
-				uint64_t n353 = load64u(p29 + 1160);
-				if (load64u(p29 + 32) != 0)
-					rattle_dealloc(loadptru(p29 + 16));
-				if (n351 != 0)
-					rattle_dealloc(p350);
+				if (load64u(p32 + 24) != 0)
+					rattle_dealloc(loadptru(p32 + 8));
+				if (load64u(p32 + 48) != 0)
+					rattle_dealloc(loadptru(p32 + 32));
+				if (load64u(p32 + 72) != 0)
+					rattle_dealloc(loadptru(p32 + 56));
+				byte *p352 = loadptru(p31 + 1112);
+				uint64_t n353 = load64u(p31 + 1128);
+				byte *p354 = loadptru(p31 + 1144);
+				uint64_t n355 = load64u(p31 + 1160);
+				if (load64u(p31 + 32) != 0)
+					rattle_dealloc(loadptru(p31 + 16));
 				if (n353 != 0)
 					rattle_dealloc(p352);
-				if (load64u(p29 + 1184) != 0)
-					rattle_dealloc(loadptru(p29 + 1168));
-				if (load64u(p29 + 1208) != 0)
-					rattle_dealloc(loadptru(p29 + 1192));
-				if (load64u(p28 + 16) != 0)
-					rattle_dealloc(loadptru(p28));
-				rattle_dealloc(p300);
-				n298 = 1;
-				n299 = n305;
+				if (n355 != 0)
+					rattle_dealloc(p354);
+				if (load64u(p31 + 1184) != 0)
+					rattle_dealloc(loadptru(p31 + 1168));
+				if (load64u(p31 + 1208) != 0)
+					rattle_dealloc(loadptru(p31 + 1192));
+				if (load64u(p30 + 16) != 0)
+					rattle_dealloc(loadptru(p30));
+				rattle_dealloc(p302);
+				n300 = 1;
+				n301 = n307;
 				goto L34;
 			}
 L31:
 			{
-				if (load64u(p30 + 24) != 0)
-					rattle_dealloc(loadptru(p30 + 8));
-				if (load64u(p30 + 48) != 0)
-					rattle_dealloc(loadptru(p30 + 32));
-				if (load64u(p30 + 72) != 0)
-					rattle_dealloc(loadptru(p30 + 56));
-				byte *p354 = loadptru(p29 + 1112);
-				uint64_t n355 = load64u(p29 + 1128);
-				byte *p356 = loadptru(p29 + 1144);
-				uint64_t n357 = load64u(p29 + 1160);
-				if (load64u(p29 + 32) != 0)
-					rattle_dealloc(loadptru(p29 + 16));
-				if (n355 != 0)
-					rattle_dealloc(p354);
+				if (load64u(p32 + 24) != 0)
+					rattle_dealloc(loadptru(p32 + 8));
+				if (load64u(p32 + 48) != 0)
+					rattle_dealloc(loadptru(p32 + 32));
+				if (load64u(p32 + 72) != 0)
+					rattle_dealloc(loadptru(p32 + 56));
+				byte *p356 = loadptru(p31 + 1112);
+				uint64_t n357 = load64u(p31 + 1128);
+				byte *p358 = loadptru(p31 + 1144);
+				uint64_t n359 = load64u(p31 + 1160);
+				if (load64u(p31 + 32) != 0)
+					rattle_dealloc(loadptru(p31 + 16));
 				if (n357 != 0)
 					rattle_dealloc(p356);
-				if (load64u(p29 + 1184) != 0)
-					rattle_dealloc(loadptru(p29 + 1168));
-				if (load64u(p29 + 1208) != 0)
-					rattle_dealloc(loadptru(p29 + 1192));
-				if (load64u(p28 + 16) != 0)
-					rattle_dealloc(loadptru(p28));
-				rattle_dealloc(p300);
-				n298 = n321;
-				n299 = 0;
+				if (n359 != 0)
+					rattle_dealloc(p358);
+				if (load64u(p31 + 1184) != 0)
+					rattle_dealloc(loadptru(p31 + 1168));
+				if (load64u(p31 + 1208) != 0)
+					rattle_dealloc(loadptru(p31 + 1192));
+				if (load64u(p30 + 16) != 0)
+					rattle_dealloc(loadptru(p30));
+				rattle_dealloc(p302);
+				n300 = n323;
+				n301 = 0;
 				goto L34;
 			}
 L29:
 			{
-				tp_error_last_error(p25);
+				tp_error_last_error(p26);
 				store8(p3, 1);
-				if (load64u(p30 + 24) != 0)
-					rattle_dealloc(loadptru(p30 + 8));
-				if (load64u(p30 + 48) != 0)
-					rattle_dealloc(loadptru(p30 + 32));
-				if (load64u(p30 + 72) != 0)
-					rattle_dealloc(loadptru(p30 + 56));
-				byte *p358 = loadptru(p29 + 1112);
-				uint64_t n359 = load64u(p29 + 1128);
-				byte *p360 = loadptru(p29 + 1144);
-				uint64_t n361 = load64u(p29 + 1160);
-				if (load64u(p29 + 32) != 0)
-					rattle_dealloc(loadptru(p29 + 16));
-				if (n359 != 0)
-					rattle_dealloc(p358);
+				if (load64u(p32 + 24) != 0)
+					rattle_dealloc(loadptru(p32 + 8));
+				if (load64u(p32 + 48) != 0)
+					rattle_dealloc(loadptru(p32 + 32));
+				if (load64u(p32 + 72) != 0)
+					rattle_dealloc(loadptru(p32 + 56));
+				byte *p360 = loadptru(p31 + 1112);
+				uint64_t n361 = load64u(p31 + 1128);
+				byte *p362 = loadptru(p31 + 1144);
+				uint64_t n363 = load64u(p31 + 1160);
+				if (load64u(p31 + 32) != 0)
+					rattle_dealloc(loadptru(p31 + 16));
 				if (n361 != 0)
 					rattle_dealloc(p360);
-				if (load64u(p29 + 1184) != 0)
-					rattle_dealloc(loadptru(p29 + 1168));
-				if (load64u(p29 + 1208) != 0)
-					rattle_dealloc(loadptru(p29 + 1192));
-				if (load64u(p28 + 16) != 0)
-					rattle_dealloc(loadptru(p28));
-				rattle_dealloc(p300);
-				n298 = 0;
-				n299 = 0;
+				if (n363 != 0)
+					rattle_dealloc(p362);
+				if (load64u(p31 + 1184) != 0)
+					rattle_dealloc(loadptru(p31 + 1168));
+				if (load64u(p31 + 1208) != 0)
+					rattle_dealloc(loadptru(p31 + 1192));
+				if (load64u(p30 + 16) != 0)
+					rattle_dealloc(loadptru(p30));
+				rattle_dealloc(p302);
+				n300 = 0;
+				n301 = 0;
 				goto L34;
 			}
 L28:
 			{
-				if (load64u(p30 + 24) != 0)
-					rattle_dealloc(loadptru(p30 + 8));
-				if (load64u(p30 + 48) != 0)
-					rattle_dealloc(loadptru(p30 + 32));
-				if (load64u(p30 + 72) != 0)
-					rattle_dealloc(loadptru(p30 + 56));
-				byte *p362 = loadptru(p29 + 1112);
-				uint64_t n363 = load64u(p29 + 1128);
-				byte *p364 = loadptru(p29 + 1144);
-				uint64_t n365 = load64u(p29 + 1160);
-				if (load64u(p29 + 32) != 0)
-					rattle_dealloc(loadptru(p29 + 16));
-				if (n363 != 0)
-					rattle_dealloc(p362);
+				if (load64u(p32 + 24) != 0)
+					rattle_dealloc(loadptru(p32 + 8));
+				if (load64u(p32 + 48) != 0)
+					rattle_dealloc(loadptru(p32 + 32));
+				if (load64u(p32 + 72) != 0)
+					rattle_dealloc(loadptru(p32 + 56));
+				byte *p364 = loadptru(p31 + 1112);
+				uint64_t n365 = load64u(p31 + 1128);
+				byte *p366 = loadptru(p31 + 1144);
+				uint64_t n367 = load64u(p31 + 1160);
+				if (load64u(p31 + 32) != 0)
+					rattle_dealloc(loadptru(p31 + 16));
 				if (n365 != 0)
 					rattle_dealloc(p364);
-				if (load64u(p29 + 1184) != 0)
-					rattle_dealloc(loadptru(p29 + 1168));
-				if (load64u(p29 + 1208) != 0)
-					rattle_dealloc(loadptru(p29 + 1192));
-				if (load64u(p28 + 16) != 0)
-					rattle_dealloc(loadptru(p28));
-				rattle_dealloc(p300);
-				n298 = 4;
-				n299 = 0;
+				if (n367 != 0)
+					rattle_dealloc(p366);
+				if (load64u(p31 + 1184) != 0)
+					rattle_dealloc(loadptru(p31 + 1168));
+				if (load64u(p31 + 1208) != 0)
+					rattle_dealloc(loadptru(p31 + 1192));
+				if (load64u(p30 + 16) != 0)
+					rattle_dealloc(loadptru(p30));
+				rattle_dealloc(p302);
+				n300 = 4;
+				n301 = 0;
 			}
 		}
 L34:
 		{
-			n348 = n299;
-			n349 = n298;
+			n350 = n301;
+			n351 = n300;
 		}
 L37:
 		{
-			tp_timer_commands_error_report_report_2(n349, n348, p4);
+			tp_timer_commands_error_report_report_2(n351, n350, p4);
 			return 1;
 		}
 	}
 	case 2: {
-		uint8_t n367, n489;
-		uint64_t n368, n488;
-		memcpy(p14, p2 + 40, 16);
-		memcpy(p15, p2 + 56, 1056);
-		memset(p16, 0, 24);
-		memset(p17, 0, 1216);
-		memset(p18, 0, 96);
-		memset(p19, 0, 24);
-		of_i64_i64 s366 = rattle_alloc(16384, 1);
-		if ((s366.f0 & 1) == 0) {
-			if (n67 != 0)
-				rattle_dealloc(p65);
-			if (n70 == 0) {
-				n367 = 2;
-				n368 = 0;
+		uint8_t n369, n491;
+		uint64_t n370, n490;
+		memcpy(p14, p2, 16);
+		memcpy(p15, p2 + 40, 16);
+		memcpy(p16, p2 + 56, 1056);
+		memset(p17, 0, 24);
+		memset(p18, 0, 1216);
+		memset(p19, 0, 96);
+		memset(p20, 0, 24);
+		of_i64_i64 s368 = rattle_alloc(16384, 1);
+		if ((s368.f0 & 1) == 0) {
+			if (n69 != 0)
+				rattle_dealloc(p67);
+			if (n72 == 0) {
+				n369 = 2;
+				n370 = 0;
 			} else {
-				rattle_dealloc(p68);
-				n367 = 2;
-				n368 = 0;
+				rattle_dealloc(p70);
+				n369 = 2;
+				n370 = 0;
 			}
 		} else {
-			uint64_t n374, n400, n401, n460, n462;
-			byte *p424, *p459, *p461;
-			bool b426;
-			uint8_t n457;
-			byte *p369 = (byte *)(uintptr_t)s366.f1;
-			uint64_t n370 = 0;
-			while (n370 != 16383) {
-				store8(inside(p369, n370), 0);
-				n370 = n370 + 1;
+			uint64_t n376, n402, n403, n462, n464;
+			byte *p426, *p461, *p463;
+			bool b428;
+			uint8_t n459;
+			byte *p371 = (byte *)(uintptr_t)s368.f1;
+			uint64_t n372 = 0;
+			while (n372 != 16383) {
+				store8(inside(p371, n372), 0);
+				n372 = n372 + 1;
 			}
-			store8(p369 + 16383, 0);
-			storeptru(p16, p5);
-			memset(p16 + 8, 0, 16);
-			store64u(p17, n63);
-			store64u(p17 + 8, n64);
-			storeptru(p17 + 16, p65);
-			store64u(p17 + 24, n66);
-			store64u(p17 + 32, n67);
-			memcpy(p17 + 40, p14, 16);
-			memcpy(p17 + 56, p15, 1056);
-			storeptru(p17 + 1112, p68);
-			store64u(p17 + 1120, n69);
-			store64u(p17 + 1128, n70);
-			store64u(p17 + 1136, n71);
-			storeptru(p17 + 1144, p5);
-			memset(p17 + 1152, 0, 16);
-			storeptru(p17 + 1168, p5);
-			memset(p17 + 1176, 0, 16);
-			storeptru(p17 + 1192, p5);
-			memset(p17 + 1200, 0, 16);
-			store64(p18, 0);
-			storeptru(p18 + 8, p5);
-			memset(p18 + 16, 0, 16);
-			storeptru(p18 + 32, p5);
-			memset(p18 + 40, 0, 16);
-			storeptru(p18 + 56, p5);
-			memset(p18 + 64, 0, 16);
-			store64u(p18 + 80, 1);
-			store8(p18 + 88, 1);
-			memset(p18 + 89, 0, 7);
-			uint64_t n371 = 0;
+			store8(p371 + 16383, 0);
+			storeptru(p17, p5);
+			memset(p17 + 8, 0, 16);
+			memcpy(p18, p14, 16);
+			storeptru(p18 + 16, p67);
+			store64u(p18 + 24, n68);
+			store64u(p18 + 32, n69);
+			memcpy(p18 + 40, p15, 16);
+			memcpy(p18 + 56, p16, 1056);
+			storeptru(p18 + 1112, p70);
+			store64u(p18 + 1120, n71);
+			store64u(p18 + 1128, n72);
+			store64u(p18 + 1136, n73);
+			storeptru(p18 + 1144, p5);
+			memset(p18 + 1152, 0, 16);
+			storeptru(p18 + 1168, p5);
+			memset(p18 + 1176, 0, 16);
+			storeptru(p18 + 1192, p5);
+			memset(p18 + 1200, 0, 16);
+			store64(p19, 0);
+			storeptru(p19 + 8, p5);
+			memset(p19 + 16, 0, 16);
+			storeptru(p19 + 32, p5);
+			memset(p19 + 40, 0, 16);
+			storeptru(p19 + 56, p5);
+			memset(p19 + 64, 0, 16);
+			store64u(p19 + 80, 1);
+			store8(p19 + 88, 1);
+			memset(p19 + 89, 0, 7);
+			uint64_t n373 = 0;
 			for (;;) {
-				if (n371 == UINT64_MAX)
+				if (n373 == UINT64_MAX)
 					goto L38;
-				uint64_t n372 = os_read(0, p369, 16384);
-				if ((int64_t)n372 < (int64_t)0)
+				uint64_t n374 = os_read(0, p371, 16384);
+				if ((int64_t)n374 < (int64_t)0)
 					goto L39;
-				tp_Cutter_take_in(p19, p18, p369, umin64(n372, 16384), p4);
-				if (load8(p19) != 0)
+				tp_Cutter_take_in(p20, p19, p371, umin64(n374, 16384), p4);
+				if (load8(p20) != 0)
 					break;
-				uint8_t n373 = load8(p19 + 8);
-				n374 = load64u(p19 + 16);
-				byte *p375 = loadptr(p18 + 8);
-				uint64_t n376 = load64(p18 + 16);
-				if (load64(p16 + 8) != 0)
-					store64(p16 + 8, 0);
-				uint64_t n377 = 0;
-				while (n377 != n376) {
-					byte *p378 = at(p375, n377 * 48);
-					uint8_t n379 = load8(p378);
-					uint64_t n380 = load64u(p378 + 8);
-					uint64_t n381 = load64(p17 + 72);
-					uint64_t n382 = load64u(p378 + 16);
-					uint64_t n383 = load64u(p378 + 24);
-					uint64_t n384 = load64u(p378 + 32);
-					uint64_t n385 = load64u(p378 + 40);
-					store64u(p12, (uint64_t)n379);
-					store64(p12 + 8, n380);
-					store64(p12 + 16, n382);
-					store64(p12 + 24, n383);
-					store64(p12 + 32, n384);
-					store64(p12 + 40, n385);
-					if ((n53 & 1) != 0) {
-						uint64_t n386;
-						switch (n379) {
+				uint8_t n375 = load8(p20 + 8);
+				n376 = load64u(p20 + 16);
+				byte *p377 = loadptr(p19 + 8);
+				uint64_t n378 = load64(p19 + 16);
+				if (load64(p17 + 8) != 0)
+					store64(p17 + 8, 0);
+				uint64_t n379 = 0;
+				while (n379 != n378) {
+					byte *p380 = at(p377, n379 * 48);
+					uint8_t n381 = load8(p380);
+					uint64_t n382 = load64u(p380 + 8);
+					uint64_t n383 = load64(p18 + 72);
+					uint64_t n384 = load64u(p380 + 16);
+					uint64_t n385 = load64u(p380 + 24);
+					uint64_t n386 = load64u(p380 + 32);
+					uint64_t n387 = load64u(p380 + 40);
+					store64u(p12, (uint64_t)n381);
+					store64(p12 + 8, n382);
+					store64(p12 + 16, n384);
+					store64(p12 + 24, n385);
+					store64(p12 + 32, n386);
+					store64(p12 + 40, n387);
+					if ((n57 & 1) != 0) {
+						uint64_t n388;
+						switch (n381) {
 						case 3: {
-							n386 = n380;
+							n388 = n382;
 							break;
 						}
 						case 0:
@@ -54533,324 +54535,324 @@ L37:
 							UNREACHABLE();
 						}
 						}
-						while (n386 != 0) {
-							uint64_t n397;
-							uint64_t n387 = load64(p17);
-							bool b388 = (load8(p17 + 1104) & 1) != 0;
-							byte *p389 = loadptr(p17 + 16);
-							uint64_t n390 = load64(p17 + 24);
-							uint64_t n391 = 0;
-							uint64_t n392 = 0;
-							uint8_t n393 = 0;
-							while (n391 != n390) {
-								uint64_t n395;
-								uint8_t n396;
-								uint64_t n394 = load64(at(p389, n391 * 40) + 24);
-								if (n387 < n394) {
-									if (n393 == 1) {
-										n395 = umin64(n394, n392);
-										n396 = 1;
+						while (n388 != 0) {
+							uint64_t n399;
+							uint64_t n389 = load64(p18);
+							bool b390 = (load8(p18 + 1104) & 1) != 0;
+							byte *p391 = loadptr(p18 + 16);
+							uint64_t n392 = load64(p18 + 24);
+							uint64_t n393 = 0;
+							uint64_t n394 = 0;
+							uint8_t n395 = 0;
+							while (n393 != n392) {
+								uint64_t n397;
+								uint8_t n398;
+								uint64_t n396 = load64(at(p391, n393 * 40) + 24);
+								if (n389 < n396) {
+									if (n395 == 1) {
+										n397 = umin64(n396, n394);
+										n398 = 1;
 									} else {
-										n395 = n394;
-										n396 = 1;
+										n397 = n396;
+										n398 = 1;
 									}
 								} else {
-									n395 = n392;
-									n396 = n393;
+									n397 = n394;
+									n398 = n395;
 								}
-								n391 = n391 + 1;
-								n392 = n395;
-								n393 = n396;
+								n393 = n393 + 1;
+								n394 = n397;
+								n395 = n398;
 							}
-							if (n393 == 1) {
-								if ((n392 > UINT64_C(1152921504606846975)) || b388) {
-									n397 = n386;
+							if (n395 == 1) {
+								if ((n394 > UINT64_C(1152921504606846975)) || b390) {
+									n399 = n388;
 								} else {
-									n397 = umin64(n392 - n387, n386);
+									n399 = umin64(n394 - n389, n388);
 								}
 							} else {
-								n397 = n386;
+								n399 = n388;
 							}
 							memset(p11 + 16, 0, 32);
 							store64u(p11, 3);
-							store64(p11 + 8, n397);
-							uint8_t n398 = tp_timer_script_session_Session_play_one_2(p17, p11, p16);
-							if ((n398 & 1) != 0)
+							store64(p11 + 8, n399);
+							uint8_t n400 = tp_timer_script_session_Session_play_one_2(p18, p11, p17);
+							if ((n400 & 1) != 0)
 								goto L41;
-							n386 = n386 - n397;
+							n388 = n388 - n399;
 						}
 						goto L42;
 					}
 L40:
 					{
-						uint8_t n399 = tp_timer_script_session_Session_play_one_2(p17, p12, p16);
-						if ((n399 & 1) != 0) {
-							n400 = load64(p16 + 8);
+						uint8_t n401 = tp_timer_script_session_Session_play_one_2(p18, p12, p17);
+						if ((n401 & 1) != 0) {
+							n402 = load64(p17 + 8);
 							goto L43;
 						}
 					}
 L42:
 					{
-						uint64_t n403, n405, n407, n409, n410, n411, n412, n415, n418, n419, n420, n425, n427, n428, n431, n432;
-						uint8_t n404;
-						byte *p408, *p414, *p416;
-						n401 = load64(p16 + 8);
-						uint64_t n402 = load64(p17);
-						if (n59 == 1) {
-							if (n60 > n402)
+						uint64_t n405, n407, n409, n411, n412, n413, n414, n417, n420, n421, n422, n427, n429, n430, n433, n434;
+						uint8_t n406;
+						byte *p410, *p416, *p418;
+						n403 = load64(p17 + 8);
+						uint64_t n404 = load64(p18);
+						if (n63 == 1) {
+							if (n64 > n404)
 								goto L44;
 						}
-						if (n61 == 1) {
-							if (n402 > n62)
+						if (n65 == 1) {
+							if (n404 > n66)
 								goto L44;
 						}
-						n403 = ((n54 & 1) != 0) ? n381 : 0;
-						n404 = tp_render_push_number(p16, (byte *)tp_static_283, 6, n402);
-						if ((n404 & 1) != 0)
+						n405 = ((n58 & 1) != 0) ? n383 : 0;
+						n406 = tp_render_push_number(p17, (byte *)tp_static_283, 6, n404);
+						if ((n406 & 1) != 0)
 							goto L45;
-						n405 = load64(p16 + 8);
-						if (load64(p16 + 16) == n405) {
-							bool b406 = tp_std_alloc_vec_Vec_grow_amortized_6(p16, 1);
-							if (!b406)
+						n407 = load64(p17 + 8);
+						if (load64(p17 + 16) == n407) {
+							bool b408 = tp_std_alloc_vec_Vec_grow_amortized_6(p17, 1);
+							if (!b408)
 								goto L45;
-							n407 = load64(p16 + 8);
+							n409 = load64(p17 + 8);
 						} else {
-							n407 = n405;
+							n409 = n407;
 						}
-						store8(inside(loadptr(p16), n407), 10);
-						store64(p16 + 8, n407 + 1);
-						p408 = loadptr(p17 + 16);
-						n409 = load64(p17 + 24);
-						n410 = 0;
-						n411 = n409;
+						store8(inside(loadptr(p17), n409), 10);
+						store64(p17 + 8, n409 + 1);
+						p410 = loadptr(p18 + 16);
+						n411 = load64(p18 + 24);
+						n412 = 0;
+						n413 = n411;
 						for (;;) {
-							if (n410 == n409) {
-								n412 = 0;
+							if (n412 == n411) {
+								n414 = 0;
 								break;
 							}
-							uint64_t n413 = n411 - 1;
-							if (load64(inside(p408, n413 * 40)) < n403) {
-								n412 = n411;
+							uint64_t n415 = n413 - 1;
+							if (load64(inside(p410, n415 * 40)) < n405) {
+								n414 = n413;
 								break;
 							}
-							n410 = n410 + 1;
-							n411 = n413;
+							n412 = n412 + 1;
+							n413 = n415;
 						}
-						p414 = at(p408, n412 * 40);
-						n415 = n409 - n412;
-						if (n409 == n412) {
-							p416 = p5;
+						p416 = at(p410, n414 * 40);
+						n417 = n411 - n414;
+						if (n411 == n414) {
+							p418 = p5;
 						} else {
-							if (n415 > UINT64_C(230584300921369395))
+							if (n417 > UINT64_C(230584300921369395))
 								goto L46;
-							of_i64_i64 s417 = rattle_alloc(n415 * 40, 8);
-							if ((s417.f0 & 1) == 0)
+							of_i64_i64 s419 = rattle_alloc(n417 * 40, 8);
+							if ((s419.f0 & 1) == 0)
 								goto L46;
-							p416 = (byte *)(uintptr_t)s417.f1;
+							p418 = (byte *)(uintptr_t)s419.f1;
 						}
-						storeptru(p10, p416);
+						storeptru(p10, p418);
 						store64u(p10 + 8, 0);
-						store64u(p10 + 16, n415);
-						n418 = load64(p17);
-						n419 = 0;
-						n420 = 0;
-						while (n420 != n415) {
-							uint64_t n423;
-							byte *p421 = at(p414, n420 * 40);
-							if (n418 < load64(p421 + 24)) {
-								memmove(inside(p416, n419 * 40), p421, 40);
-								uint64_t n422 = n419 + 1;
-								store64(p10 + 8, n422);
-								n423 = n422;
+						store64u(p10 + 16, n417);
+						n420 = load64(p18);
+						n421 = 0;
+						n422 = 0;
+						while (n422 != n417) {
+							uint64_t n425;
+							byte *p423 = at(p416, n422 * 40);
+							if (n420 < load64(p423 + 24)) {
+								memmove(inside(p418, n421 * 40), p423, 40);
+								uint64_t n424 = n421 + 1;
+								store64(p10 + 8, n424);
+								n425 = n424;
 							} else {
-								n423 = n419;
+								n425 = n421;
 							}
-							n419 = n423;
-							n420 = n420 + 1;
+							n421 = n425;
+							n422 = n422 + 1;
 						}
 						tp_order_sort_timers(p10);
-						p424 = loadptr(p10);
-						n425 = load64(p10 + 8);
-						b426 = load64(p10 + 16) == 0;
-						n427 = 0;
+						p426 = loadptr(p10);
+						n427 = load64(p10 + 8);
+						b428 = load64(p10 + 16) == 0;
+						n429 = 0;
 						for (;;) {
-							if (n427 == n425) {
-								n428 = n425;
+							if (n429 == n427) {
+								n430 = n427;
 								goto L47;
 							}
-							byte *p429 = at(p424, n427 * 40);
-							uint64_t n430 = load64u(p429);
-							if (n55 == 1) {
-								if (n56 != load64u(p429 + 8))
+							byte *p431 = at(p426, n429 * 40);
+							uint64_t n432 = load64u(p431);
+							if (n59 == 1) {
+								if (n60 != load64u(p431 + 8))
 									break;
 							}
-							if (n57 == 1) {
-								if ((n58 != n430) || (n403 > n430))
+							if (n61 == 1) {
+								if ((n62 != n432) || (n405 > n432))
 									break;
-							} else if (n403 > n430) {
+							} else if (n405 > n432) {
 								break;
 							}
-							n427 = n427 + 1;
+							n429 = n429 + 1;
 						}
-						n431 = n427;
-						n432 = n427;
+						n433 = n429;
+						n434 = n429;
 						for (;;) {
-							uint64_t n436;
-							uint64_t n433 = n431 + 1;
-							if (n433 >= n425) {
-								n428 = n432;
+							uint64_t n438;
+							uint64_t n435 = n433 + 1;
+							if (n435 >= n427) {
+								n430 = n434;
 								break;
 							}
-							byte *p434 = at(p424, n433 * 40);
-							uint64_t n435 = load64u(p434);
-							if (n55 == 1) {
-								if (n56 != load64u(p434 + 8)) {
-									n436 = 0;
+							byte *p436 = at(p426, n435 * 40);
+							uint64_t n437 = load64u(p436);
+							if (n59 == 1) {
+								if (n60 != load64u(p436 + 8)) {
+									n438 = 0;
 									goto L48;
 								}
 							}
-							if (n57 == 1) {
-								if (n58 != n435) {
-									n436 = 0;
+							if (n61 == 1) {
+								if (n62 != n437) {
+									n438 = 0;
 									goto L48;
 								}
 							}
-							n436 = (uint64_t)(n403 <= n435);
+							n438 = (uint64_t)(n405 <= n437);
 L48:
 							{
-								memmove(inside(p424, n432 * 40), p434, 40);
-								n431 = n433;
-								n432 = n432 + n436;
+								memmove(inside(p426, n434 * 40), p436, 40);
+								n433 = n435;
+								n434 = n434 + n438;
 							}
 						}
 L47:
 						{
-							if (n428 == 0) {
-								if (!b426)
-									rattle_dealloc(p424);
+							if (n430 == 0) {
+								if (!b428)
+									rattle_dealloc(p426);
 							} else {
-								uint64_t n440, n441, n444;
-								uint64_t n437 = load64(p16 + 16);
-								uint64_t n438 = load64(p16 + 8);
-								if ((n437 - n438) < 10) {
-									bool b439 = tp_std_alloc_vec_Vec_grow_amortized_6(p16, 10);
-									if (!b439)
+								uint64_t n442, n443, n446;
+								uint64_t n439 = load64(p17 + 16);
+								uint64_t n440 = load64(p17 + 8);
+								if ((n439 - n440) < 10) {
+									bool b441 = tp_std_alloc_vec_Vec_grow_amortized_6(p17, 10);
+									if (!b441)
 										goto L49;
-									n440 = load64(p16 + 16);
-									n441 = load64(p16 + 8);
+									n442 = load64(p17 + 16);
+									n443 = load64(p17 + 8);
 								} else {
-									n440 = n437;
-									n441 = n438;
+									n442 = n439;
+									n443 = n440;
 								}
-								byte *p442 = loadptr(p16);
-								byte *p443 = at(p442, n441);
-								if (((uint64_t)(uintptr_t)p443 - (uint64_t)(uintptr_t)(byte *)tp_static_284) >= 10) {
-									memcpy(p443, (byte *)tp_static_284, 10);
+								byte *p444 = loadptr(p17);
+								byte *p445 = at(p444, n443);
+								if (((uint64_t)(uintptr_t)p445 - (uint64_t)(uintptr_t)(byte *)tp_static_284) >= 10) {
+									memcpy(p445, (byte *)tp_static_284, 10);
 									goto L50;
 								}
-								n444 = 0;
-								while (n444 != 10) {
-									store8(inside(p443, n444), load8(inside((byte *)tp_static_284, n444)));
-									n444 = n444 + 1;
+								n446 = 0;
+								while (n446 != 10) {
+									store8(inside(p445, n446), load8(inside((byte *)tp_static_284, n446)));
+									n446 = n446 + 1;
 								}
 L50:
 								{
-									uint64_t n451;
-									storeptr(p16, p442);
-									store64(p16 + 8, n441 + 10);
-									store64(p16 + 16, n440);
-									uint64_t n445 = 0;
-									while (n445 != n428) {
-										byte *p446 = at(p424, n445 * 40);
-										uint8_t n447 = tp_render_push_number(p16, (byte *)tp_static_93, 1, load64(p446));
-										if ((n447 & 1) != 0)
+									uint64_t n453;
+									storeptr(p17, p444);
+									store64(p17 + 8, n443 + 10);
+									store64(p17 + 16, n442);
+									uint64_t n447 = 0;
+									while (n447 != n430) {
+										byte *p448 = at(p426, n447 * 40);
+										uint8_t n449 = tp_render_push_number(p17, (byte *)tp_static_93, 1, load64(p448));
+										if ((n449 & 1) != 0)
 											goto L51;
-										uint8_t n448 = tp_render_push_number(p16, (byte *)tp_static_191, 1, load64(p446 + 24));
-										if ((n448 & 1) != 0)
+										uint8_t n450 = tp_render_push_number(p17, (byte *)tp_static_191, 1, load64(p448 + 24));
+										if ((n450 & 1) != 0)
 											goto L52;
-										n445 = n445 + 1;
+										n447 = n447 + 1;
 									}
-									uint64_t n449 = load64(p16 + 8);
-									if (load64(p16 + 16) == n449) {
-										bool b450 = tp_std_alloc_vec_Vec_grow_amortized_6(p16, 1);
-										if (!b450)
+									uint64_t n451 = load64(p17 + 8);
+									if (load64(p17 + 16) == n451) {
+										bool b452 = tp_std_alloc_vec_Vec_grow_amortized_6(p17, 1);
+										if (!b452)
 											goto L53;
-										n451 = load64(p16 + 8);
+										n453 = load64(p17 + 8);
 									} else {
-										n451 = n449;
+										n453 = n451;
 									}
-									store8(inside(loadptr(p16), n451), 10);
-									store64(p16 + 8, n451 + 1);
-									if (!b426)
-										rattle_dealloc(p424);
+									store8(inside(loadptr(p17), n453), 10);
+									store64(p17 + 8, n453 + 1);
+									if (!b428)
+										rattle_dealloc(p426);
 								}
 							}
 						}
 L44:
 						{
-							byte *p452 = loadptr(p16);
-							uint64_t n453 = load64(p16 + 8);
-							uint64_t n454 = 0;
-							while (n454 < n453) {
-								uint64_t n455 = n453 - n454;
-								uint64_t n456 = os_write(1, at(p452, n454), n455);
-								if ((int64_t)n456 < (int64_t)0) {
+							byte *p454 = loadptr(p17);
+							uint64_t n455 = load64(p17 + 8);
+							uint64_t n456 = 0;
+							while (n456 < n455) {
+								uint64_t n457 = n455 - n456;
+								uint64_t n458 = os_write(1, at(p454, n456), n457);
+								if ((int64_t)n458 < (int64_t)0) {
 									tp_error_last_error(p8);
 									store8(p3 + 1, 1);
-									n457 = 3;
+									n459 = 3;
 									goto L54;
 								}
-								uint64_t n458 = umin64(n456, n455);
-								if (n458 == 0) {
+								uint64_t n460 = umin64(n458, n457);
+								if (n460 == 0) {
 									store8(p3 + 1, 1);
-									n457 = 3;
+									n459 = 3;
 									goto L54;
 								}
-								n454 = n454 + n458;
+								n456 = n456 + n460;
 							}
-							if (load64(p16 + 8) != 0)
-								store64(p16 + 8, 0);
-							n377 = n377 + 1;
+							if (load64(p17 + 8) != 0)
+								store64(p17 + 8, 0);
+							n379 = n379 + 1;
 						}
 					}
 				}
-				if (n373 == 1)
+				if (n375 == 1)
 					goto L55;
-				if (n372 == 0)
+				if (n374 == 0)
 					goto L56;
-				n371 = n371 + 1;
+				n373 = n373 + 1;
 			}
-			if (load64u(p18 + 24) != 0)
-				rattle_dealloc(loadptru(p18 + 8));
-			if (load64u(p18 + 48) != 0)
-				rattle_dealloc(loadptru(p18 + 32));
-			if (load64u(p18 + 72) != 0)
-				rattle_dealloc(loadptru(p18 + 56));
-			p459 = loadptru(p17 + 1112);
-			n460 = load64u(p17 + 1128);
-			p461 = loadptru(p17 + 1144);
-			n462 = load64u(p17 + 1160);
-			if (load64u(p17 + 32) != 0)
-				rattle_dealloc(loadptru(p17 + 16));
-			if (n460 != 0)
-				rattle_dealloc(p459);
+			if (load64u(p19 + 24) != 0)
+				rattle_dealloc(loadptru(p19 + 8));
+			if (load64u(p19 + 48) != 0)
+				rattle_dealloc(loadptru(p19 + 32));
+			if (load64u(p19 + 72) != 0)
+				rattle_dealloc(loadptru(p19 + 56));
+			p461 = loadptru(p18 + 1112);
+			n462 = load64u(p18 + 1128);
+			p463 = loadptru(p18 + 1144);
+			n464 = load64u(p18 + 1160);
+			if (load64u(p18 + 32) != 0)
+				rattle_dealloc(loadptru(p18 + 16));
 			if (n462 != 0)
 				rattle_dealloc(p461);
-			if (load64u(p17 + 1184) != 0)
-				rattle_dealloc(loadptru(p17 + 1168));
-			if (load64u(p17 + 1208) != 0)
-				rattle_dealloc(loadptru(p17 + 1192));
-			if (load64u(p16 + 16) != 0)
-				rattle_dealloc(loadptru(p16));
-			rattle_dealloc(p369);
-			n367 = 2;
-			n368 = 0;
+			if (n464 != 0)
+				rattle_dealloc(p463);
+			if (load64u(p18 + 1184) != 0)
+				rattle_dealloc(loadptru(p18 + 1168));
+			if (load64u(p18 + 1208) != 0)
+				rattle_dealloc(loadptru(p18 + 1192));
+			if (load64u(p17 + 16) != 0)
+				rattle_dealloc(loadptru(p17));
+			rattle_dealloc(p371);
+			n369 = 2;
+			n370 = 0;
 			goto L57;
 L41:
 			{
-				if (load64(p16 + 8) != 0)
-					store64(p16 + 8, 0);
-				n400 = 0;
+				if (load64(p17 + 8) != 0)
+					store64(p17 + 8, 0);
+				n402 = 0;
 				goto L43;
 			}
 L46:
@@ -54859,283 +54861,283 @@ L46:
 			}
 L49:
 			{
-				if (b426)
+				if (b428)
 					goto L45;
-				rattle_dealloc(p424);
+				rattle_dealloc(p426);
 				goto L45;
 			}
 L52:
 			{
-				if (b426)
+				if (b428)
 					goto L45;
-				rattle_dealloc(p424);
+				rattle_dealloc(p426);
 				goto L45;
 			}
 L51:
 			{
-				if (b426)
+				if (b428)
 					goto L45;
-				rattle_dealloc(p424);
+				rattle_dealloc(p426);
 				goto L45;
 			}
 L53:
 			{
-				if (!b426)
-					rattle_dealloc(p424);
+				if (!b428)
+					rattle_dealloc(p426);
 			}
 L45:
 			{
-				uint64_t n463 = load64(p16 + 8);
-				if (n463 > n401) {
-					store64(p16 + 8, n401);
-					n400 = n401;
+				uint64_t n465 = load64(p17 + 8);
+				if (n465 > n403) {
+					store64(p17 + 8, n403);
+					n402 = n403;
 				} else {
-					n400 = n463;
+					n402 = n465;
 				}
 			}
 L43:
 			{
-				byte *p464 = loadptr(p16);
-				uint64_t n465 = 0;
+				byte *p466 = loadptr(p17);
+				uint64_t n467 = 0;
 				for (;;) {
-					if (n465 >= n400) {
-						n457 = 2;
+					if (n467 >= n402) {
+						n459 = 2;
 						break;
 					}
-					uint64_t n466 = n400 - n465;
-					uint64_t n467 = os_write(1, at(p464, n465), n466);
-					if ((int64_t)n467 < (int64_t)0) {
+					uint64_t n468 = n402 - n467;
+					uint64_t n469 = os_write(1, at(p466, n467), n468);
+					if ((int64_t)n469 < (int64_t)0) {
 						tp_error_last_error(p9);
 						store8(p3 + 1, 1);
-						n457 = 3;
+						n459 = 3;
 						break;
 					}
-					uint64_t n468 = umin64(n467, n466);
-					if (n468 == 0) {
+					uint64_t n470 = umin64(n469, n468);
+					if (n470 == 0) {
 						store8(p3 + 1, 1);
-						n457 = 3;
+						n459 = 3;
 						break;
 					}
-					n465 = n465 + n468;
+					n467 = n467 + n470;
 				}
 			}
 L54:
 			{
-				if (load64u(p18 + 24) != 0)
-					rattle_dealloc(loadptru(p18 + 8));
-				if (load64u(p18 + 48) != 0)
-					rattle_dealloc(loadptru(p18 + 32));
-				if (load64u(p18 + 72) != 0)
-					rattle_dealloc(loadptru(p18 + 56));
-				byte *p469 = loadptru(p17 + 1112);
-				uint64_t n470 = load64u(p17 + 1128);
-				byte *p471 = loadptru(p17 + 1144);
-				uint64_t n472 = load64u(p17 + 1160);
-				if (load64u(p17 + 32) != 0)
-					rattle_dealloc(loadptru(p17 + 16));
-				if (n470 != 0)
-					rattle_dealloc(p469);
+				if (load64u(p19 + 24) != 0)
+					rattle_dealloc(loadptru(p19 + 8));
+				if (load64u(p19 + 48) != 0)
+					rattle_dealloc(loadptru(p19 + 32));
+				if (load64u(p19 + 72) != 0)
+					rattle_dealloc(loadptru(p19 + 56));
+				byte *p471 = loadptru(p18 + 1112);
+				uint64_t n472 = load64u(p18 + 1128);
+				byte *p473 = loadptru(p18 + 1144);
+				uint64_t n474 = load64u(p18 + 1160);
+				if (load64u(p18 + 32) != 0)
+					rattle_dealloc(loadptru(p18 + 16));
 				if (n472 != 0)
 					rattle_dealloc(p471);
-				if (load64u(p17 + 1184) != 0)
-					rattle_dealloc(loadptru(p17 + 1168));
-				if (load64u(p17 + 1208) != 0)
-					rattle_dealloc(loadptru(p17 + 1192));
-				if (load64u(p16 + 16) != 0)
-					rattle_dealloc(loadptru(p16));
-				rattle_dealloc(p369);
-				n367 = n457;
-				n368 = 0;
+				if (n474 != 0)
+					rattle_dealloc(p473);
+				if (load64u(p18 + 1184) != 0)
+					rattle_dealloc(loadptru(p18 + 1168));
+				if (load64u(p18 + 1208) != 0)
+					rattle_dealloc(loadptru(p18 + 1192));
+				if (load64u(p17 + 16) != 0)
+					rattle_dealloc(loadptru(p17));
+				rattle_dealloc(p371);
+				n369 = n459;
+				n370 = 0;
 				goto L57;
 			}
 L56:
 			{
-				uint64_t n473;
-				uint8_t n474, n475;
-				bool b476;
+				uint64_t n475;
+				uint8_t n476, n477;
+				bool b478;
 				memset(p7, 0, 24);
-				tp_Cutter_end(p7, p18, p4);
+				tp_Cutter_end(p7, p19, p4);
 				if (load8(p7) == 0) {
 					if (load8(p7 + 8) == 1) {
-						n473 = load64u(p7 + 16);
-						n474 = 1;
-						n475 = 1;
-						b476 = true;
+						n475 = load64u(p7 + 16);
+						n476 = 1;
+						n477 = 1;
+						b478 = true;
 					} else {
-						if (load64(p16 + 8) != 0)
-							store64(p16 + 8, 0);
-						uint8_t n477 = tp_text_push_end(p16, load64(p17), load64(p17 + 24) - load64(p17 + 40));
-						if ((n477 & 1) != 0) {
-							n473 = 0;
-							n474 = 2;
-							n475 = 1;
-							b476 = true;
+						if (load64(p17 + 8) != 0)
+							store64(p17 + 8, 0);
+						uint8_t n479 = tp_text_push_end(p17, load64(p18), load64(p18 + 24) - load64(p18 + 40));
+						if ((n479 & 1) != 0) {
+							n475 = 0;
+							n476 = 2;
+							n477 = 1;
+							b478 = true;
 						} else {
-							byte *p478 = loadptr(p16);
-							uint64_t n479 = load64(p16 + 8);
-							uint64_t n480 = 0;
-							while (n480 < n479) {
-								uint64_t n481 = n479 - n480;
-								uint64_t n482 = os_write(1, at(p478, n480), n481);
-								if ((int64_t)n482 < (int64_t)0) {
+							byte *p480 = loadptr(p17);
+							uint64_t n481 = load64(p17 + 8);
+							uint64_t n482 = 0;
+							while (n482 < n481) {
+								uint64_t n483 = n481 - n482;
+								uint64_t n484 = os_write(1, at(p480, n482), n483);
+								if ((int64_t)n484 < (int64_t)0) {
 									tp_error_last_error(p6);
 									goto L58;
 								}
-								uint64_t n483 = umin64(n482, n481);
-								if (n483 == 0)
+								uint64_t n485 = umin64(n484, n483);
+								if (n485 == 0)
 									goto L58;
-								n480 = n480 + n483;
+								n482 = n482 + n485;
 							}
-							n473 = 0;
-							n474 = 0;
-							n475 = (uint8_t)(load8(p18 + 88) ^ 1);
-							b476 = false;
+							n475 = 0;
+							n476 = 0;
+							n477 = (uint8_t)(load8(p19 + 88) ^ 1);
+							b478 = false;
 							goto L59;
 L58:
 							{
 								store8(p3 + 1, 1);
-								n473 = 0;
-								n474 = 3;
-								n475 = 1;
-								b476 = true;
+								n475 = 0;
+								n476 = 3;
+								n477 = 1;
+								b478 = true;
 							}
 						}
 					}
 				} else {
-					n473 = 0;
-					n474 = 2;
-					n475 = 1;
-					b476 = true;
+					n475 = 0;
+					n476 = 2;
+					n477 = 1;
+					b478 = true;
 				}
 L59:
 				{
-					if (load64u(p18 + 24) != 0)
-						rattle_dealloc(loadptru(p18 + 8));
-					if (load64u(p18 + 48) != 0)
-						rattle_dealloc(loadptru(p18 + 32));
-					if (load64u(p18 + 72) != 0)
-						rattle_dealloc(loadptru(p18 + 56));
-					byte *p484 = loadptru(p17 + 1112);
-					uint64_t n485 = load64u(p17 + 1128);
-					byte *p486 = loadptru(p17 + 1144);
-					uint64_t n487 = load64u(p17 + 1160);
-					if (load64u(p17 + 32) != 0)
-						rattle_dealloc(loadptru(p17 + 16));
-					if (n485 != 0)
-						rattle_dealloc(p484);
+					if (load64u(p19 + 24) != 0)
+						rattle_dealloc(loadptru(p19 + 8));
+					if (load64u(p19 + 48) != 0)
+						rattle_dealloc(loadptru(p19 + 32));
+					if (load64u(p19 + 72) != 0)
+						rattle_dealloc(loadptru(p19 + 56));
+					byte *p486 = loadptru(p18 + 1112);
+					uint64_t n487 = load64u(p18 + 1128);
+					byte *p488 = loadptru(p18 + 1144);
+					uint64_t n489 = load64u(p18 + 1160);
+					if (load64u(p18 + 32) != 0)
+						rattle_dealloc(loadptru(p18 + 16));
 					if (n487 != 0)
 						rattle_dealloc(p486);
-					if (load64u(p17 + 1184) != 0)
-						rattle_dealloc(loadptru(p17 + 1168));
-					if (load64u(p17 + 1208) != 0)
-						rattle_dealloc(loadptru(p17 + 1192));
-					if (load64u(p16 + 16) != 0)
-						rattle_dealloc(loadptru(p16));
-					rattle_dealloc(p369);
-					if (!b476)
-						return n475;
-					n488 = n473;
-					n489 = n474;
+					if (n489 != 0)
+						rattle_dealloc(p488);
+					if (load64u(p18 + 1184) != 0)
+						rattle_dealloc(loadptru(p18 + 1168));
+					if (load64u(p18 + 1208) != 0)
+						rattle_dealloc(loadptru(p18 + 1192));
+					if (load64u(p17 + 16) != 0)
+						rattle_dealloc(loadptru(p17));
+					rattle_dealloc(p371);
+					if (!b478)
+						return n477;
+					n490 = n475;
+					n491 = n476;
 					goto L60;
 				}
 			}
 L55:
 			{
-				if (load64u(p18 + 24) != 0)
-					rattle_dealloc(loadptru(p18 + 8));
-				if (load64u(p18 + 48) != 0)
-					rattle_dealloc(loadptru(p18 + 32));
-				if (load64u(p18 + 72) != 0)
-					rattle_dealloc(loadptru(p18 + 56));
-				byte *p490 = loadptru(p17 + 1112);
-				uint64_t n491 = load64u(p17 + 1128);
-				byte *p492 = loadptru(p17 + 1144);
-				uint64_t n493 = load64u(p17 + 1160);
-				if (load64u(p17 + 32) != 0)
-					rattle_dealloc(loadptru(p17 + 16));
-				if (n491 != 0)
-					rattle_dealloc(p490);
+				if (load64u(p19 + 24) != 0)
+					rattle_dealloc(loadptru(p19 + 8));
+				if (load64u(p19 + 48) != 0)
+					rattle_dealloc(loadptru(p19 + 32));
+				if (load64u(p19 + 72) != 0)
+					rattle_dealloc(loadptru(p19 + 56));
+				byte *p492 = loadptru(p18 + 1112);
+				uint64_t n493 = load64u(p18 + 1128);
+				byte *p494 = loadptru(p18 + 1144);
+				uint64_t n495 = load64u(p18 + 1160);
+				if (load64u(p18 + 32) != 0)
+					rattle_dealloc(loadptru(p18 + 16));
 				if (n493 != 0)
 					rattle_dealloc(p492);
-				if (load64u(p17 + 1184) != 0)
-					rattle_dealloc(loadptru(p17 + 1168));
-				if (load64u(p17 + 1208) != 0)
-					rattle_dealloc(loadptru(p17 + 1192));
-				if (load64u(p16 + 16) != 0)
-					rattle_dealloc(loadptru(p16));
-				rattle_dealloc(p369);
-				n367 = 1;
-				n368 = n374;
+				if (n495 != 0)
+					rattle_dealloc(p494);
+				if (load64u(p18 + 1184) != 0)
+					rattle_dealloc(loadptru(p18 + 1168));
+				if (load64u(p18 + 1208) != 0)
+					rattle_dealloc(loadptru(p18 + 1192));
+				if (load64u(p17 + 16) != 0)
+					rattle_dealloc(loadptru(p17));
+				rattle_dealloc(p371);
+				n369 = 1;
+				n370 = n376;
 				goto L57;
 			}
 L39:
 			{
 				tp_error_last_error(p13);
 				store8(p3, 1);
-				if (load64u(p18 + 24) != 0)
-					rattle_dealloc(loadptru(p18 + 8));
-				if (load64u(p18 + 48) != 0)
-					rattle_dealloc(loadptru(p18 + 32));
-				if (load64u(p18 + 72) != 0)
-					rattle_dealloc(loadptru(p18 + 56));
-				byte *p494 = loadptru(p17 + 1112);
-				uint64_t n495 = load64u(p17 + 1128);
-				byte *p496 = loadptru(p17 + 1144);
-				uint64_t n497 = load64u(p17 + 1160);
-				if (load64u(p17 + 32) != 0)
-					rattle_dealloc(loadptru(p17 + 16));
-				if (n495 != 0)
-					rattle_dealloc(p494);
+				if (load64u(p19 + 24) != 0)
+					rattle_dealloc(loadptru(p19 + 8));
+				if (load64u(p19 + 48) != 0)
+					rattle_dealloc(loadptru(p19 + 32));
+				if (load64u(p19 + 72) != 0)
+					rattle_dealloc(loadptru(p19 + 56));
+				byte *p496 = loadptru(p18 + 1112);
+				uint64_t n497 = load64u(p18 + 1128);
+				byte *p498 = loadptru(p18 + 1144);
+				uint64_t n499 = load64u(p18 + 1160);
+				if (load64u(p18 + 32) != 0)
+					rattle_dealloc(loadptru(p18 + 16));
 				if (n497 != 0)
 					rattle_dealloc(p496);
-				if (load64u(p17 + 1184) != 0)
-					rattle_dealloc(loadptru(p17 + 1168));
-				if (load64u(p17 + 1208) != 0)
-					rattle_dealloc(loadptru(p17 + 1192));
-				if (load64u(p16 + 16) != 0)
-					rattle_dealloc(loadptru(p16));
-				rattle_dealloc(p369);
-				n367 = 0;
-				n368 = 0;
+				if (n499 != 0)
+					rattle_dealloc(p498);
+				if (load64u(p18 + 1184) != 0)
+					rattle_dealloc(loadptru(p18 + 1168));
+				if (load64u(p18 + 1208) != 0)
+					rattle_dealloc(loadptru(p18 + 1192));
+				if (load64u(p17 + 16) != 0)
+					rattle_dealloc(loadptru(p17));
+				rattle_dealloc(p371);
+				n369 = 0;
+				n370 = 0;
 				goto L57;
 			}
 L38:
 			{
-				if (load64u(p18 + 24) != 0)
-					rattle_dealloc(loadptru(p18 + 8));
-				if (load64u(p18 + 48) != 0)
-					rattle_dealloc(loadptru(p18 + 32));
-				if (load64u(p18 + 72) != 0)
-					rattle_dealloc(loadptru(p18 + 56));
-				byte *p498 = loadptru(p17 + 1112);
-				uint64_t n499 = load64u(p17 + 1128);
-				byte *p500 = loadptru(p17 + 1144);
-				uint64_t n501 = load64u(p17 + 1160);
-				if (load64u(p17 + 32) != 0)
-					rattle_dealloc(loadptru(p17 + 16));
-				if (n499 != 0)
-					rattle_dealloc(p498);
+				if (load64u(p19 + 24) != 0)
+					rattle_dealloc(loadptru(p19 + 8));
+				if (load64u(p19 + 48) != 0)
+					rattle_dealloc(loadptru(p19 + 32));
+				if (load64u(p19 + 72) != 0)
+					rattle_dealloc(loadptru(p19 + 56));
+				byte *p500 = loadptru(p18 + 1112);
+				uint64_t n501 = load64u(p18 + 1128);
+				byte *p502 = loadptru(p18 + 1144);
+				uint64_t n503 = load64u(p18 + 1160);
+				if (load64u(p18 + 32) != 0)
+					rattle_dealloc(loadptru(p18 + 16));
 				if (n501 != 0)
 					rattle_dealloc(p500);
-				if (load64u(p17 + 1184) != 0)
-					rattle_dealloc(loadptru(p17 + 1168));
-				if (load64u(p17 + 1208) != 0)
-					rattle_dealloc(loadptru(p17 + 1192));
-				if (load64u(p16 + 16) != 0)
-					rattle_dealloc(loadptru(p16));
-				rattle_dealloc(p369);
-				n367 = 4;
-				n368 = 0;
+				if (n503 != 0)
+					rattle_dealloc(p502);
+				if (load64u(p18 + 1184) != 0)
+					rattle_dealloc(loadptru(p18 + 1168));
+				if (load64u(p18 + 1208) != 0)
+					rattle_dealloc(loadptru(p18 + 1192));
+				if (load64u(p17 + 16) != 0)
+					rattle_dealloc(loadptru(p17));
+				rattle_dealloc(p371);
+				n369 = 4;
+				n370 = 0;
 			}
 		}
 L57:
 		{
-			n488 = n368;
-			n489 = n367;
+			n490 = n370;
+			n491 = n369;
 		}
 L60:
 		{
-			tp_timer_commands_error_report_report_2(n489, n488, p4);
+			tp_timer_commands_error_report_report_2(n491, n490, p4);
 			return 1;
 		}
 	}
@@ -58516,7 +58518,7 @@ static uint8_t tp_timer_commands_verbs_do_verb_2(byte *p1, byte *p2, byte *p3, b
 	ALIGN(8) byte p10[48];
 	ALIGN(8) byte p11[48];
 	ALIGN(8) byte p12[88];
-	ALIGN(8) byte p13[16];
+	ALIGN(8) byte p13[32];
 	ALIGN(8) byte p14[16];
 	ALIGN(8) byte p15[32];
 	ALIGN(8) byte p16[1056];
@@ -58530,7 +58532,7 @@ static uint8_t tp_timer_commands_verbs_do_verb_2(byte *p1, byte *p2, byte *p3, b
 	ALIGN(8) byte p24[88];
 	ALIGN(8) byte p25[48];
 	ALIGN(8) byte p26[88];
-	ALIGN(8) byte p27[16];
+	ALIGN(8) byte p27[32];
 	ALIGN(8) byte p28[16];
 	ALIGN(8) byte p29[32];
 	ALIGN(8) byte p30[1056];
@@ -58544,7 +58546,7 @@ static uint8_t tp_timer_commands_verbs_do_verb_2(byte *p1, byte *p2, byte *p3, b
 	ALIGN(8) byte p38[88];
 	ALIGN(8) byte p39[48];
 	ALIGN(8) byte p40[88];
-	ALIGN(8) byte p41[16];
+	ALIGN(8) byte p41[32];
 	ALIGN(8) byte p42[16];
 	ALIGN(8) byte p43[32];
 	ALIGN(8) byte p44[1056];
@@ -58557,7 +58559,7 @@ static uint8_t tp_timer_commands_verbs_do_verb_2(byte *p1, byte *p2, byte *p3, b
 	ALIGN(8) byte p51[24];
 	ALIGN(8) byte p52[1240];
 	ALIGN(8) byte p53[24];
-	ALIGN(8) byte p54[16];
+	ALIGN(8) byte p54[32];
 	ALIGN(8) byte p55[16];
 	ALIGN(8) byte p56[32];
 	ALIGN(8) byte p57[1056];
@@ -58573,355 +58575,351 @@ static uint8_t tp_timer_commands_verbs_do_verb_2(byte *p1, byte *p2, byte *p3, b
 	uint64_t n67 = load64u(p1 + 56);
 	uint8_t n68 = load8(p1 + 64);
 	uint64_t n69 = load64u(p1 + 72);
-	uint64_t n70 = load64u(p2);
-	uint64_t n71 = load64u(p2 + 8);
-	byte *p72 = loadptru(p2 + 32);
-	uint64_t n73 = load64u(p2 + 40);
-	uint64_t n74 = load64u(p2 + 48);
-	byte *p75 = loadptru(p2 + 72);
-	uint64_t n76 = load64u(p2 + 80);
-	uint64_t n77 = load64u(p2 + 88);
-	byte *p78 = loadptru(p2 + 1184);
-	uint64_t n79 = load64u(p2 + 1192);
-	uint64_t n80 = load64u(p2 + 1200);
-	uint64_t n81 = load64u(p2 + 1208);
+	byte *p70 = loadptru(p2 + 32);
+	uint64_t n71 = load64u(p2 + 40);
+	uint64_t n72 = load64u(p2 + 48);
+	byte *p73 = loadptru(p2 + 72);
+	uint64_t n74 = load64u(p2 + 80);
+	uint64_t n75 = load64u(p2 + 88);
+	byte *p76 = loadptru(p2 + 1184);
+	uint64_t n77 = load64u(p2 + 1192);
+	uint64_t n78 = load64u(p2 + 1200);
+	uint64_t n79 = load64u(p2 + 1208);
 	switch (MOSTLY_0(load8(p1))) {
 	case 0: {
-		uint8_t n243;
-		uint64_t n244;
-		memcpy(p54, p2 + 16, 16);
+		uint8_t n241;
+		uint64_t n242;
+		memcpy(p54, p2, 32);
 		memcpy(p55, p2 + 56, 16);
 		memcpy(p56, p2 + 96, 32);
 		memcpy(p57, p2 + 128, 1056);
 		memset(p58, 0, 32);
 		tp_input_read_script(p58, p3);
 		if (load8(p58) == 0) {
-			byte *p86;
-			uint8_t n212;
-			uint64_t n213;
-			byte *p82 = loadptru(p58 + 8);
-			uint64_t n83 = load64u(p58 + 16);
-			bool b84 = load64u(p58 + 24) == 0;
+			byte *p84;
+			uint8_t n210;
+			uint64_t n211;
+			byte *p80 = loadptru(p58 + 8);
+			uint64_t n81 = load64u(p58 + 16);
+			bool b82 = load64u(p58 + 24) == 0;
 			memset(p53, 0, 24);
-			memcpy(p52 + 16, p54, 16);
-			storeptr(p52 + 32, p72);
-			store64(p52 + 40, n73);
-			store64(p52 + 48, n74);
+			memcpy(p52, p54, 32);
+			storeptr(p52 + 32, p70);
+			store64(p52 + 40, n71);
+			store64(p52 + 48, n72);
 			memcpy(p52 + 56, p55, 16);
-			storeptr(p52 + 72, p75);
-			store64(p52 + 80, n76);
-			store64(p52 + 88, n77);
+			storeptr(p52 + 72, p73);
+			store64(p52 + 80, n74);
+			store64(p52 + 88, n75);
 			memcpy(p52 + 96, p56, 32);
 			memcpy(p52 + 128, p57, 1056);
-			storeptr(p52 + 1184, p78);
-			store64(p52 + 1192, n79);
-			store64(p52 + 1200, n80);
-			store64(p52 + 1208, n81);
-			store64u(p52, n70);
-			store64u(p52 + 8, n71);
+			storeptr(p52 + 1184, p76);
+			store64(p52 + 1192, n77);
+			store64(p52 + 1200, n78);
+			store64(p52 + 1208, n79);
 			storeptru(p52 + 1216, p5);
 			memset(p52 + 1224, 0, 16);
-			uint64_t n85 = (n83 > UINT64_C(4611686018427387903)) ? UINT64_MAX : (n83 << 2);
-			if (n85 != 0) {
-				uint64_t n87, n89, n91;
-				byte *p88, *p90;
-				if ((int64_t)n85 < (int64_t)0) {
-					n87 = n80;
-					p88 = p78;
-					n89 = n77;
-					p90 = p75;
-					n91 = n74;
+			uint64_t n83 = (n81 > UINT64_C(4611686018427387903)) ? UINT64_MAX : (n81 << 2);
+			if (n83 != 0) {
+				uint64_t n85, n87, n89;
+				byte *p86, *p88;
+				if ((int64_t)n83 < (int64_t)0) {
+					n85 = n78;
+					p86 = p76;
+					n87 = n75;
+					p88 = p73;
+					n89 = n72;
 				} else {
-					of_i64_i64 s92 = rattle_alloc(n85, 1);
-					if ((s92.f0 & 1) != 0) {
-						p86 = (byte *)(uintptr_t)s92.f1;
+					of_i64_i64 s90 = rattle_alloc(n83, 1);
+					if ((s90.f0 & 1) != 0) {
+						p84 = (byte *)(uintptr_t)s90.f1;
 						goto L1;
 					}
-					n87 = load64u(p52 + 1200);
-					p88 = loadptru(p52 + 1184);
-					n89 = load64u(p52 + 88);
-					p90 = loadptru(p52 + 72);
-					n91 = load64u(p52 + 48);
+					n85 = load64u(p52 + 1200);
+					p86 = loadptru(p52 + 1184);
+					n87 = load64u(p52 + 88);
+					p88 = loadptru(p52 + 72);
+					n89 = load64u(p52 + 48);
 				}
-				if (n91 != 0)
-					rattle_dealloc(loadptru(p52 + 32));
 				if (n89 != 0)
-					rattle_dealloc(p90);
+					rattle_dealloc(loadptru(p52 + 32));
 				if (n87 != 0)
 					rattle_dealloc(p88);
+				if (n85 != 0)
+					rattle_dealloc(p86);
 				if (load64u(p52 + 1232) == 0)
 					goto L2;
 				rattle_dealloc(loadptru(p52 + 1216));
 				goto L2;
 			}
-			p86 = p5;
+			p84 = p5;
 L1:
 			{
-				bool b205;
-				uint64_t n206;
-				storeptru(p53, p86);
+				bool b203;
+				uint64_t n204;
+				storeptru(p53, p84);
 				store64u(p53 + 8, 0);
-				store64u(p53 + 16, n85);
+				store64u(p53 + 16, n83);
 				memset(p51 + 8, 0, 16);
 				storeptru(p51, p5);
-				uint64_t n93 = 0;
-				byte *p94 = p82;
-				uint64_t n95 = n83;
+				uint64_t n91 = 0;
+				byte *p92 = p80;
+				uint64_t n93 = n81;
 				for (;;) {
-					byte *p134, *p152, *p159, *p165, *p171, *p172, *p198;
-					uint64_t n135, n136, n137, n138, n139, n153, n154, n155, n156, n157, n160, n161, n162, n163, n166, n167, n168, n169, n173, n174, n175, n176, n199;
-					uint8_t n200;
-					if (n95 == 0)
+					byte *p132, *p150, *p157, *p163, *p169, *p170, *p196;
+					uint64_t n133, n134, n135, n136, n137, n151, n152, n153, n154, n155, n158, n159, n160, n161, n164, n165, n166, n167, n171, n172, n173, n174, n197;
+					uint8_t n198;
+					if (n93 == 0)
 						goto L3;
-					if (n95 < 6) {
-						if (n95 != 5)
+					if (n93 < 6) {
+						if (n93 != 5)
 							goto L4;
-						uint32_t n96 = ((((uint32_t)load8(p94 + 3) << 24) | ((uint32_t)load8(p94 + 2) << 16)) | ((uint32_t)load8(p94 + 1) << 8)) | (uint32_t)load8(p94);
-						if (n96 != 1886352499)
+						uint32_t n94 = ((((uint32_t)load8(p92 + 3) << 24) | ((uint32_t)load8(p92 + 2) << 16)) | ((uint32_t)load8(p92 + 1) << 8)) | (uint32_t)load8(p92);
+						if (n94 != 1886352499)
 							goto L5;
+						uint64_t n95 = 0;
+						bool b96 = false;
+						while (n95 != 1) {
+							n95 = 1;
+							b96 = (int)b96 | (int)(32 != load8(p92 + 4));
+						}
 						uint64_t n97 = 0;
 						bool b98 = false;
 						while (n97 != 1) {
 							n97 = 1;
-							b98 = (int)b98 | (int)(32 != load8(p94 + 4));
+							b98 = (int)b98 | (int)(32 != load8(p92 + 4));
 						}
 						uint64_t n99 = 0;
 						bool b100 = false;
 						while (n99 != 1) {
 							n99 = 1;
-							b100 = (int)b100 | (int)(32 != load8(p94 + 4));
+							b100 = (int)b100 | (int)(32 != load8(p92 + 4));
 						}
-						uint64_t n101 = 0;
-						bool b102 = false;
-						while (n101 != 1) {
-							n101 = 1;
-							b102 = (int)b102 | (int)(32 != load8(p94 + 4));
-						}
-						if ((int)((int)b98 | (int)b100) | (int)b102)
+						if ((int)((int)b96 | (int)b98) | (int)b100)
 							goto L5;
 					} else {
-						uint32_t n103 = ((((uint32_t)load8(p94 + 3) << 24) | ((uint32_t)load8(p94 + 2) << 16)) | ((uint32_t)load8(p94 + 1) << 8)) | (uint32_t)load8(p94);
-						switch (n103) {
+						uint32_t n101 = ((((uint32_t)load8(p92 + 3) << 24) | ((uint32_t)load8(p92 + 2) << 16)) | ((uint32_t)load8(p92 + 1) << 8)) | (uint32_t)load8(p92);
+						switch (n101) {
 						case 1918989427: {
-							uint64_t n113, n119, n125, n131;
+							uint64_t n111, n117, n123, n129;
+							uint64_t n102 = 0;
+							bool b103 = false;
+							while (n102 != 1) {
+								n102 = 1;
+								b103 = (int)b103 | (int)(116 != load8(p92 + 4));
+							}
 							uint64_t n104 = 0;
 							bool b105 = false;
 							while (n104 != 1) {
 								n104 = 1;
-								b105 = (int)b105 | (int)(116 != load8(p94 + 4));
+								b105 = (int)b105 | (int)(32 != load8(p92 + 5));
 							}
 							uint64_t n106 = 0;
 							bool b107 = false;
 							while (n106 != 1) {
 								n106 = 1;
-								b107 = (int)b107 | (int)(32 != load8(p94 + 5));
+								b107 = (int)b107 | (int)(32 != load8(p92 + 5));
 							}
-							uint64_t n108 = 0;
-							bool b109 = false;
-							while (n108 != 1) {
-								n108 = 1;
-								b109 = (int)b109 | (int)(32 != load8(p94 + 5));
-							}
-							if ((int)((int)b105 | (int)b107) | (int)b109)
+							if ((int)((int)b103 | (int)b105) | (int)b107)
 								goto L5;
-							uint64_t n110 = n95 - 6;
-							uint64_t n111 = 0;
-							uint64_t n112 = 0;
+							uint64_t n108 = n93 - 6;
+							uint64_t n109 = 0;
+							uint64_t n110 = 0;
 							for (;;) {
-								if (n111 == n110) {
-									n113 = n110;
+								if (n109 == n108) {
+									n111 = n108;
 									break;
 								}
-								uint8_t n114 = load8(at(p94 + 6, n111));
-								if ((uint8_t)(n114 - 48) >= 10) {
-									n113 = n111;
+								uint8_t n112 = load8(at(p92 + 6, n109));
+								if ((uint8_t)(n112 - 48) >= 10) {
+									n111 = n109;
 									break;
 								}
-								n111 = n111 + 1;
-								n112 = (n112 * 10) + (uint64_t)(uint8_t)(n114 & 15);
+								n109 = n109 + 1;
+								n110 = (n110 * 10) + (uint64_t)(uint8_t)(n112 & 15);
 							}
-							switch (n113) {
+							switch (n111) {
 							case 0: {
 								goto L6;
 							}
 							case 1: {
-								if (n112 > UINT64_C(1152921504606846975))
+								if (n110 > UINT64_C(1152921504606846975))
 									goto L6;
 								break;
 							}
 							default: {
-								if (((int)(load8(p94 + 6) == 48) | (int)(n113 > 19)) || (n112 > UINT64_C(1152921504606846975)))
+								if (((int)(load8(p92 + 6) == 48) | (int)(n111 > 19)) || (n110 > UINT64_C(1152921504606846975)))
 									goto L6;
 								break;
 							}
 							}
-							byte *p115 = at(p94 + 6, n113);
-							if (n110 == n113)
+							byte *p113 = at(p92 + 6, n111);
+							if (n108 == n111)
 								goto L6;
-							if (load8(p115) != 32)
+							if (load8(p113) != 32)
 								goto L6;
-							uint64_t n116 = n110 + (n113 ^ UINT64_MAX);
-							uint64_t n117 = 0;
-							uint64_t n118 = 0;
+							uint64_t n114 = n108 + (n111 ^ UINT64_MAX);
+							uint64_t n115 = 0;
+							uint64_t n116 = 0;
 							for (;;) {
-								if (n117 == n116) {
-									n119 = n116;
+								if (n115 == n114) {
+									n117 = n114;
 									break;
 								}
-								uint8_t n120 = load8(at(p115 + 1, n117));
-								if ((uint8_t)(n120 - 48) >= 10) {
-									n119 = n117;
+								uint8_t n118 = load8(at(p113 + 1, n115));
+								if ((uint8_t)(n118 - 48) >= 10) {
+									n117 = n115;
 									break;
 								}
-								n117 = n117 + 1;
-								n118 = (n118 * 10) + (uint64_t)(uint8_t)(n120 & 15);
+								n115 = n115 + 1;
+								n116 = (n116 * 10) + (uint64_t)(uint8_t)(n118 & 15);
 							}
-							switch (n119) {
+							switch (n117) {
 							case 0: {
 								goto L6;
 							}
 							case 1: {
-								if (n118 > UINT64_C(1152921504606846975))
+								if (n116 > UINT64_C(1152921504606846975))
 									goto L6;
 								break;
 							}
 							default: {
-								if (((int)(load8(p115 + 1) == 48) | (int)(n119 > 19)) || (n118 > UINT64_C(1152921504606846975)))
+								if (((int)(load8(p113 + 1) == 48) | (int)(n117 > 19)) || (n116 > UINT64_C(1152921504606846975)))
 									goto L6;
 								break;
 							}
 							}
-							byte *p121 = at(p115 + 1, n119);
-							if (n116 == n119)
+							byte *p119 = at(p113 + 1, n117);
+							if (n114 == n117)
 								goto L6;
-							if (load8(p121) != 32)
+							if (load8(p119) != 32)
 								goto L6;
-							uint64_t n122 = n116 + (n119 ^ UINT64_MAX);
-							uint64_t n123 = 0;
-							uint64_t n124 = 0;
+							uint64_t n120 = n114 + (n117 ^ UINT64_MAX);
+							uint64_t n121 = 0;
+							uint64_t n122 = 0;
 							for (;;) {
-								if (n123 == n122) {
-									n125 = n122;
+								if (n121 == n120) {
+									n123 = n120;
 									break;
 								}
-								uint8_t n126 = load8(at(p121 + 1, n123));
-								if ((uint8_t)(n126 - 48) >= 10) {
-									n125 = n123;
+								uint8_t n124 = load8(at(p119 + 1, n121));
+								if ((uint8_t)(n124 - 48) >= 10) {
+									n123 = n121;
 									break;
 								}
-								n123 = n123 + 1;
-								n124 = (n124 * 10) + (uint64_t)(uint8_t)(n126 & 15);
+								n121 = n121 + 1;
+								n122 = (n122 * 10) + (uint64_t)(uint8_t)(n124 & 15);
 							}
-							switch (n125) {
+							switch (n123) {
 							case 0: {
 								goto L6;
 							}
 							case 1: {
-								if (n124 > UINT64_C(1152921504606846975))
+								if (n122 > UINT64_C(1152921504606846975))
 									goto L6;
 								break;
 							}
 							default: {
-								if (((int)(load8(p121 + 1) == 48) | (int)(n125 > 19)) || (n124 > UINT64_C(1152921504606846975)))
+								if (((int)(load8(p119 + 1) == 48) | (int)(n123 > 19)) || (n122 > UINT64_C(1152921504606846975)))
 									goto L6;
 								break;
 							}
 							}
-							byte *p127 = at(p121 + 1, n125);
-							if (n122 == n125)
+							byte *p125 = at(p119 + 1, n123);
+							if (n120 == n123)
 								goto L6;
-							if (load8(p127) != 32)
+							if (load8(p125) != 32)
 								goto L6;
-							uint64_t n128 = n122 + (n125 ^ UINT64_MAX);
-							uint64_t n129 = 0;
-							uint64_t n130 = 0;
+							uint64_t n126 = n120 + (n123 ^ UINT64_MAX);
+							uint64_t n127 = 0;
+							uint64_t n128 = 0;
 							for (;;) {
-								if (n129 == n128) {
-									n131 = n128;
+								if (n127 == n126) {
+									n129 = n126;
 									break;
 								}
-								uint8_t n132 = load8(at(p127 + 1, n129));
-								if ((uint8_t)(n132 - 48) >= 10) {
-									n131 = n129;
+								uint8_t n130 = load8(at(p125 + 1, n127));
+								if ((uint8_t)(n130 - 48) >= 10) {
+									n129 = n127;
 									break;
 								}
-								n129 = n129 + 1;
-								n130 = (n130 * 10) + (uint64_t)(uint8_t)(n132 & 15);
+								n127 = n127 + 1;
+								n128 = (n128 * 10) + (uint64_t)(uint8_t)(n130 & 15);
 							}
-							switch (n131) {
+							switch (n129) {
 							case 0: {
 								goto L6;
 							}
 							case 1: {
-								if (n130 > UINT64_C(1152921504606846975))
+								if (n128 > UINT64_C(1152921504606846975))
 									goto L6;
 								break;
 							}
 							default: {
-								if (((int)(load8(p127 + 1) == 48) | (int)(n131 > 19)) || (n130 > UINT64_C(1152921504606846975)))
+								if (((int)(load8(p125 + 1) == 48) | (int)(n129 > 19)) || (n128 > UINT64_C(1152921504606846975)))
 									goto L6;
 								break;
 							}
 							}
-							byte *p133 = at(p127 + 1, n131);
-							if (n128 == n131)
+							byte *p131 = at(p125 + 1, n129);
+							if (n126 == n129)
 								goto L6;
-							if (load8(p133) != 10)
+							if (load8(p131) != 10)
 								goto L6;
-							p134 = p133 + 1;
-							n135 = n128 + (n131 ^ UINT64_MAX);
-							n136 = n112;
-							n137 = n118;
-							n138 = n124;
-							n139 = n130;
+							p132 = p131 + 1;
+							n133 = n126 + (n129 ^ UINT64_MAX);
+							n134 = n110;
+							n135 = n116;
+							n136 = n122;
+							n137 = n128;
 							goto L7;
 						}
 						case 1886352499: {
+							uint64_t n138 = 0;
+							bool b139 = false;
+							while (n138 != 1) {
+								n138 = 1;
+								b139 = (int)b139 | (int)(32 != load8(p92 + 4));
+							}
 							uint64_t n140 = 0;
 							bool b141 = false;
 							while (n140 != 1) {
 								n140 = 1;
-								b141 = (int)b141 | (int)(32 != load8(p94 + 4));
+								b141 = (int)b141 | (int)(32 != load8(p92 + 4));
 							}
 							uint64_t n142 = 0;
 							bool b143 = false;
 							while (n142 != 1) {
 								n142 = 1;
-								b143 = (int)b143 | (int)(32 != load8(p94 + 4));
+								b143 = (int)b143 | (int)(32 != load8(p92 + 4));
 							}
-							uint64_t n144 = 0;
-							bool b145 = false;
-							while (n144 != 1) {
-								n144 = 1;
-								b145 = (int)b145 | (int)(32 != load8(p94 + 4));
-							}
-							if ((int)((int)b141 | (int)b143) | (int)b145)
+							if ((int)((int)b139 | (int)b141) | (int)b143)
 								goto L5;
 							break;
 						}
 						case 1936682083: {
+							uint64_t n144 = 0;
+							bool b145 = false;
+							while (n144 != 1) {
+								n144 = 1;
+								b145 = (int)b145 | (int)(101 != load8(p92 + 4));
+							}
 							uint64_t n146 = 0;
 							bool b147 = false;
 							while (n146 != 1) {
 								n146 = 1;
-								b147 = (int)b147 | (int)(101 != load8(p94 + 4));
+								b147 = (int)b147 | (int)(10 != load8(p92 + 5));
 							}
 							uint64_t n148 = 0;
 							bool b149 = false;
 							while (n148 != 1) {
 								n148 = 1;
-								b149 = (int)b149 | (int)(10 != load8(p94 + 5));
+								b149 = (int)b149 | (int)(10 != load8(p92 + 5));
 							}
-							uint64_t n150 = 0;
-							bool b151 = false;
-							while (n150 != 1) {
-								n150 = 1;
-								b151 = (int)b151 | (int)(10 != load8(p94 + 5));
-							}
-							if ((int)((int)b147 | (int)b149) | (int)b151)
+							if ((int)((int)b145 | (int)b147) | (int)b149)
 								goto L5;
-							p152 = p94 + 6;
-							n153 = n95 - 6;
+							p150 = p92 + 6;
+							n151 = n93 - 6;
 							goto L8;
 						}
 						default: {
@@ -58929,228 +58927,228 @@ L1:
 						}
 						}
 					}
-					n154 = n95 - 5;
-					n155 = 0;
-					n156 = 0;
+					n152 = n93 - 5;
+					n153 = 0;
+					n154 = 0;
 					for (;;) {
-						if (n155 == n154) {
-							n157 = n154;
+						if (n153 == n152) {
+							n155 = n152;
 							break;
 						}
-						uint8_t n158 = load8(at(p94 + 5, n155));
-						if ((uint8_t)(n158 - 48) >= 10) {
-							n157 = n155;
+						uint8_t n156 = load8(at(p92 + 5, n153));
+						if ((uint8_t)(n156 - 48) >= 10) {
+							n155 = n153;
 							break;
 						}
-						n155 = n155 + 1;
-						n156 = (n156 * 10) + (uint64_t)(uint8_t)(n158 & 15);
+						n153 = n153 + 1;
+						n154 = (n154 * 10) + (uint64_t)(uint8_t)(n156 & 15);
 					}
-					switch (n157) {
+					switch (n155) {
 					case 0: {
 						goto L6;
 					}
 					case 1: {
-						if (n156 > UINT64_C(1152921504606846975))
+						if (n154 > UINT64_C(1152921504606846975))
 							goto L6;
 						break;
 					}
 					default: {
-						if (((int)(load8(p94 + 5) == 48) | (int)(n157 > 19)) || (n156 > UINT64_C(1152921504606846975)))
+						if (((int)(load8(p92 + 5) == 48) | (int)(n155 > 19)) || (n154 > UINT64_C(1152921504606846975)))
 							goto L6;
 						break;
 					}
 					}
-					p159 = at(p94 + 5, n157);
-					if (n154 == n157)
+					p157 = at(p92 + 5, n155);
+					if (n152 == n155)
 						goto L6;
-					if (load8(p159) != 32)
+					if (load8(p157) != 32)
 						goto L6;
-					n160 = n154 + (n157 ^ UINT64_MAX);
-					n161 = 0;
-					n162 = 0;
+					n158 = n152 + (n155 ^ UINT64_MAX);
+					n159 = 0;
+					n160 = 0;
 					for (;;) {
-						if (n161 == n160) {
-							n163 = n160;
+						if (n159 == n158) {
+							n161 = n158;
 							break;
 						}
-						uint8_t n164 = load8(at(p159 + 1, n161));
-						if ((uint8_t)(n164 - 48) >= 10) {
-							n163 = n161;
+						uint8_t n162 = load8(at(p157 + 1, n159));
+						if ((uint8_t)(n162 - 48) >= 10) {
+							n161 = n159;
 							break;
 						}
-						n161 = n161 + 1;
-						n162 = (n162 * 10) + (uint64_t)(uint8_t)(n164 & 15);
+						n159 = n159 + 1;
+						n160 = (n160 * 10) + (uint64_t)(uint8_t)(n162 & 15);
 					}
-					switch (n163) {
+					switch (n161) {
 					case 0: {
 						goto L6;
 					}
 					case 1: {
-						if (n162 > UINT64_C(1152921504606846975))
+						if (n160 > UINT64_C(1152921504606846975))
 							goto L6;
 						break;
 					}
 					default: {
-						if (((int)(load8(p159 + 1) == 48) | (int)(n163 > 19)) || (n162 > UINT64_C(1152921504606846975)))
+						if (((int)(load8(p157 + 1) == 48) | (int)(n161 > 19)) || (n160 > UINT64_C(1152921504606846975)))
 							goto L6;
 						break;
 					}
 					}
-					p165 = at(p159 + 1, n163);
-					if (n160 == n163)
+					p163 = at(p157 + 1, n161);
+					if (n158 == n161)
 						goto L6;
-					if (load8(p165) != 32)
+					if (load8(p163) != 32)
 						goto L6;
-					n166 = n160 + (n163 ^ UINT64_MAX);
-					n167 = 0;
-					n168 = 0;
+					n164 = n158 + (n161 ^ UINT64_MAX);
+					n165 = 0;
+					n166 = 0;
 					for (;;) {
-						if (n167 == n166) {
-							n169 = n166;
+						if (n165 == n164) {
+							n167 = n164;
 							break;
 						}
-						uint8_t n170 = load8(at(p165 + 1, n167));
-						if ((uint8_t)(n170 - 48) >= 10) {
-							n169 = n167;
+						uint8_t n168 = load8(at(p163 + 1, n165));
+						if ((uint8_t)(n168 - 48) >= 10) {
+							n167 = n165;
 							break;
 						}
-						n167 = n167 + 1;
-						n168 = (n168 * 10) + (uint64_t)(uint8_t)(n170 & 15);
+						n165 = n165 + 1;
+						n166 = (n166 * 10) + (uint64_t)(uint8_t)(n168 & 15);
 					}
-					switch (n169) {
+					switch (n167) {
 					case 0: {
 						goto L6;
 					}
 					case 1: {
-						if (n168 > UINT64_C(1152921504606846975))
+						if (n166 > UINT64_C(1152921504606846975))
 							goto L6;
 						break;
 					}
 					default: {
-						if (((int)(load8(p165 + 1) == 48) | (int)(n169 > 19)) || (n168 > UINT64_C(1152921504606846975)))
+						if (((int)(load8(p163 + 1) == 48) | (int)(n167 > 19)) || (n166 > UINT64_C(1152921504606846975)))
 							goto L6;
 						break;
 					}
 					}
-					p171 = at(p165 + 1, n169);
-					if (n166 == n169)
+					p169 = at(p163 + 1, n167);
+					if (n164 == n167)
 						goto L6;
-					if (load8(p171) != 10)
+					if (load8(p169) != 10)
 						goto L6;
-					p172 = p171 + 1;
-					n173 = n166 + (n169 ^ UINT64_MAX);
-					n174 = n156;
-					n175 = n162;
-					n176 = n168;
+					p170 = p169 + 1;
+					n171 = n164 + (n167 ^ UINT64_MAX);
+					n172 = n154;
+					n173 = n160;
+					n174 = n166;
 					goto L9;
 L5:
 					{
-						uint8_t n184;
-						uint64_t n185, n186, n187, n188, n189, n190, n192, n193, n195;
-						byte *p191;
-						bool b194, b196;
+						uint8_t n182;
+						uint64_t n183, n184, n185, n186, n187, n188, n190, n191, n193;
+						byte *p189;
+						bool b192, b194;
 						memset(p50, 0, 72);
-						uint32_t n177 = ((((uint32_t)load8(p94 + 3) << 24) | ((uint32_t)load8(p94 + 2) << 16)) | ((uint32_t)load8(p94 + 1) << 8)) | (uint32_t)load8(p94);
-						if (n177 == 1801677172) {
-							if (n95 == 4)
+						uint32_t n175 = ((((uint32_t)load8(p92 + 3) << 24) | ((uint32_t)load8(p92 + 2) << 16)) | ((uint32_t)load8(p92 + 1) << 8)) | (uint32_t)load8(p92);
+						if (n175 == 1801677172) {
+							if (n93 == 4)
 								goto L4;
+							uint64_t n176 = 0;
+							bool b177 = false;
+							while (n176 != 1) {
+								n176 = 1;
+								b177 = (int)b177 | (int)(32 != load8(p92 + 4));
+							}
 							uint64_t n178 = 0;
 							bool b179 = false;
 							while (n178 != 1) {
 								n178 = 1;
-								b179 = (int)b179 | (int)(32 != load8(p94 + 4));
+								b179 = (int)b179 | (int)(32 != load8(p92 + 4));
 							}
 							uint64_t n180 = 0;
 							bool b181 = false;
 							while (n180 != 1) {
 								n180 = 1;
-								b181 = (int)b181 | (int)(32 != load8(p94 + 4));
+								b181 = (int)b181 | (int)(32 != load8(p92 + 4));
 							}
-							uint64_t n182 = 0;
-							bool b183 = false;
-							while (n182 != 1) {
-								n182 = 1;
-								b183 = (int)b183 | (int)(32 != load8(p94 + 4));
-							}
-							if (!((int)((int)b179 | (int)b181) | (int)b183)) {
-								tp_lines_read_tick(p50, p94 + 5, n95 - 5);
-								n184 = load8(p50);
-								n185 = load64u(p50 + 8);
-								n186 = load64u(p50 + 16);
-								n187 = load64u(p50 + 24);
-								n188 = load64u(p50 + 32);
-								n189 = load64u(p50 + 40);
-								n190 = load64u(p50 + 48);
-								p191 = loadptru(p50 + 56);
-								n192 = load64u(p50 + 64);
+							if (!((int)((int)b177 | (int)b179) | (int)b181)) {
+								tp_lines_read_tick(p50, p92 + 5, n93 - 5);
+								n182 = load8(p50);
+								n183 = load64u(p50 + 8);
+								n184 = load64u(p50 + 16);
+								n185 = load64u(p50 + 24);
+								n186 = load64u(p50 + 32);
+								n187 = load64u(p50 + 40);
+								n188 = load64u(p50 + 48);
+								p189 = loadptru(p50 + 56);
+								n190 = load64u(p50 + 64);
 								goto L10;
 							}
 						}
-						if (!((int)(n95 > 7) & (int)(n177 == 1953719666)))
+						if (!((int)(n93 > 7) & (int)(n175 == 1953719666)))
 							goto L4;
+						n191 = 0;
+						b192 = false;
+						while (n191 != 4) {
+							b192 = (int)b192 | (int)(load8(at((byte *)tp_static_220 + 4, n191)) != load8(at(p92 + 4, n191)));
+							n191 = n191 + 1;
+						}
 						n193 = 0;
 						b194 = false;
 						while (n193 != 4) {
-							b194 = (int)b194 | (int)(load8(at((byte *)tp_static_220 + 4, n193)) != load8(at(p94 + 4, n193)));
+							b194 = (int)b194 | (int)(load8(at((byte *)tp_static_220 + 4, n193)) != load8(at(p92 + 4, n193)));
 							n193 = n193 + 1;
 						}
-						n195 = 0;
-						b196 = false;
-						while (n195 != 4) {
-							b196 = (int)b196 | (int)(load8(at((byte *)tp_static_220 + 4, n195)) != load8(at(p94 + 4, n195)));
-							n195 = n195 + 1;
-						}
-						if ((int)b194 | (int)b196)
+						if ((int)b192 | (int)b194)
 							goto L4;
-						tp_lines_read_restart(p50, p94 + 8, n95 - 8);
-						n184 = load8(p50);
-						n185 = load64u(p50 + 8);
-						n186 = load64u(p50 + 16);
-						n187 = load64u(p50 + 24);
-						n188 = load64u(p50 + 32);
-						n189 = load64u(p50 + 40);
-						n190 = load64u(p50 + 48);
-						p191 = loadptru(p50 + 56);
-						n192 = load64u(p50 + 64);
+						tp_lines_read_restart(p50, p92 + 8, n93 - 8);
+						n182 = load8(p50);
+						n183 = load64u(p50 + 8);
+						n184 = load64u(p50 + 16);
+						n185 = load64u(p50 + 24);
+						n186 = load64u(p50 + 32);
+						n187 = load64u(p50 + 40);
+						n188 = load64u(p50 + 48);
+						p189 = loadptru(p50 + 56);
+						n190 = load64u(p50 + 64);
 L10:
 						{
-							if (n184 != 1)
+							if (n182 != 1)
 								goto L6;
-							switch (MOSTLY_0((uint8_t)n185)) {
+							switch (MOSTLY_0((uint8_t)n183)) {
 							case 0: {
-								p134 = p191;
-								n135 = n192;
+								p132 = p189;
+								n133 = n190;
+								n134 = n184;
+								n135 = n185;
 								n136 = n186;
 								n137 = n187;
-								n138 = n188;
-								n139 = n189;
 								goto L7;
 							}
 							case 1: {
-								p172 = p191;
-								n173 = n192;
+								p170 = p189;
+								n171 = n190;
+								n172 = n184;
+								n173 = n185;
 								n174 = n186;
-								n175 = n187;
-								n176 = n188;
 								goto L9;
 							}
 							case 2: {
-								uint8_t n197 = tp_timer_script_script_run_answer_restart_2(p52, n186, n187, n188, n189, n190, p53);
-								p198 = p191;
-								n199 = n192;
-								n200 = n197;
+								uint8_t n195 = tp_timer_script_script_run_answer_restart_2(p52, n184, n185, n186, n187, n188, p53);
+								p196 = p189;
+								n197 = n190;
+								n198 = n195;
 								goto L11;
 							}
 							case 3: {
-								uint8_t n201 = tp_timer_script_script_run_answer_ticks_2(p52, n186, p51, p53);
-								p198 = p191;
-								n199 = n192;
-								n200 = n201;
+								uint8_t n199 = tp_timer_script_script_run_answer_ticks_2(p52, n184, p51, p53);
+								p196 = p189;
+								n197 = n190;
+								n198 = n199;
 								goto L11;
 							}
 							case 4: {
-								p152 = p191;
-								n153 = n192;
+								p150 = p189;
+								n151 = n190;
 								break;
 							}
 							default: {
@@ -59161,173 +59159,173 @@ L10:
 					}
 L8:
 					{
-						uint8_t n202 = tp_timer_script_script_run_answer_close_2(p52, p51, p53);
-						p198 = p152;
-						n199 = n153;
-						n200 = n202;
+						uint8_t n200 = tp_timer_script_script_run_answer_close_2(p52, p51, p53);
+						p196 = p150;
+						n197 = n151;
+						n198 = n200;
 						goto L11;
 					}
 L9:
 					{
-						uint8_t n203 = tp_timer_script_script_run_answer_stop_2(p52, n174, n175, n176, p53);
-						p198 = p172;
-						n199 = n173;
-						n200 = n203;
+						uint8_t n201 = tp_timer_script_script_run_answer_stop_2(p52, n172, n173, n174, p53);
+						p196 = p170;
+						n197 = n171;
+						n198 = n201;
 						goto L11;
 					}
 L7:
 					{
-						uint8_t n204 = tp_timer_script_script_run_answer_start_2(p52, n136, n137, n138, n139, p53);
-						p198 = p134;
-						n199 = n135;
-						n200 = n204;
+						uint8_t n202 = tp_timer_script_script_run_answer_start_2(p52, n134, n135, n136, n137, p53);
+						p196 = p132;
+						n197 = n133;
+						n198 = n202;
 					}
 L11:
 					{
-						if ((n200 & 1) != 0)
+						if ((n198 & 1) != 0)
 							break;
-						n93 = n93 + 1;
-						p94 = p198;
-						n95 = n199;
+						n91 = n91 + 1;
+						p92 = p196;
+						n93 = n197;
 					}
 				}
 				if (load64u(p51 + 16) == 0) {
-					b205 = true;
-					n206 = 0;
+					b203 = true;
+					n204 = 0;
 					goto L12;
 				}
 				rattle_dealloc(loadptru(p51));
-				b205 = true;
-				n206 = 0;
+				b203 = true;
+				n204 = 0;
 				goto L12;
 L4: ;
 L6:
 				{
-					uint64_t n207 = n93 + 1;
+					uint64_t n205 = n91 + 1;
 					if (load64u(p51 + 16) == 0) {
-						b205 = false;
-						n206 = n207;
+						b203 = false;
+						n204 = n205;
 					} else {
 						rattle_dealloc(loadptru(p51));
-						b205 = false;
-						n206 = n207;
+						b203 = false;
+						n204 = n205;
 					}
 				}
 L12:
 				{
 					if (load64u(p53 + 16) != 0)
 						rattle_dealloc(loadptru(p53));
-					byte *p208 = loadptru(p52 + 72);
-					uint64_t n209 = load64u(p52 + 88);
-					byte *p210 = loadptru(p52 + 1184);
-					uint64_t n211 = load64u(p52 + 1200);
+					byte *p206 = loadptru(p52 + 72);
+					uint64_t n207 = load64u(p52 + 88);
+					byte *p208 = loadptru(p52 + 1184);
+					uint64_t n209 = load64u(p52 + 1200);
 					if (load64u(p52 + 48) != 0)
 						rattle_dealloc(loadptru(p52 + 32));
+					if (n207 != 0)
+						rattle_dealloc(p206);
 					if (n209 != 0)
 						rattle_dealloc(p208);
-					if (n211 != 0)
-						rattle_dealloc(p210);
 					if (load64u(p52 + 1232) != 0)
 						rattle_dealloc(loadptru(p52 + 1216));
-					if (b205)
+					if (b203)
 						goto L13;
-					n212 = 2;
-					n213 = n206;
+					n210 = 2;
+					n211 = n204;
 					goto L14;
 				}
 L3:
 				{
-					uint64_t n224;
+					uint64_t n222;
 					if (load64u(p51 + 16) != 0)
 						rattle_dealloc(loadptru(p51));
-					uint64_t n214 = load64(p52 + 8);
-					uint64_t n215 = load64(p52 + 56);
-					uint64_t n216 = load64(p52 + 24);
-					byte *p217 = loadptr(p52 + 72);
-					uint64_t n218 = (uint64_t)load32(at(p217, n216 << 3) + 4);
-					bool b219 = n216 != n218;
-					uint64_t n220 = load64(p52 + 96);
-					uint64_t n221 = b219 ? (n218 - n220) : 0;
-					uint64_t n222 = 0;
-					bool b223 = b219;
+					uint64_t n212 = load64(p52 + 8);
+					uint64_t n213 = load64(p52 + 56);
+					uint64_t n214 = load64(p52 + 24);
+					byte *p215 = loadptr(p52 + 72);
+					uint64_t n216 = (uint64_t)load32(at(p215, n214 << 3) + 4);
+					bool b217 = n214 != n216;
+					uint64_t n218 = load64(p52 + 96);
+					uint64_t n219 = b217 ? (n216 - n218) : 0;
+					uint64_t n220 = 0;
+					bool b221 = b217;
 					for (;;) {
-						if (n222 == n215) {
-							n224 = n215;
+						if (n220 == n213) {
+							n222 = n213;
 							break;
 						}
-						if (!b223) {
-							n224 = n222;
+						if (!b221) {
+							n222 = n220;
 							break;
 						}
-						uint64_t n225 = (uint64_t)load32(at(p217, (n220 + n221) << 3) + 4);
-						n221 = usub_sat64(n225, n220);
-						n222 = n222 + 1;
-						b223 = n220 <= n225;
+						uint64_t n223 = (uint64_t)load32(at(p215, (n218 + n219) << 3) + 4);
+						n219 = usub_sat64(n223, n218);
+						n220 = n220 + 1;
+						b221 = n218 <= n223;
 					}
-					uint8_t n226 = tp_text_push_end(p53, n214, n215 - n224);
-					if ((n226 & 1) == 0) {
-						uint64_t n231 = load64u(p53);
-						uint64_t n232 = load64u(p53 + 8);
-						uint64_t n233 = load64u(p53 + 16);
-						byte *p234 = loadptru(p52 + 72);
-						uint64_t n235 = load64u(p52 + 88);
-						byte *p236 = loadptru(p52 + 1184);
-						uint64_t n237 = load64u(p52 + 1200);
+					uint8_t n224 = tp_text_push_end(p53, n212, n213 - n222);
+					if ((n224 & 1) == 0) {
+						uint64_t n229 = load64u(p53);
+						uint64_t n230 = load64u(p53 + 8);
+						uint64_t n231 = load64u(p53 + 16);
+						byte *p232 = loadptru(p52 + 72);
+						uint64_t n233 = load64u(p52 + 88);
+						byte *p234 = loadptru(p52 + 1184);
+						uint64_t n235 = load64u(p52 + 1200);
 						if (load64u(p52 + 48) != 0)
 							rattle_dealloc(loadptru(p52 + 32));
+						if (n233 != 0)
+							rattle_dealloc(p232);
 						if (n235 != 0)
 							rattle_dealloc(p234);
-						if (n237 != 0)
-							rattle_dealloc(p236);
 						if (load64u(p52 + 1232) != 0)
 							rattle_dealloc(loadptru(p52 + 1216));
-						byte *p238 = (byte *)(uintptr_t)n231;
-						uint64_t n239 = 0;
-						while (n239 < n232) {
-							uint64_t n240 = n232 - n239;
-							uint64_t n241 = os_write(1, at(p238, n239), n240);
-							if ((int64_t)n241 < (int64_t)0) {
+						byte *p236 = (byte *)(uintptr_t)n229;
+						uint64_t n237 = 0;
+						while (n237 < n230) {
+							uint64_t n238 = n230 - n237;
+							uint64_t n239 = os_write(1, at(p236, n237), n238);
+							if ((int64_t)n239 < (int64_t)0) {
 								tp_error_last_error(p49);
 								goto L15;
 							}
-							uint64_t n242 = umin64(n241, n240);
-							if (n242 == 0)
+							uint64_t n240 = umin64(n239, n238);
+							if (n240 == 0)
 								goto L15;
-							n239 = n239 + n242;
+							n237 = n237 + n240;
 						}
-						if (n233 != 0)
-							rattle_dealloc(p238);
-						if (!b84)
-							rattle_dealloc(p82);
+						if (n231 != 0)
+							rattle_dealloc(p236);
+						if (!b82)
+							rattle_dealloc(p80);
 						return 0;
 L15:
 						{
 							store8(p3 + 1, 1);
-							if (n233 != 0)
-								rattle_dealloc(p238);
-							if (b84) {
-								n243 = 4;
-								n244 = n239;
+							if (n231 != 0)
+								rattle_dealloc(p236);
+							if (b82) {
+								n241 = 4;
+								n242 = n237;
 								goto L16;
 							}
-							rattle_dealloc(p82);
-							n243 = 4;
-							n244 = n239;
+							rattle_dealloc(p80);
+							n241 = 4;
+							n242 = n237;
 							goto L16;
 						}
 					}
 					if (load64u(p53 + 16) != 0)
 						rattle_dealloc(loadptru(p53));
-					byte *p227 = loadptru(p52 + 72);
-					uint64_t n228 = load64u(p52 + 88);
-					byte *p229 = loadptru(p52 + 1184);
-					uint64_t n230 = load64u(p52 + 1200);
+					byte *p225 = loadptru(p52 + 72);
+					uint64_t n226 = load64u(p52 + 88);
+					byte *p227 = loadptru(p52 + 1184);
+					uint64_t n228 = load64u(p52 + 1200);
 					if (load64u(p52 + 48) != 0)
 						rattle_dealloc(loadptru(p52 + 32));
+					if (n226 != 0)
+						rattle_dealloc(p225);
 					if (n228 != 0)
 						rattle_dealloc(p227);
-					if (n230 != 0)
-						rattle_dealloc(p229);
 					if (load64u(p52 + 1232) != 0)
 						rattle_dealloc(loadptru(p52 + 1216));
 				}
@@ -59335,65 +59333,65 @@ L15:
 L2: ;
 L13:
 			{
-				n212 = 3;
-				n213 = 0;
+				n210 = 3;
+				n211 = 0;
 			}
 L14:
 			{
-				if (b84) {
-					n243 = n212;
-					n244 = n213;
+				if (b82) {
+					n241 = n210;
+					n242 = n211;
 				} else {
-					rattle_dealloc(p82);
-					n243 = n212;
-					n244 = n213;
+					rattle_dealloc(p80);
+					n241 = n210;
+					n242 = n211;
 				}
 			}
 		} else {
-			uint8_t n245;
+			uint8_t n243;
 			switch (MOSTLY_0(load8(p58 + 1))) {
 			case 0: {
-				n245 = 0;
+				n243 = 0;
 				break;
 			}
 			case 1: {
-				n245 = 1;
+				n243 = 1;
 				break;
 			}
 			case 2: {
-				n245 = 3;
+				n243 = 3;
 				break;
 			}
 			default: {
 				UNREACHABLE();
 			}
 			}
-			if (n74 != 0)
-				rattle_dealloc(p72);
-			if (n77 != 0)
-				rattle_dealloc(p75);
-			if (n80 == 0) {
-				n243 = n245;
-				n244 = 0;
+			if (n72 != 0)
+				rattle_dealloc(p70);
+			if (n75 != 0)
+				rattle_dealloc(p73);
+			if (n78 == 0) {
+				n241 = n243;
+				n242 = 0;
 			} else {
-				rattle_dealloc(p78);
-				n243 = n245;
-				n244 = 0;
+				rattle_dealloc(p76);
+				n241 = n243;
+				n242 = 0;
 			}
 		}
 L16:
 		{
-			tp_timer_commands_error_report_report(n243, n244, p4);
+			tp_timer_commands_error_report_report(n241, n242, p4);
 			return 1;
 		}
 	}
 	case 1: {
-		uint8_t n351, n418;
-		uint64_t n352, n417;
+		uint8_t n349, n416;
+		uint64_t n350, n415;
 		if ((load8(p1 + 2) & 1) != 0) {
-			uint8_t n247, n331;
-			uint64_t n248, n330;
-			memcpy(p41, p2 + 16, 16);
+			uint8_t n245, n329;
+			uint64_t n246, n328;
+			memcpy(p41, p2, 32);
 			memcpy(p42, p2 + 56, 16);
 			memcpy(p43, p2 + 96, 32);
 			memcpy(p44, p2 + 128, 1056);
@@ -59401,49 +59399,47 @@ L16:
 			memset(p46, 0, 1288);
 			memset(p47, 0, 96);
 			memset(p48, 0, 24);
-			of_i64_i64 s246 = rattle_alloc(16384, 1);
-			if ((s246.f0 & 1) == 0) {
-				if (n74 != 0)
-					rattle_dealloc(p72);
-				if (n77 != 0)
-					rattle_dealloc(p75);
-				if (n80 == 0) {
-					n247 = 2;
-					n248 = 0;
+			of_i64_i64 s244 = rattle_alloc(16384, 1);
+			if ((s244.f0 & 1) == 0) {
+				if (n72 != 0)
+					rattle_dealloc(p70);
+				if (n75 != 0)
+					rattle_dealloc(p73);
+				if (n78 == 0) {
+					n245 = 2;
+					n246 = 0;
 				} else {
-					rattle_dealloc(p78);
-					n247 = 2;
-					n248 = 0;
+					rattle_dealloc(p76);
+					n245 = 2;
+					n246 = 0;
 				}
 			} else {
-				uint64_t n254, n265, n266, n284, n286, n288;
-				uint8_t n281;
-				byte *p283, *p285, *p287;
-				byte *p249 = (byte *)(uintptr_t)s246.f1;
-				uint64_t n250 = 0;
-				while (n250 != 16383) {
-					store8(inside(p249, n250), 0);
-					n250 = n250 + 1;
+				uint64_t n252, n263, n264, n282, n284, n286;
+				uint8_t n279;
+				byte *p281, *p283, *p285;
+				byte *p247 = (byte *)(uintptr_t)s244.f1;
+				uint64_t n248 = 0;
+				while (n248 != 16383) {
+					store8(inside(p247, n248), 0);
+					n248 = n248 + 1;
 				}
-				store8(p249 + 16383, 0);
+				store8(p247 + 16383, 0);
 				storeptru(p45, p5);
 				memset(p45 + 8, 0, 16);
-				store64u(p46, n70);
-				store64u(p46 + 8, n71);
-				memcpy(p46 + 16, p41, 16);
-				storeptru(p46 + 32, p72);
-				store64u(p46 + 40, n73);
-				store64u(p46 + 48, n74);
+				memcpy(p46, p41, 32);
+				storeptru(p46 + 32, p70);
+				store64u(p46 + 40, n71);
+				store64u(p46 + 48, n72);
 				memcpy(p46 + 56, p42, 16);
-				storeptru(p46 + 72, p75);
-				store64u(p46 + 80, n76);
-				store64u(p46 + 88, n77);
+				storeptru(p46 + 72, p73);
+				store64u(p46 + 80, n74);
+				store64u(p46 + 88, n75);
 				memcpy(p46 + 96, p43, 32);
 				memcpy(p46 + 128, p44, 1056);
-				storeptru(p46 + 1184, p78);
-				store64u(p46 + 1192, n79);
-				store64u(p46 + 1200, n80);
-				store64u(p46 + 1208, n81);
+				storeptru(p46 + 1184, p76);
+				store64u(p46 + 1192, n77);
+				store64u(p46 + 1200, n78);
+				store64u(p46 + 1208, n79);
 				storeptru(p46 + 1216, p5);
 				memset(p46 + 1224, 0, 16);
 				storeptru(p46 + 1240, p5);
@@ -59461,100 +59457,100 @@ L16:
 				store64u(p47 + 80, 1);
 				store8(p47 + 88, 1);
 				memset(p47 + 89, 0, 7);
-				uint64_t n251 = 0;
+				uint64_t n249 = 0;
 				for (;;) {
-					if (n251 == UINT64_MAX)
+					if (n249 == UINT64_MAX)
 						goto L17;
-					uint64_t n252 = os_read(0, p249, 16384);
-					if ((int64_t)n252 < (int64_t)0)
+					uint64_t n250 = os_read(0, p247, 16384);
+					if ((int64_t)n250 < (int64_t)0)
 						goto L18;
-					tp_Cutter_take_in(p48, p47, p249, umin64(n252, 16384), p4);
+					tp_Cutter_take_in(p48, p47, p247, umin64(n250, 16384), p4);
 					if (load8(p48) != 0)
 						break;
-					uint8_t n253 = load8(p48 + 8);
-					n254 = load64u(p48 + 16);
-					byte *p255 = loadptr(p47 + 8);
-					uint64_t n256 = load64(p47 + 16);
+					uint8_t n251 = load8(p48 + 8);
+					n252 = load64u(p48 + 16);
+					byte *p253 = loadptr(p47 + 8);
+					uint64_t n254 = load64(p47 + 16);
 					if (load64(p45 + 8) != 0)
 						store64(p45 + 8, 0);
-					uint64_t n257 = 0;
-					while (n257 != n256) {
-						uint64_t n268;
-						uint8_t n269;
-						byte *p258 = at(p255, n257 * 48);
-						uint64_t n259 = load64u(p258 + 8);
-						uint64_t n260 = load64u(p258 + 16);
-						uint64_t n261 = load64u(p258 + 24);
-						uint64_t n262 = load64u(p258 + 32);
-						uint64_t n263 = load64u(p258 + 40);
-						store64u(p39, (uint64_t)load8(p258));
-						store64(p39 + 8, n259);
-						store64(p39 + 16, n260);
-						store64(p39 + 24, n261);
-						store64(p39 + 32, n262);
-						store64(p39 + 40, n263);
-						uint8_t n264 = tp_timer_script_session_Session_play_one(p46, p39, p45);
-						if ((n264 & 1) != 0) {
-							n265 = load64(p45 + 8);
+					uint64_t n255 = 0;
+					while (n255 != n254) {
+						uint64_t n266;
+						uint8_t n267;
+						byte *p256 = at(p253, n255 * 48);
+						uint64_t n257 = load64u(p256 + 8);
+						uint64_t n258 = load64u(p256 + 16);
+						uint64_t n259 = load64u(p256 + 24);
+						uint64_t n260 = load64u(p256 + 32);
+						uint64_t n261 = load64u(p256 + 40);
+						store64u(p39, (uint64_t)load8(p256));
+						store64(p39 + 8, n257);
+						store64(p39 + 16, n258);
+						store64(p39 + 24, n259);
+						store64(p39 + 32, n260);
+						store64(p39 + 40, n261);
+						uint8_t n262 = tp_timer_script_session_Session_play_one(p46, p39, p45);
+						if ((n262 & 1) != 0) {
+							n263 = load64(p45 + 8);
 							goto L19;
 						}
-						n266 = load64(p45 + 8);
-						uint64_t n267 = load64(p46 + 120);
+						n264 = load64(p45 + 8);
+						uint64_t n265 = load64(p46 + 120);
 						if (load64(p46 + 56) == 0) {
-							n268 = 0;
-							n269 = 0;
+							n266 = 0;
+							n267 = 0;
 						} else {
-							uint64_t n270 = load64(p46 + 24);
-							uint64_t n271 = 0;
+							uint64_t n268 = load64(p46 + 24);
+							uint64_t n269 = 0;
 							for (;;) {
-								if (n271 == n270) {
-									n268 = 0;
-									n269 = 0;
+								if (n269 == n268) {
+									n266 = 0;
+									n267 = 0;
 									break;
 								}
-								uint64_t n272 = n271 + 1;
-								uint64_t n273 = n267 + n272;
-								uint64_t n274 = n273 - ((n273 < n270) ? 0 : n270);
-								if (n274 != (uint64_t)load32(at(loadptr(p46 + 72), n274 << 3) + 4)) {
-									n268 = load64(p46 + 8) + n272;
-									n269 = 1;
+								uint64_t n270 = n269 + 1;
+								uint64_t n271 = n265 + n270;
+								uint64_t n272 = n271 - ((n271 < n268) ? 0 : n268);
+								if (n272 != (uint64_t)load32(at(loadptr(p46 + 72), n272 << 3) + 4)) {
+									n266 = load64(p46 + 8) + n270;
+									n267 = 1;
 									break;
 								}
-								n271 = n272;
+								n269 = n270;
 							}
 						}
-						uint8_t n275 = tp_render_push_wakeup(p45, n269, n268);
-						if ((n275 & 1) != 0)
+						uint8_t n273 = tp_render_push_wakeup(p45, n267, n266);
+						if ((n273 & 1) != 0)
 							goto L20;
-						byte *p276 = loadptr(p45);
-						uint64_t n277 = load64(p45 + 8);
-						uint64_t n278 = 0;
-						while (n278 < n277) {
-							uint64_t n279 = n277 - n278;
-							uint64_t n280 = os_write(1, at(p276, n278), n279);
-							if ((int64_t)n280 < (int64_t)0) {
+						byte *p274 = loadptr(p45);
+						uint64_t n275 = load64(p45 + 8);
+						uint64_t n276 = 0;
+						while (n276 < n275) {
+							uint64_t n277 = n275 - n276;
+							uint64_t n278 = os_write(1, at(p274, n276), n277);
+							if ((int64_t)n278 < (int64_t)0) {
 								tp_error_last_error(p37);
 								store8(p3 + 1, 1);
-								n281 = 3;
+								n279 = 3;
 								goto L21;
 							}
-							uint64_t n282 = umin64(n280, n279);
-							if (n282 == 0) {
+							uint64_t n280 = umin64(n278, n277);
+							if (n280 == 0) {
 								store8(p3 + 1, 1);
-								n281 = 3;
+								n279 = 3;
 								goto L21;
 							}
-							n278 = n278 + n282;
+							n276 = n276 + n280;
 						}
 						if (load64(p45 + 8) != 0)
 							store64(p45 + 8, 0);
-						n257 = n257 + 1;
+						n255 = n255 + 1;
 					}
-					if (n253 == 1)
+					if (n251 == 1)
 						goto L22;
-					if (n252 == 0)
+					if (n250 == 0)
 						goto L23;
-					n251 = n251 + 1;
+					n249 = n249 + 1;
 				}
 				if (load64u(p47 + 24) != 0)
 					rattle_dealloc(loadptru(p47 + 8));
@@ -59562,64 +59558,64 @@ L16:
 					rattle_dealloc(loadptru(p47 + 32));
 				if (load64u(p47 + 72) != 0)
 					rattle_dealloc(loadptru(p47 + 56));
-				p283 = loadptru(p46 + 72);
-				n284 = load64u(p46 + 88);
-				p285 = loadptru(p46 + 1184);
-				n286 = load64u(p46 + 1200);
-				p287 = loadptru(p46 + 1216);
-				n288 = load64u(p46 + 1232);
+				p281 = loadptru(p46 + 72);
+				n282 = load64u(p46 + 88);
+				p283 = loadptru(p46 + 1184);
+				n284 = load64u(p46 + 1200);
+				p285 = loadptru(p46 + 1216);
+				n286 = load64u(p46 + 1232);
 				if (load64u(p46 + 48) != 0)
 					rattle_dealloc(loadptru(p46 + 32));
+				if (n282 != 0)
+					rattle_dealloc(p281);
 				if (n284 != 0)
 					rattle_dealloc(p283);
 				if (n286 != 0)
 					rattle_dealloc(p285);
-				if (n288 != 0)
-					rattle_dealloc(p287);
 				if (load64u(p46 + 1256) != 0)
 					rattle_dealloc(loadptru(p46 + 1240));
 				if (load64u(p46 + 1280) != 0)
 					rattle_dealloc(loadptru(p46 + 1264));
 				if (load64u(p45 + 16) != 0)
 					rattle_dealloc(loadptru(p45));
-				rattle_dealloc(p249);
-				n247 = 2;
-				n248 = 0;
+				rattle_dealloc(p247);
+				n245 = 2;
+				n246 = 0;
 				goto L24;
 L20:
 				{
-					uint64_t n289 = load64(p45 + 8);
-					if (n289 > n266) {
-						store64(p45 + 8, n266);
-						n265 = n266;
+					uint64_t n287 = load64(p45 + 8);
+					if (n287 > n264) {
+						store64(p45 + 8, n264);
+						n263 = n264;
 					} else {
-						n265 = n289;
+						n263 = n287;
 					}
 				}
 L19:
 				{
-					byte *p290 = loadptr(p45);
-					uint64_t n291 = 0;
+					byte *p288 = loadptr(p45);
+					uint64_t n289 = 0;
 					for (;;) {
-						if (n291 >= n265) {
-							n281 = 2;
+						if (n289 >= n263) {
+							n279 = 2;
 							break;
 						}
-						uint64_t n292 = n265 - n291;
-						uint64_t n293 = os_write(1, at(p290, n291), n292);
-						if ((int64_t)n293 < (int64_t)0) {
+						uint64_t n290 = n263 - n289;
+						uint64_t n291 = os_write(1, at(p288, n289), n290);
+						if ((int64_t)n291 < (int64_t)0) {
 							tp_error_last_error(p38);
 							store8(p3 + 1, 1);
-							n281 = 3;
+							n279 = 3;
 							break;
 						}
-						uint64_t n294 = umin64(n293, n292);
-						if (n294 == 0) {
+						uint64_t n292 = umin64(n291, n290);
+						if (n292 == 0) {
 							store8(p3 + 1, 1);
-							n281 = 3;
+							n279 = 3;
 							break;
 						}
-						n291 = n291 + n294;
+						n289 = n289 + n292;
 					}
 				}
 L21:
@@ -59630,114 +59626,114 @@ L21:
 						rattle_dealloc(loadptru(p47 + 32));
 					if (load64u(p47 + 72) != 0)
 						rattle_dealloc(loadptru(p47 + 56));
-					byte *p295 = loadptru(p46 + 72);
-					uint64_t n296 = load64u(p46 + 88);
-					byte *p297 = loadptru(p46 + 1184);
-					uint64_t n298 = load64u(p46 + 1200);
-					byte *p299 = loadptru(p46 + 1216);
-					uint64_t n300 = load64u(p46 + 1232);
+					byte *p293 = loadptru(p46 + 72);
+					uint64_t n294 = load64u(p46 + 88);
+					byte *p295 = loadptru(p46 + 1184);
+					uint64_t n296 = load64u(p46 + 1200);
+					byte *p297 = loadptru(p46 + 1216);
+					uint64_t n298 = load64u(p46 + 1232);
 					if (load64u(p46 + 48) != 0)
 						rattle_dealloc(loadptru(p46 + 32));
+					if (n294 != 0)
+						rattle_dealloc(p293);
 					if (n296 != 0)
 						rattle_dealloc(p295);
 					if (n298 != 0)
 						rattle_dealloc(p297);
-					if (n300 != 0)
-						rattle_dealloc(p299);
 					if (load64u(p46 + 1256) != 0)
 						rattle_dealloc(loadptru(p46 + 1240));
 					if (load64u(p46 + 1280) != 0)
 						rattle_dealloc(loadptru(p46 + 1264));
 					if (load64u(p45 + 16) != 0)
 						rattle_dealloc(loadptru(p45));
-					rattle_dealloc(p249);
-					n247 = n281;
-					n248 = 0;
+					rattle_dealloc(p247);
+					n245 = n279;
+					n246 = 0;
 					goto L24;
 				}
 L23:
 				{
-					uint64_t n301;
-					uint8_t n302, n303;
-					bool b304;
+					uint64_t n299;
+					uint8_t n300, n301;
+					bool b302;
 					memset(p36, 0, 24);
 					tp_Cutter_end(p36, p47, p4);
 					if (load8(p36) == 0) {
 						if (load8(p36 + 8) == 1) {
-							n301 = load64u(p36 + 16);
-							n302 = 1;
-							n303 = 1;
-							b304 = true;
+							n299 = load64u(p36 + 16);
+							n300 = 1;
+							n301 = 1;
+							b302 = true;
 						} else {
-							uint64_t n315;
+							uint64_t n313;
 							if (load64(p45 + 8) != 0)
 								store64(p45 + 8, 0);
-							uint64_t n305 = load64(p46 + 8);
-							uint64_t n306 = load64(p46 + 56);
-							uint64_t n307 = load64(p46 + 24);
-							byte *p308 = loadptr(p46 + 72);
-							uint64_t n309 = (uint64_t)load32(at(p308, n307 << 3) + 4);
-							bool b310 = n307 != n309;
-							uint64_t n311 = load64(p46 + 96);
-							uint64_t n312 = b310 ? (n309 - n311) : 0;
-							uint64_t n313 = 0;
-							bool b314 = b310;
+							uint64_t n303 = load64(p46 + 8);
+							uint64_t n304 = load64(p46 + 56);
+							uint64_t n305 = load64(p46 + 24);
+							byte *p306 = loadptr(p46 + 72);
+							uint64_t n307 = (uint64_t)load32(at(p306, n305 << 3) + 4);
+							bool b308 = n305 != n307;
+							uint64_t n309 = load64(p46 + 96);
+							uint64_t n310 = b308 ? (n307 - n309) : 0;
+							uint64_t n311 = 0;
+							bool b312 = b308;
 							for (;;) {
-								if (n313 == n306) {
-									n315 = n306;
+								if (n311 == n304) {
+									n313 = n304;
 									break;
 								}
-								if (!b314) {
-									n315 = n313;
+								if (!b312) {
+									n313 = n311;
 									break;
 								}
-								uint64_t n316 = (uint64_t)load32(at(p308, (n311 + n312) << 3) + 4);
-								n312 = usub_sat64(n316, n311);
-								n313 = n313 + 1;
-								b314 = n311 <= n316;
+								uint64_t n314 = (uint64_t)load32(at(p306, (n309 + n310) << 3) + 4);
+								n310 = usub_sat64(n314, n309);
+								n311 = n311 + 1;
+								b312 = n309 <= n314;
 							}
-							uint8_t n317 = tp_text_push_end(p45, n305, n306 - n315);
-							if ((n317 & 1) != 0) {
-								n301 = 0;
-								n302 = 2;
-								n303 = 1;
-								b304 = true;
+							uint8_t n315 = tp_text_push_end(p45, n303, n304 - n313);
+							if ((n315 & 1) != 0) {
+								n299 = 0;
+								n300 = 2;
+								n301 = 1;
+								b302 = true;
 							} else {
-								byte *p318 = loadptr(p45);
-								uint64_t n319 = load64(p45 + 8);
-								uint64_t n320 = 0;
-								while (n320 < n319) {
-									uint64_t n321 = n319 - n320;
-									uint64_t n322 = os_write(1, at(p318, n320), n321);
-									if ((int64_t)n322 < (int64_t)0) {
+								byte *p316 = loadptr(p45);
+								uint64_t n317 = load64(p45 + 8);
+								uint64_t n318 = 0;
+								while (n318 < n317) {
+									uint64_t n319 = n317 - n318;
+									uint64_t n320 = os_write(1, at(p316, n318), n319);
+									if ((int64_t)n320 < (int64_t)0) {
 										tp_error_last_error(p35);
 										goto L25;
 									}
-									uint64_t n323 = umin64(n322, n321);
-									if (n323 == 0)
+									uint64_t n321 = umin64(n320, n319);
+									if (n321 == 0)
 										goto L25;
-									n320 = n320 + n323;
+									n318 = n318 + n321;
 								}
-								n301 = 0;
-								n302 = 0;
-								n303 = (uint8_t)(load8(p47 + 88) ^ 1);
-								b304 = false;
+								n299 = 0;
+								n300 = 0;
+								n301 = (uint8_t)(load8(p47 + 88) ^ 1);
+								b302 = false;
 								goto L26;
 L25:
 								{
 									store8(p3 + 1, 1);
-									n301 = 0;
-									n302 = 3;
-									n303 = 1;
-									b304 = true;
+									n299 = 0;
+									n300 = 3;
+									n301 = 1;
+									b302 = true;
 								}
 							}
 						}
 					} else {
-						n301 = 0;
-						n302 = 2;
-						n303 = 1;
-						b304 = true;
+						n299 = 0;
+						n300 = 2;
+						n301 = 1;
+						b302 = true;
 					}
 L26:
 					{
@@ -59747,31 +59743,31 @@ L26:
 							rattle_dealloc(loadptru(p47 + 32));
 						if (load64u(p47 + 72) != 0)
 							rattle_dealloc(loadptru(p47 + 56));
-						byte *p324 = loadptru(p46 + 72);
-						uint64_t n325 = load64u(p46 + 88);
-						byte *p326 = loadptru(p46 + 1184);
-						uint64_t n327 = load64u(p46 + 1200);
-						byte *p328 = loadptru(p46 + 1216);
-						uint64_t n329 = load64u(p46 + 1232);
+						byte *p322 = loadptru(p46 + 72);
+						uint64_t n323 = load64u(p46 + 88);
+						byte *p324 = loadptru(p46 + 1184);
+						uint64_t n325 = load64u(p46 + 1200);
+						byte *p326 = loadptru(p46 + 1216);
+						uint64_t n327 = load64u(p46 + 1232);
 						if (load64u(p46 + 48) != 0)
 							rattle_dealloc(loadptru(p46 + 32));
+						if (n323 != 0)
+							rattle_dealloc(p322);
 						if (n325 != 0)
 							rattle_dealloc(p324);
 						if (n327 != 0)
 							rattle_dealloc(p326);
-						if (n329 != 0)
-							rattle_dealloc(p328);
 						if (load64u(p46 + 1256) != 0)
 							rattle_dealloc(loadptru(p46 + 1240));
 						if (load64u(p46 + 1280) != 0)
 							rattle_dealloc(loadptru(p46 + 1264));
 						if (load64u(p45 + 16) != 0)
 							rattle_dealloc(loadptru(p45));
-						rattle_dealloc(p249);
-						if (!b304)
-							return n303;
-						n330 = n301;
-						n331 = n302;
+						rattle_dealloc(p247);
+						if (!b302)
+							return n301;
+						n328 = n299;
+						n329 = n300;
 						goto L27;
 					}
 				}
@@ -59783,29 +59779,29 @@ L22:
 						rattle_dealloc(loadptru(p47 + 32));
 					if (load64u(p47 + 72) != 0)
 						rattle_dealloc(loadptru(p47 + 56));
-					byte *p332 = loadptru(p46 + 72);
-					uint64_t n333 = load64u(p46 + 88);
-					byte *p334 = loadptru(p46 + 1184);
-					uint64_t n335 = load64u(p46 + 1200);
-					byte *p336 = loadptru(p46 + 1216);
-					uint64_t n337 = load64u(p46 + 1232);
+					byte *p330 = loadptru(p46 + 72);
+					uint64_t n331 = load64u(p46 + 88);
+					byte *p332 = loadptru(p46 + 1184);
+					uint64_t n333 = load64u(p46 + 1200);
+					byte *p334 = loadptru(p46 + 1216);
+					uint64_t n335 = load64u(p46 + 1232);
 					if (load64u(p46 + 48) != 0)
 						rattle_dealloc(loadptru(p46 + 32));
+					if (n331 != 0)
+						rattle_dealloc(p330);
 					if (n333 != 0)
 						rattle_dealloc(p332);
 					if (n335 != 0)
 						rattle_dealloc(p334);
-					if (n337 != 0)
-						rattle_dealloc(p336);
 					if (load64u(p46 + 1256) != 0)
 						rattle_dealloc(loadptru(p46 + 1240));
 					if (load64u(p46 + 1280) != 0)
 						rattle_dealloc(loadptru(p46 + 1264));
 					if (load64u(p45 + 16) != 0)
 						rattle_dealloc(loadptru(p45));
-					rattle_dealloc(p249);
-					n247 = 1;
-					n248 = n254;
+					rattle_dealloc(p247);
+					n245 = 1;
+					n246 = n252;
 					goto L24;
 				}
 L18:
@@ -59818,29 +59814,29 @@ L18:
 						rattle_dealloc(loadptru(p47 + 32));
 					if (load64u(p47 + 72) != 0)
 						rattle_dealloc(loadptru(p47 + 56));
-					byte *p338 = loadptru(p46 + 72);
-					uint64_t n339 = load64u(p46 + 88);
-					byte *p340 = loadptru(p46 + 1184);
-					uint64_t n341 = load64u(p46 + 1200);
-					byte *p342 = loadptru(p46 + 1216);
-					uint64_t n343 = load64u(p46 + 1232);
+					byte *p336 = loadptru(p46 + 72);
+					uint64_t n337 = load64u(p46 + 88);
+					byte *p338 = loadptru(p46 + 1184);
+					uint64_t n339 = load64u(p46 + 1200);
+					byte *p340 = loadptru(p46 + 1216);
+					uint64_t n341 = load64u(p46 + 1232);
 					if (load64u(p46 + 48) != 0)
 						rattle_dealloc(loadptru(p46 + 32));
+					if (n337 != 0)
+						rattle_dealloc(p336);
 					if (n339 != 0)
 						rattle_dealloc(p338);
 					if (n341 != 0)
 						rattle_dealloc(p340);
-					if (n343 != 0)
-						rattle_dealloc(p342);
 					if (load64u(p46 + 1256) != 0)
 						rattle_dealloc(loadptru(p46 + 1240));
 					if (load64u(p46 + 1280) != 0)
 						rattle_dealloc(loadptru(p46 + 1264));
 					if (load64u(p45 + 16) != 0)
 						rattle_dealloc(loadptru(p45));
-					rattle_dealloc(p249);
-					n247 = 0;
-					n248 = 0;
+					rattle_dealloc(p247);
+					n245 = 0;
+					n246 = 0;
 					goto L24;
 				}
 L17:
@@ -59851,43 +59847,43 @@ L17:
 						rattle_dealloc(loadptru(p47 + 32));
 					if (load64u(p47 + 72) != 0)
 						rattle_dealloc(loadptru(p47 + 56));
-					byte *p344 = loadptru(p46 + 72);
-					uint64_t n345 = load64u(p46 + 88);
-					byte *p346 = loadptru(p46 + 1184);
-					uint64_t n347 = load64u(p46 + 1200);
-					byte *p348 = loadptru(p46 + 1216);
-					uint64_t n349 = load64u(p46 + 1232);
+					byte *p342 = loadptru(p46 + 72);
+					uint64_t n343 = load64u(p46 + 88);
+					byte *p344 = loadptru(p46 + 1184);
+					uint64_t n345 = load64u(p46 + 1200);
+					byte *p346 = loadptru(p46 + 1216);
+					uint64_t n347 = load64u(p46 + 1232);
 					if (load64u(p46 + 48) != 0)
 						rattle_dealloc(loadptru(p46 + 32));
+					if (n343 != 0)
+						rattle_dealloc(p342);
 					if (n345 != 0)
 						rattle_dealloc(p344);
 					if (n347 != 0)
 						rattle_dealloc(p346);
-					if (n349 != 0)
-						rattle_dealloc(p348);
 					if (load64u(p46 + 1256) != 0)
 						rattle_dealloc(loadptru(p46 + 1240));
 					if (load64u(p46 + 1280) != 0)
 						rattle_dealloc(loadptru(p46 + 1264));
 					if (load64u(p45 + 16) != 0)
 						rattle_dealloc(loadptru(p45));
-					rattle_dealloc(p249);
-					n247 = 4;
-					n248 = 0;
+					rattle_dealloc(p247);
+					n245 = 4;
+					n246 = 0;
 				}
 			}
 L24:
 			{
-				n330 = n248;
-				n331 = n247;
+				n328 = n246;
+				n329 = n245;
 			}
 L27:
 			{
-				tp_timer_commands_error_report_report_2(n331, n330, p4);
+				tp_timer_commands_error_report_report_2(n329, n328, p4);
 				return 1;
 			}
 		}
-		memcpy(p27, p2 + 16, 16);
+		memcpy(p27, p2, 32);
 		memcpy(p28, p2 + 56, 16);
 		memcpy(p29, p2 + 96, 32);
 		memcpy(p30, p2 + 128, 1056);
@@ -59895,49 +59891,47 @@ L27:
 		memset(p32, 0, 1288);
 		memset(p33, 0, 96);
 		memset(p34, 0, 24);
-		of_i64_i64 s350 = rattle_alloc(16384, 1);
-		if ((s350.f0 & 1) == 0) {
-			if (n74 != 0)
-				rattle_dealloc(p72);
-			if (n77 != 0)
-				rattle_dealloc(p75);
-			if (n80 == 0) {
-				n351 = 2;
-				n352 = 0;
+		of_i64_i64 s348 = rattle_alloc(16384, 1);
+		if ((s348.f0 & 1) == 0) {
+			if (n72 != 0)
+				rattle_dealloc(p70);
+			if (n75 != 0)
+				rattle_dealloc(p73);
+			if (n78 == 0) {
+				n349 = 2;
+				n350 = 0;
 			} else {
-				rattle_dealloc(p78);
-				n351 = 2;
-				n352 = 0;
+				rattle_dealloc(p76);
+				n349 = 2;
+				n350 = 0;
 			}
 		} else {
-			uint64_t n358, n377, n379, n381;
-			uint8_t n374;
-			byte *p376, *p378, *p380;
-			byte *p353 = (byte *)(uintptr_t)s350.f1;
-			uint64_t n354 = 0;
-			while (n354 != 16383) {
-				store8(inside(p353, n354), 0);
-				n354 = n354 + 1;
+			uint64_t n356, n375, n377, n379;
+			uint8_t n372;
+			byte *p374, *p376, *p378;
+			byte *p351 = (byte *)(uintptr_t)s348.f1;
+			uint64_t n352 = 0;
+			while (n352 != 16383) {
+				store8(inside(p351, n352), 0);
+				n352 = n352 + 1;
 			}
-			store8(p353 + 16383, 0);
+			store8(p351 + 16383, 0);
 			storeptru(p31, p5);
 			memset(p31 + 8, 0, 16);
-			store64u(p32, n70);
-			store64u(p32 + 8, n71);
-			memcpy(p32 + 16, p27, 16);
-			storeptru(p32 + 32, p72);
-			store64u(p32 + 40, n73);
-			store64u(p32 + 48, n74);
+			memcpy(p32, p27, 32);
+			storeptru(p32 + 32, p70);
+			store64u(p32 + 40, n71);
+			store64u(p32 + 48, n72);
 			memcpy(p32 + 56, p28, 16);
-			storeptru(p32 + 72, p75);
-			store64u(p32 + 80, n76);
-			store64u(p32 + 88, n77);
+			storeptru(p32 + 72, p73);
+			store64u(p32 + 80, n74);
+			store64u(p32 + 88, n75);
 			memcpy(p32 + 96, p29, 32);
 			memcpy(p32 + 128, p30, 1056);
-			storeptru(p32 + 1184, p78);
-			store64u(p32 + 1192, n79);
-			store64u(p32 + 1200, n80);
-			store64u(p32 + 1208, n81);
+			storeptru(p32 + 1184, p76);
+			store64u(p32 + 1192, n77);
+			store64u(p32 + 1200, n78);
+			store64u(p32 + 1208, n79);
 			storeptru(p32 + 1216, p5);
 			memset(p32 + 1224, 0, 16);
 			storeptru(p32 + 1240, p5);
@@ -59955,66 +59949,66 @@ L27:
 			store64u(p33 + 80, 1);
 			store8(p33 + 88, 1);
 			memset(p33 + 89, 0, 7);
-			uint64_t n355 = 0;
+			uint64_t n353 = 0;
 			for (;;) {
-				if (n355 == UINT64_MAX)
+				if (n353 == UINT64_MAX)
 					goto L28;
-				uint64_t n356 = os_read(0, p353, 16384);
-				if ((int64_t)n356 < (int64_t)0)
+				uint64_t n354 = os_read(0, p351, 16384);
+				if ((int64_t)n354 < (int64_t)0)
 					goto L29;
-				tp_Cutter_take_in(p34, p33, p353, umin64(n356, 16384), p4);
+				tp_Cutter_take_in(p34, p33, p351, umin64(n354, 16384), p4);
 				if (load8(p34) != 0)
 					break;
-				uint8_t n357 = load8(p34 + 8);
-				n358 = load64u(p34 + 16);
-				byte *p359 = loadptr(p33 + 8);
-				uint64_t n360 = load64(p33 + 16);
+				uint8_t n355 = load8(p34 + 8);
+				n356 = load64u(p34 + 16);
+				byte *p357 = loadptr(p33 + 8);
+				uint64_t n358 = load64(p33 + 16);
 				if (load64(p31 + 8) != 0)
 					store64(p31 + 8, 0);
-				uint64_t n361 = 0;
-				while (n361 != n360) {
-					byte *p362 = at(p359, n361 * 48);
-					uint64_t n363 = load64u(p362 + 8);
-					uint64_t n364 = load64u(p362 + 16);
-					uint64_t n365 = load64u(p362 + 24);
-					uint64_t n366 = load64u(p362 + 32);
-					uint64_t n367 = load64u(p362 + 40);
-					store64u(p25, (uint64_t)load8(p362));
-					store64(p25 + 8, n363);
-					store64(p25 + 16, n364);
-					store64(p25 + 24, n365);
-					store64(p25 + 32, n366);
-					store64(p25 + 40, n367);
-					uint8_t n368 = tp_timer_script_session_Session_play_one(p32, p25, p31);
-					if ((n368 & 1) != 0)
+				uint64_t n359 = 0;
+				while (n359 != n358) {
+					byte *p360 = at(p357, n359 * 48);
+					uint64_t n361 = load64u(p360 + 8);
+					uint64_t n362 = load64u(p360 + 16);
+					uint64_t n363 = load64u(p360 + 24);
+					uint64_t n364 = load64u(p360 + 32);
+					uint64_t n365 = load64u(p360 + 40);
+					store64u(p25, (uint64_t)load8(p360));
+					store64(p25 + 8, n361);
+					store64(p25 + 16, n362);
+					store64(p25 + 24, n363);
+					store64(p25 + 32, n364);
+					store64(p25 + 40, n365);
+					uint8_t n366 = tp_timer_script_session_Session_play_one(p32, p25, p31);
+					if ((n366 & 1) != 0)
 						goto L30;
-					n361 = n361 + 1;
+					n359 = n359 + 1;
 				}
-				byte *p369 = loadptr(p31);
-				uint64_t n370 = load64(p31 + 8);
-				uint64_t n371 = 0;
-				while (n371 < n370) {
-					uint64_t n372 = n370 - n371;
-					uint64_t n373 = os_write(1, at(p369, n371), n372);
-					if ((int64_t)n373 < (int64_t)0) {
+				byte *p367 = loadptr(p31);
+				uint64_t n368 = load64(p31 + 8);
+				uint64_t n369 = 0;
+				while (n369 < n368) {
+					uint64_t n370 = n368 - n369;
+					uint64_t n371 = os_write(1, at(p367, n369), n370);
+					if ((int64_t)n371 < (int64_t)0) {
 						tp_error_last_error(p23);
 						store8(p3 + 1, 1);
-						n374 = 3;
+						n372 = 3;
 						goto L31;
 					}
-					uint64_t n375 = umin64(n373, n372);
-					if (n375 == 0) {
+					uint64_t n373 = umin64(n371, n370);
+					if (n373 == 0) {
 						store8(p3 + 1, 1);
-						n374 = 3;
+						n372 = 3;
 						goto L31;
 					}
-					n371 = n371 + n375;
+					n369 = n369 + n373;
 				}
-				if (n357 == 1)
+				if (n355 == 1)
 					goto L32;
-				if (n356 == 0)
+				if (n354 == 0)
 					goto L33;
-				n355 = n355 + 1;
+				n353 = n353 + 1;
 			}
 			if (load64u(p33 + 24) != 0)
 				rattle_dealloc(loadptru(p33 + 8));
@@ -60022,140 +60016,140 @@ L27:
 				rattle_dealloc(loadptru(p33 + 32));
 			if (load64u(p33 + 72) != 0)
 				rattle_dealloc(loadptru(p33 + 56));
-			p376 = loadptru(p32 + 72);
-			n377 = load64u(p32 + 88);
-			p378 = loadptru(p32 + 1184);
-			n379 = load64u(p32 + 1200);
-			p380 = loadptru(p32 + 1216);
-			n381 = load64u(p32 + 1232);
+			p374 = loadptru(p32 + 72);
+			n375 = load64u(p32 + 88);
+			p376 = loadptru(p32 + 1184);
+			n377 = load64u(p32 + 1200);
+			p378 = loadptru(p32 + 1216);
+			n379 = load64u(p32 + 1232);
 			if (load64u(p32 + 48) != 0)
 				rattle_dealloc(loadptru(p32 + 32));
+			if (n375 != 0)
+				rattle_dealloc(p374);
 			if (n377 != 0)
 				rattle_dealloc(p376);
 			if (n379 != 0)
 				rattle_dealloc(p378);
-			if (n381 != 0)
-				rattle_dealloc(p380);
 			if (load64u(p32 + 1256) != 0)
 				rattle_dealloc(loadptru(p32 + 1240));
 			if (load64u(p32 + 1280) != 0)
 				rattle_dealloc(loadptru(p32 + 1264));
 			if (load64u(p31 + 16) != 0)
 				rattle_dealloc(loadptru(p31));
-			rattle_dealloc(p353);
-			n351 = 2;
-			n352 = 0;
+			rattle_dealloc(p351);
+			n349 = 2;
+			n350 = 0;
 			goto L34;
 L30:
 			{
-				byte *p382 = loadptr(p31);
-				uint64_t n383 = load64(p31 + 8);
-				uint64_t n384 = 0;
+				byte *p380 = loadptr(p31);
+				uint64_t n381 = load64(p31 + 8);
+				uint64_t n382 = 0;
 				for (;;) {
-					if (n384 >= n383) {
-						n374 = 2;
+					if (n382 >= n381) {
+						n372 = 2;
 						goto L31;
 					}
-					uint64_t n385 = n383 - n384;
-					uint64_t n386 = os_write(1, at(p382, n384), n385);
-					if ((int64_t)n386 < (int64_t)0) {
+					uint64_t n383 = n381 - n382;
+					uint64_t n384 = os_write(1, at(p380, n382), n383);
+					if ((int64_t)n384 < (int64_t)0) {
 						tp_error_last_error(p24);
 						store8(p3 + 1, 1);
-						n374 = 3;
+						n372 = 3;
 						goto L31;
 					}
-					uint64_t n387 = umin64(n386, n385);
-					if (n387 == 0) {
+					uint64_t n385 = umin64(n384, n383);
+					if (n385 == 0) {
 						store8(p3 + 1, 1);
-						n374 = 3;
+						n372 = 3;
 						goto L31;
 					}
-					n384 = n384 + n387;
+					n382 = n382 + n385;
 				}
 			}
 L33:
 			{
-				uint64_t n388;
-				uint8_t n389, n390;
-				bool b391;
+				uint64_t n386;
+				uint8_t n387, n388;
+				bool b389;
 				memset(p22, 0, 24);
 				tp_Cutter_end(p22, p33, p4);
 				if (load8(p22) == 0) {
 					if (load8(p22 + 8) == 1) {
-						n388 = load64u(p22 + 16);
-						n389 = 1;
-						n390 = 1;
-						b391 = true;
+						n386 = load64u(p22 + 16);
+						n387 = 1;
+						n388 = 1;
+						b389 = true;
 					} else {
-						uint64_t n402;
+						uint64_t n400;
 						if (load64(p31 + 8) != 0)
 							store64(p31 + 8, 0);
-						uint64_t n392 = load64(p32 + 8);
-						uint64_t n393 = load64(p32 + 56);
-						uint64_t n394 = load64(p32 + 24);
-						byte *p395 = loadptr(p32 + 72);
-						uint64_t n396 = (uint64_t)load32(at(p395, n394 << 3) + 4);
-						bool b397 = n394 != n396;
-						uint64_t n398 = load64(p32 + 96);
-						uint64_t n399 = b397 ? (n396 - n398) : 0;
-						uint64_t n400 = 0;
-						bool b401 = b397;
+						uint64_t n390 = load64(p32 + 8);
+						uint64_t n391 = load64(p32 + 56);
+						uint64_t n392 = load64(p32 + 24);
+						byte *p393 = loadptr(p32 + 72);
+						uint64_t n394 = (uint64_t)load32(at(p393, n392 << 3) + 4);
+						bool b395 = n392 != n394;
+						uint64_t n396 = load64(p32 + 96);
+						uint64_t n397 = b395 ? (n394 - n396) : 0;
+						uint64_t n398 = 0;
+						bool b399 = b395;
 						for (;;) {
-							if (n400 == n393) {
-								n402 = n393;
+							if (n398 == n391) {
+								n400 = n391;
 								break;
 							}
-							if (!b401) {
-								n402 = n400;
+							if (!b399) {
+								n400 = n398;
 								break;
 							}
-							uint64_t n403 = (uint64_t)load32(at(p395, (n398 + n399) << 3) + 4);
-							n399 = usub_sat64(n403, n398);
-							n400 = n400 + 1;
-							b401 = n398 <= n403;
+							uint64_t n401 = (uint64_t)load32(at(p393, (n396 + n397) << 3) + 4);
+							n397 = usub_sat64(n401, n396);
+							n398 = n398 + 1;
+							b399 = n396 <= n401;
 						}
-						uint8_t n404 = tp_text_push_end(p31, n392, n393 - n402);
-						if ((n404 & 1) != 0) {
-							n388 = 0;
-							n389 = 2;
-							n390 = 1;
-							b391 = true;
+						uint8_t n402 = tp_text_push_end(p31, n390, n391 - n400);
+						if ((n402 & 1) != 0) {
+							n386 = 0;
+							n387 = 2;
+							n388 = 1;
+							b389 = true;
 						} else {
-							byte *p405 = loadptr(p31);
-							uint64_t n406 = load64(p31 + 8);
-							uint64_t n407 = 0;
-							while (n407 < n406) {
-								uint64_t n408 = n406 - n407;
-								uint64_t n409 = os_write(1, at(p405, n407), n408);
-								if ((int64_t)n409 < (int64_t)0) {
+							byte *p403 = loadptr(p31);
+							uint64_t n404 = load64(p31 + 8);
+							uint64_t n405 = 0;
+							while (n405 < n404) {
+								uint64_t n406 = n404 - n405;
+								uint64_t n407 = os_write(1, at(p403, n405), n406);
+								if ((int64_t)n407 < (int64_t)0) {
 									tp_error_last_error(p21);
 									goto L35;
 								}
-								uint64_t n410 = umin64(n409, n408);
-								if (n410 == 0)
+								uint64_t n408 = umin64(n407, n406);
+								if (n408 == 0)
 									goto L35;
-								n407 = n407 + n410;
+								n405 = n405 + n408;
 							}
-							n388 = 0;
-							n389 = 0;
-							n390 = (uint8_t)(load8(p33 + 88) ^ 1);
-							b391 = false;
+							n386 = 0;
+							n387 = 0;
+							n388 = (uint8_t)(load8(p33 + 88) ^ 1);
+							b389 = false;
 							goto L36;
 L35:
 							{
 								store8(p3 + 1, 1);
-								n388 = 0;
-								n389 = 3;
-								n390 = 1;
-								b391 = true;
+								n386 = 0;
+								n387 = 3;
+								n388 = 1;
+								b389 = true;
 							}
 						}
 					}
 				} else {
-					n388 = 0;
-					n389 = 2;
-					n390 = 1;
-					b391 = true;
+					n386 = 0;
+					n387 = 2;
+					n388 = 1;
+					b389 = true;
 				}
 L36:
 				{
@@ -60165,31 +60159,31 @@ L36:
 						rattle_dealloc(loadptru(p33 + 32));
 					if (load64u(p33 + 72) != 0)
 						rattle_dealloc(loadptru(p33 + 56));
-					byte *p411 = loadptru(p32 + 72);
-					uint64_t n412 = load64u(p32 + 88);
-					byte *p413 = loadptru(p32 + 1184);
-					uint64_t n414 = load64u(p32 + 1200);
-					byte *p415 = loadptru(p32 + 1216);
-					uint64_t n416 = load64u(p32 + 1232);
+					byte *p409 = loadptru(p32 + 72);
+					uint64_t n410 = load64u(p32 + 88);
+					byte *p411 = loadptru(p32 + 1184);
+					uint64_t n412 = load64u(p32 + 1200);
+					byte *p413 = loadptru(p32 + 1216);
+					uint64_t n414 = load64u(p32 + 1232);
 					if (load64u(p32 + 48) != 0)
 						rattle_dealloc(loadptru(p32 + 32));
+					if (n410 != 0)
+						rattle_dealloc(p409);
 					if (n412 != 0)
 						rattle_dealloc(p411);
 					if (n414 != 0)
 						rattle_dealloc(p413);
-					if (n416 != 0)
-						rattle_dealloc(p415);
 					if (load64u(p32 + 1256) != 0)
 						rattle_dealloc(loadptru(p32 + 1240));
 					if (load64u(p32 + 1280) != 0)
 						rattle_dealloc(loadptru(p32 + 1264));
 					if (load64u(p31 + 16) != 0)
 						rattle_dealloc(loadptru(p31));
-					rattle_dealloc(p353);
-					if (!b391)
-						return n390;
-					n417 = n388;
-					n418 = n389;
+					rattle_dealloc(p351);
+					if (!b389)
+						return n388;
+					n415 = n386;
+					n416 = n387;
 					goto L37;
 				}
 			}
@@ -60201,29 +60195,29 @@ L32:
 					rattle_dealloc(loadptru(p33 + 32));
 				if (load64u(p33 + 72) != 0)
 					rattle_dealloc(loadptru(p33 + 56));
-				byte *p419 = loadptru(p32 + 72);
-				uint64_t n420 = load64u(p32 + 88);
-				byte *p421 = loadptru(p32 + 1184);
-				uint64_t n422 = load64u(p32 + 1200);
-				byte *p423 = loadptru(p32 + 1216);
-				uint64_t n424 = load64u(p32 + 1232);
+				byte *p417 = loadptru(p32 + 72);
+				uint64_t n418 = load64u(p32 + 88);
+				byte *p419 = loadptru(p32 + 1184);
+				uint64_t n420 = load64u(p32 + 1200);
+				byte *p421 = loadptru(p32 + 1216);
+				uint64_t n422 = load64u(p32 + 1232);
 				if (load64u(p32 + 48) != 0)
 					rattle_dealloc(loadptru(p32 + 32));
+				if (n418 != 0)
+					rattle_dealloc(p417);
 				if (n420 != 0)
 					rattle_dealloc(p419);
 				if (n422 != 0)
 					rattle_dealloc(p421);
-				if (n424 != 0)
-					rattle_dealloc(p423);
 				if (load64u(p32 + 1256) != 0)
 					rattle_dealloc(loadptru(p32 + 1240));
 				if (load64u(p32 + 1280) != 0)
 					rattle_dealloc(loadptru(p32 + 1264));
 				if (load64u(p31 + 16) != 0)
 					rattle_dealloc(loadptru(p31));
-				rattle_dealloc(p353);
-				n351 = 1;
-				n352 = n358;
+				rattle_dealloc(p351);
+				n349 = 1;
+				n350 = n356;
 				goto L34;
 			}
 L31:
@@ -60234,29 +60228,29 @@ L31:
 					rattle_dealloc(loadptru(p33 + 32));
 				if (load64u(p33 + 72) != 0)
 					rattle_dealloc(loadptru(p33 + 56));
-				byte *p425 = loadptru(p32 + 72);
-				uint64_t n426 = load64u(p32 + 88);
-				byte *p427 = loadptru(p32 + 1184);
-				uint64_t n428 = load64u(p32 + 1200);
-				byte *p429 = loadptru(p32 + 1216);
-				uint64_t n430 = load64u(p32 + 1232);
+				byte *p423 = loadptru(p32 + 72);
+				uint64_t n424 = load64u(p32 + 88);
+				byte *p425 = loadptru(p32 + 1184);
+				uint64_t n426 = load64u(p32 + 1200);
+				byte *p427 = loadptru(p32 + 1216);
+				uint64_t n428 = load64u(p32 + 1232);
 				if (load64u(p32 + 48) != 0)
 					rattle_dealloc(loadptru(p32 + 32));
+				if (n424 != 0)
+					rattle_dealloc(p423);
 				if (n426 != 0)
 					rattle_dealloc(p425);
 				if (n428 != 0)
 					rattle_dealloc(p427);
-				if (n430 != 0)
-					rattle_dealloc(p429);
 				if (load64u(p32 + 1256) != 0)
 					rattle_dealloc(loadptru(p32 + 1240));
 				if (load64u(p32 + 1280) != 0)
 					rattle_dealloc(loadptru(p32 + 1264));
 				if (load64u(p31 + 16) != 0)
 					rattle_dealloc(loadptru(p31));
-				rattle_dealloc(p353);
-				n351 = n374;
-				n352 = 0;
+				rattle_dealloc(p351);
+				n349 = n372;
+				n350 = 0;
 				goto L34;
 			}
 L29:
@@ -60269,29 +60263,29 @@ L29:
 					rattle_dealloc(loadptru(p33 + 32));
 				if (load64u(p33 + 72) != 0)
 					rattle_dealloc(loadptru(p33 + 56));
-				byte *p431 = loadptru(p32 + 72);
-				uint64_t n432 = load64u(p32 + 88);
-				byte *p433 = loadptru(p32 + 1184);
-				uint64_t n434 = load64u(p32 + 1200);
-				byte *p435 = loadptru(p32 + 1216);
-				uint64_t n436 = load64u(p32 + 1232);
+				byte *p429 = loadptru(p32 + 72);
+				uint64_t n430 = load64u(p32 + 88);
+				byte *p431 = loadptru(p32 + 1184);
+				uint64_t n432 = load64u(p32 + 1200);
+				byte *p433 = loadptru(p32 + 1216);
+				uint64_t n434 = load64u(p32 + 1232);
 				if (load64u(p32 + 48) != 0)
 					rattle_dealloc(loadptru(p32 + 32));
+				if (n430 != 0)
+					rattle_dealloc(p429);
 				if (n432 != 0)
 					rattle_dealloc(p431);
 				if (n434 != 0)
 					rattle_dealloc(p433);
-				if (n436 != 0)
-					rattle_dealloc(p435);
 				if (load64u(p32 + 1256) != 0)
 					rattle_dealloc(loadptru(p32 + 1240));
 				if (load64u(p32 + 1280) != 0)
 					rattle_dealloc(loadptru(p32 + 1264));
 				if (load64u(p31 + 16) != 0)
 					rattle_dealloc(loadptru(p31));
-				rattle_dealloc(p353);
-				n351 = 0;
-				n352 = 0;
+				rattle_dealloc(p351);
+				n349 = 0;
+				n350 = 0;
 				goto L34;
 			}
 L28:
@@ -60302,46 +60296,46 @@ L28:
 					rattle_dealloc(loadptru(p33 + 32));
 				if (load64u(p33 + 72) != 0)
 					rattle_dealloc(loadptru(p33 + 56));
-				byte *p437 = loadptru(p32 + 72);
-				uint64_t n438 = load64u(p32 + 88);
-				byte *p439 = loadptru(p32 + 1184);
-				uint64_t n440 = load64u(p32 + 1200);
-				byte *p441 = loadptru(p32 + 1216);
-				uint64_t n442 = load64u(p32 + 1232);
+				byte *p435 = loadptru(p32 + 72);
+				uint64_t n436 = load64u(p32 + 88);
+				byte *p437 = loadptru(p32 + 1184);
+				uint64_t n438 = load64u(p32 + 1200);
+				byte *p439 = loadptru(p32 + 1216);
+				uint64_t n440 = load64u(p32 + 1232);
 				if (load64u(p32 + 48) != 0)
 					rattle_dealloc(loadptru(p32 + 32));
+				if (n436 != 0)
+					rattle_dealloc(p435);
 				if (n438 != 0)
 					rattle_dealloc(p437);
 				if (n440 != 0)
 					rattle_dealloc(p439);
-				if (n442 != 0)
-					rattle_dealloc(p441);
 				if (load64u(p32 + 1256) != 0)
 					rattle_dealloc(loadptru(p32 + 1240));
 				if (load64u(p32 + 1280) != 0)
 					rattle_dealloc(loadptru(p32 + 1264));
 				if (load64u(p31 + 16) != 0)
 					rattle_dealloc(loadptru(p31));
-				rattle_dealloc(p353);
-				n351 = 4;
-				n352 = 0;
+				rattle_dealloc(p351);
+				n349 = 4;
+				n350 = 0;
 			}
 		}
 L34:
 		{
-			n417 = n352;
-			n418 = n351;
+			n415 = n350;
+			n416 = n349;
 		}
 L37:
 		{
-			tp_timer_commands_error_report_report_2(n418, n417, p4);
+			tp_timer_commands_error_report_report_2(n416, n415, p4);
 			return 1;
 		}
 	}
 	case 2: {
-		uint8_t n444, n580;
-		uint64_t n445, n579;
-		memcpy(p13, p2 + 16, 16);
+		uint8_t n442, n578;
+		uint64_t n443, n577;
+		memcpy(p13, p2, 32);
 		memcpy(p14, p2 + 56, 16);
 		memcpy(p15, p2 + 96, 32);
 		memcpy(p16, p2 + 128, 1056);
@@ -60349,49 +60343,47 @@ L37:
 		memset(p18, 0, 1288);
 		memset(p19, 0, 96);
 		memset(p20, 0, 24);
-		of_i64_i64 s443 = rattle_alloc(16384, 1);
-		if ((s443.f0 & 1) == 0) {
-			if (n74 != 0)
-				rattle_dealloc(p72);
-			if (n77 != 0)
-				rattle_dealloc(p75);
-			if (n80 == 0) {
-				n444 = 2;
-				n445 = 0;
+		of_i64_i64 s441 = rattle_alloc(16384, 1);
+		if ((s441.f0 & 1) == 0) {
+			if (n72 != 0)
+				rattle_dealloc(p70);
+			if (n75 != 0)
+				rattle_dealloc(p73);
+			if (n78 == 0) {
+				n442 = 2;
+				n443 = 0;
 			} else {
-				rattle_dealloc(p78);
-				n444 = 2;
-				n445 = 0;
+				rattle_dealloc(p76);
+				n442 = 2;
+				n443 = 0;
 			}
 		} else {
-			uint64_t n451, n476, n477, n533, n535, n537;
-			uint8_t n530;
-			byte *p532, *p534, *p536;
-			byte *p446 = (byte *)(uintptr_t)s443.f1;
-			uint64_t n447 = 0;
-			while (n447 != 16383) {
-				store8(inside(p446, n447), 0);
-				n447 = n447 + 1;
+			uint64_t n449, n474, n475, n531, n533, n535;
+			uint8_t n528;
+			byte *p530, *p532, *p534;
+			byte *p444 = (byte *)(uintptr_t)s441.f1;
+			uint64_t n445 = 0;
+			while (n445 != 16383) {
+				store8(inside(p444, n445), 0);
+				n445 = n445 + 1;
 			}
-			store8(p446 + 16383, 0);
+			store8(p444 + 16383, 0);
 			storeptru(p17, p5);
 			memset(p17 + 8, 0, 16);
-			store64u(p18, n70);
-			store64u(p18 + 8, n71);
-			memcpy(p18 + 16, p13, 16);
-			storeptru(p18 + 32, p72);
-			store64u(p18 + 40, n73);
-			store64u(p18 + 48, n74);
+			memcpy(p18, p13, 32);
+			storeptru(p18 + 32, p70);
+			store64u(p18 + 40, n71);
+			store64u(p18 + 48, n72);
 			memcpy(p18 + 56, p14, 16);
-			storeptru(p18 + 72, p75);
-			store64u(p18 + 80, n76);
-			store64u(p18 + 88, n77);
+			storeptru(p18 + 72, p73);
+			store64u(p18 + 80, n74);
+			store64u(p18 + 88, n75);
 			memcpy(p18 + 96, p15, 32);
 			memcpy(p18 + 128, p16, 1056);
-			storeptru(p18 + 1184, p78);
-			store64u(p18 + 1192, n79);
-			store64u(p18 + 1200, n80);
-			store64u(p18 + 1208, n81);
+			storeptru(p18 + 1184, p76);
+			store64u(p18 + 1192, n77);
+			store64u(p18 + 1200, n78);
+			store64u(p18 + 1208, n79);
 			storeptru(p18 + 1216, p5);
 			memset(p18 + 1224, 0, 16);
 			storeptru(p18 + 1240, p5);
@@ -60408,43 +60400,43 @@ L37:
 			store64u(p19 + 80, 1);
 			store8(p19 + 88, 1);
 			memset(p19 + 89, 0, 7);
-			uint64_t n448 = 0;
+			uint64_t n446 = 0;
 			for (;;) {
-				if (n448 == UINT64_MAX)
+				if (n446 == UINT64_MAX)
 					goto L38;
-				uint64_t n449 = os_read(0, p446, 16384);
-				if ((int64_t)n449 < (int64_t)0)
+				uint64_t n447 = os_read(0, p444, 16384);
+				if ((int64_t)n447 < (int64_t)0)
 					goto L39;
-				tp_Cutter_take_in(p20, p19, p446, umin64(n449, 16384), p4);
+				tp_Cutter_take_in(p20, p19, p444, umin64(n447, 16384), p4);
 				if (load8(p20) != 0)
 					break;
-				uint8_t n450 = load8(p20 + 8);
-				n451 = load64u(p20 + 16);
-				byte *p452 = loadptr(p19 + 8);
-				uint64_t n453 = load64(p19 + 16);
+				uint8_t n448 = load8(p20 + 8);
+				n449 = load64u(p20 + 16);
+				byte *p450 = loadptr(p19 + 8);
+				uint64_t n451 = load64(p19 + 16);
 				if (load64(p17 + 8) != 0)
 					store64(p17 + 8, 0);
-				uint64_t n454 = 0;
-				while (n454 != n453) {
-					byte *p455 = at(p452, n454 * 48);
-					uint8_t n456 = load8(p455);
-					uint64_t n457 = load64u(p455 + 8);
-					uint64_t n458 = load64(p18 + 144);
-					uint64_t n459 = load64u(p455 + 16);
-					uint64_t n460 = load64u(p455 + 24);
-					uint64_t n461 = load64u(p455 + 32);
-					uint64_t n462 = load64u(p455 + 40);
-					store64u(p11, (uint64_t)n456);
-					store64(p11 + 8, n457);
-					store64(p11 + 16, n459);
-					store64(p11 + 24, n460);
-					store64(p11 + 32, n461);
-					store64(p11 + 40, n462);
+				uint64_t n452 = 0;
+				while (n452 != n451) {
+					byte *p453 = at(p450, n452 * 48);
+					uint8_t n454 = load8(p453);
+					uint64_t n455 = load64u(p453 + 8);
+					uint64_t n456 = load64(p18 + 144);
+					uint64_t n457 = load64u(p453 + 16);
+					uint64_t n458 = load64u(p453 + 24);
+					uint64_t n459 = load64u(p453 + 32);
+					uint64_t n460 = load64u(p453 + 40);
+					store64u(p11, (uint64_t)n454);
+					store64(p11 + 8, n455);
+					store64(p11 + 16, n457);
+					store64(p11 + 24, n458);
+					store64(p11 + 32, n459);
+					store64(p11 + 40, n460);
 					if ((n60 & 1) != 0) {
-						uint64_t n463;
-						switch (n456) {
+						uint64_t n461;
+						switch (n454) {
 						case 3: {
-							n463 = n457;
+							n461 = n455;
 							break;
 						}
 						case 0:
@@ -60457,266 +60449,266 @@ L37:
 							UNREACHABLE();
 						}
 						}
-						while (n463 != 0) {
-							uint64_t n468;
-							uint64_t n464 = load64(p18 + 8);
-							uint64_t n465 = load64(p18);
-							bool b466 = (load8(p18 + 1176) & 1) != 0;
-							uint64_t n467 = load64(p18 + 120);
+						while (n461 != 0) {
+							uint64_t n466;
+							uint64_t n462 = load64(p18 + 8);
+							uint64_t n463 = load64(p18);
+							bool b464 = (load8(p18 + 1176) & 1) != 0;
+							uint64_t n465 = load64(p18 + 120);
 							if (load64(p18 + 56) == 0) {
-								n468 = n463;
+								n466 = n461;
 							} else {
-								uint64_t n471;
-								uint64_t n469 = load64(p18 + 24);
-								uint64_t n470 = 0;
+								uint64_t n469;
+								uint64_t n467 = load64(p18 + 24);
+								uint64_t n468 = 0;
 								for (;;) {
-									if (n470 == n469) {
-										n468 = n463;
+									if (n468 == n467) {
+										n466 = n461;
 										goto L41;
 									}
-									n471 = n470 + 1;
-									uint64_t n472 = n467 + n471;
-									uint64_t n473 = n472 - ((n472 < n469) ? 0 : n469);
-									if (n473 != (uint64_t)load32(at(loadptr(p18 + 72), n473 << 3) + 4))
+									n469 = n468 + 1;
+									uint64_t n470 = n465 + n469;
+									uint64_t n471 = n470 - ((n470 < n467) ? 0 : n467);
+									if (n471 != (uint64_t)load32(at(loadptr(p18 + 72), n471 << 3) + 4))
 										break;
-									n470 = n471;
+									n468 = n469;
 								}
-								if (((n464 + n471) > n465) || b466) {
-									n468 = n463;
+								if (((n462 + n469) > n463) || b464) {
+									n466 = n461;
 								} else {
-									n468 = umin64(n471, n463);
+									n466 = umin64(n469, n461);
 								}
 							}
 L41:
 							{
 								memset(p10 + 16, 0, 32);
 								store64u(p10, 3);
-								store64(p10 + 8, n468);
-								uint8_t n474 = tp_timer_script_session_Session_play_one(p18, p10, p17);
-								if ((n474 & 1) != 0)
+								store64(p10 + 8, n466);
+								uint8_t n472 = tp_timer_script_session_Session_play_one(p18, p10, p17);
+								if ((n472 & 1) != 0)
 									goto L42;
-								n463 = n463 - n468;
+								n461 = n461 - n466;
 							}
 						}
 						goto L43;
 					}
 L40:
 					{
-						uint8_t n475 = tp_timer_script_session_Session_play_one(p18, p11, p17);
-						if ((n475 & 1) != 0) {
-							n476 = load64(p17 + 8);
+						uint8_t n473 = tp_timer_script_session_Session_play_one(p18, p11, p17);
+						if ((n473 & 1) != 0) {
+							n474 = load64(p17 + 8);
 							goto L44;
 						}
 					}
 L43:
 					{
-						uint64_t n479, n480, n482, n484, n485, n486, n487, n488;
-						uint8_t n481;
-						n477 = load64(p17 + 8);
-						uint64_t n478 = load64(p18 + 8);
+						uint64_t n477, n478, n480, n482, n483, n484, n485, n486;
+						uint8_t n479;
+						n475 = load64(p17 + 8);
+						uint64_t n476 = load64(p18 + 8);
 						if (n66 == 1) {
-							if (n67 > n478) {
-								n479 = n477;
+							if (n67 > n476) {
+								n477 = n475;
 								goto L45;
 							}
 						}
 						if (n68 == 1) {
-							if (n478 > n69) {
-								n479 = n477;
+							if (n476 > n69) {
+								n477 = n475;
 								goto L45;
 							}
 						}
-						n480 = ((n61 & 1) != 0) ? n458 : 0;
-						n481 = tp_render_push_number(p17, (byte *)tp_static_283, 6, n478);
-						if ((n481 & 1) != 0)
+						n478 = ((n61 & 1) != 0) ? n456 : 0;
+						n479 = tp_render_push_number(p17, (byte *)tp_static_283, 6, n476);
+						if ((n479 & 1) != 0)
 							goto L46;
-						n482 = load64(p17 + 8);
-						if (load64(p17 + 16) == n482) {
-							bool b483 = tp_std_alloc_vec_Vec_grow_amortized_6(p17, 1);
-							if (!b483)
+						n480 = load64(p17 + 8);
+						if (load64(p17 + 16) == n480) {
+							bool b481 = tp_std_alloc_vec_Vec_grow_amortized_6(p17, 1);
+							if (!b481)
 								goto L46;
-							n484 = load64(p17 + 8);
+							n482 = load64(p17 + 8);
 						} else {
-							n484 = n482;
+							n482 = n480;
 						}
-						store8(inside(loadptr(p17), n484), 10);
-						n485 = n484 + 1;
-						store64(p17 + 8, n485);
-						n486 = load64(p18 + 96);
-						n487 = n485;
-						n488 = 0;
+						store8(inside(loadptr(p17), n482), 10);
+						n483 = n482 + 1;
+						store64(p17 + 8, n483);
+						n484 = load64(p18 + 96);
+						n485 = n483;
+						n486 = 0;
 						for (;;) {
-							uint64_t n525;
-							if (n488 == n486) {
-								n479 = n487;
+							uint64_t n523;
+							if (n486 == n484) {
+								n477 = n485;
 								break;
 							}
-							byte *p489 = loadptr(p18 + 72);
-							uint64_t n490 = load64(p18 + 96);
-							uint64_t n491 = (uint64_t)load32(at(p489, n488 << 3));
-							uint64_t n492 = load64(p18 + 56);
-							uint8_t n493 = 0;
-							uint64_t n494 = 0;
-							uint64_t n495 = n491;
-							uint64_t n496 = usub_sat64(n491, n490);
-							uint64_t n497 = 0;
-							while (n497 != n492) {
-								uint8_t n501;
-								uint64_t n502;
-								if (n490 > n495)
+							byte *p487 = loadptr(p18 + 72);
+							uint64_t n488 = load64(p18 + 96);
+							uint64_t n489 = (uint64_t)load32(at(p487, n486 << 3));
+							uint64_t n490 = load64(p18 + 56);
+							uint8_t n491 = 0;
+							uint64_t n492 = 0;
+							uint64_t n493 = n489;
+							uint64_t n494 = usub_sat64(n489, n488);
+							uint64_t n495 = 0;
+							while (n495 != n490) {
+								uint8_t n499;
+								uint64_t n500;
+								if (n488 > n493)
 									break;
-								byte *p498 = at(loadptr(p18 + 32), n496 * 56);
-								if (n496 >= load64(p18 + 40))
+								byte *p496 = at(loadptr(p18 + 32), n494 * 56);
+								if (n494 >= load64(p18 + 40))
 									break;
-								if (load8(p498) != 1)
+								if (load8(p496) != 1)
 									break;
-								uint64_t n499 = load64u(p498 + 8);
-								uint64_t n500 = load64u(p498 + 16);
-								if (n499 < n480)
+								uint64_t n497 = load64u(p496 + 8);
+								uint64_t n498 = load64u(p496 + 16);
+								if (n497 < n478)
 									break;
 								if (n62 == 1) {
-									if (n63 != n500) {
-										n501 = n493;
-										n502 = n494;
+									if (n63 != n498) {
+										n499 = n491;
+										n500 = n492;
 										goto L47;
 									}
 								}
 								if (n64 == 1) {
-									if (n65 != n499) {
-										n501 = n493;
-										n502 = n494;
+									if (n65 != n497) {
+										n499 = n491;
+										n500 = n492;
 										goto L47;
 									}
 								}
-								n501 = 1;
-								n502 = n496;
+								n499 = 1;
+								n500 = n494;
 L47:
 								{
-									uint64_t n503 = (uint64_t)load32(at(p489, (n490 + n496) << 3));
+									uint64_t n501 = (uint64_t)load32(at(p487, (n488 + n494) << 3));
+									n491 = n499;
+									n492 = n500;
 									n493 = n501;
-									n494 = n502;
-									n495 = n503;
-									n496 = usub_sat64(n503, n490);
-									n497 = n497 + 1;
+									n494 = usub_sat64(n501, n488);
+									n495 = n495 + 1;
 								}
 							}
-							if (n493 == 1) {
-								uint64_t n505, n509, n523;
-								if (load64(p17 + 16) == n487) {
-									bool b504 = tp_std_alloc_vec_Vec_grow_amortized_6(p17, 1);
-									if (!b504)
+							if (n491 == 1) {
+								uint64_t n503, n507, n521;
+								if (load64(p17 + 16) == n485) {
+									bool b502 = tp_std_alloc_vec_Vec_grow_amortized_6(p17, 1);
+									if (!b502)
 										goto L46;
-									n505 = load64(p17 + 8);
+									n503 = load64(p17 + 8);
 								} else {
-									n505 = n487;
+									n503 = n485;
 								}
-								store8(inside(loadptr(p17), n505), 32);
-								store64(p17 + 8, n505 + 1);
-								uint8_t n506 = tp_render_push_number(p17, (byte *)tp_static_287, 6, n488);
-								if ((n506 & 1) != 0)
+								store8(inside(loadptr(p17), n503), 32);
+								store64(p17 + 8, n503 + 1);
+								uint8_t n504 = tp_render_push_number(p17, (byte *)tp_static_287, 6, n486);
+								if ((n504 & 1) != 0)
 									goto L46;
-								uint64_t n507 = load64(p17 + 8);
-								if (load64(p17 + 16) == n507) {
-									bool b508 = tp_std_alloc_vec_Vec_grow_amortized_6(p17, 1);
-									if (!b508)
+								uint64_t n505 = load64(p17 + 8);
+								if (load64(p17 + 16) == n505) {
+									bool b506 = tp_std_alloc_vec_Vec_grow_amortized_6(p17, 1);
+									if (!b506)
 										goto L46;
-									n509 = load64(p17 + 8);
+									n507 = load64(p17 + 8);
 								} else {
-									n509 = n507;
+									n507 = n505;
 								}
-								store8(inside(loadptr(p17), n509), 58);
-								store64(p17 + 8, n509 + 1);
-								uint64_t n510 = load64(p18 + 56);
-								uint64_t n511 = n494;
-								uint64_t n512 = 0;
-								bool b513 = true;
-								while (n512 != n510) {
-									uint8_t n517, n518;
-									if (!b513)
+								store8(inside(loadptr(p17), n507), 58);
+								store64(p17 + 8, n507 + 1);
+								uint64_t n508 = load64(p18 + 56);
+								uint64_t n509 = n492;
+								uint64_t n510 = 0;
+								bool b511 = true;
+								while (n510 != n508) {
+									uint8_t n515, n516;
+									if (!b511)
 										break;
-									byte *p514 = at(loadptr(p18 + 32), n511 * 56);
-									if (n511 >= load64(p18 + 40))
+									byte *p512 = at(loadptr(p18 + 32), n509 * 56);
+									if (n509 >= load64(p18 + 40))
 										break;
-									if (load8(p514) != 1)
+									if (load8(p512) != 1)
 										break;
-									uint64_t n515 = load64u(p514 + 8);
-									uint64_t n516 = load64u(p514 + 48);
+									uint64_t n513 = load64u(p512 + 8);
+									uint64_t n514 = load64u(p512 + 48);
 									if (n62 == 1) {
-										if (n63 != load64u(p514 + 16))
+										if (n63 != load64u(p512 + 16))
 											goto L48;
 									}
 									if (n64 == 1) {
-										if ((n65 != n515) || (n480 > n515))
+										if ((n65 != n513) || (n478 > n513))
 											goto L48;
-									} else if (n480 > n515) {
+									} else if (n478 > n513) {
 										goto L48;
 									}
-									n517 = tp_render_push_number(p17, (byte *)tp_static_93, 1, n515);
-									if ((n517 & 1) != 0)
+									n515 = tp_render_push_number(p17, (byte *)tp_static_93, 1, n513);
+									if ((n515 & 1) != 0)
 										goto L46;
-									n518 = tp_render_push_number(p17, (byte *)tp_static_191, 1, n516);
-									if ((n518 & 1) != 0)
+									n516 = tp_render_push_number(p17, (byte *)tp_static_191, 1, n514);
+									if ((n516 & 1) != 0)
 										goto L46;
 L48:
 									{
-										uint64_t n519 = load64(p18 + 96);
-										uint64_t n520 = (uint64_t)load32(at(loadptr(p18 + 72), (n519 + n511) << 3) + 4);
-										n511 = usub_sat64(n520, n519);
-										n512 = n512 + 1;
-										b513 = n519 <= n520;
+										uint64_t n517 = load64(p18 + 96);
+										uint64_t n518 = (uint64_t)load32(at(loadptr(p18 + 72), (n517 + n509) << 3) + 4);
+										n509 = usub_sat64(n518, n517);
+										n510 = n510 + 1;
+										b511 = n517 <= n518;
 									}
 								}
-								uint64_t n521 = load64(p17 + 8);
-								if (load64(p17 + 16) == n521) {
-									bool b522 = tp_std_alloc_vec_Vec_grow_amortized_6(p17, 1);
-									if (!b522)
+								uint64_t n519 = load64(p17 + 8);
+								if (load64(p17 + 16) == n519) {
+									bool b520 = tp_std_alloc_vec_Vec_grow_amortized_6(p17, 1);
+									if (!b520)
 										goto L46;
-									n523 = load64(p17 + 8);
+									n521 = load64(p17 + 8);
 								} else {
-									n523 = n521;
+									n521 = n519;
 								}
-								store8(inside(loadptr(p17), n523), 10);
-								uint64_t n524 = n523 + 1;
-								store64(p17 + 8, n524);
-								n525 = n524;
+								store8(inside(loadptr(p17), n521), 10);
+								uint64_t n522 = n521 + 1;
+								store64(p17 + 8, n522);
+								n523 = n522;
 							} else {
-								n525 = n487;
+								n523 = n485;
 							}
-							n487 = n525;
-							n488 = n488 + 1;
+							n485 = n523;
+							n486 = n486 + 1;
 						}
 L45:
 						{
-							byte *p526 = loadptr(p17);
-							uint64_t n527 = 0;
-							while (n527 < n479) {
-								uint64_t n528 = n479 - n527;
-								uint64_t n529 = os_write(1, at(p526, n527), n528);
-								if ((int64_t)n529 < (int64_t)0) {
+							byte *p524 = loadptr(p17);
+							uint64_t n525 = 0;
+							while (n525 < n477) {
+								uint64_t n526 = n477 - n525;
+								uint64_t n527 = os_write(1, at(p524, n525), n526);
+								if ((int64_t)n527 < (int64_t)0) {
 									tp_error_last_error(p8);
 									store8(p3 + 1, 1);
-									n530 = 3;
+									n528 = 3;
 									goto L49;
 								}
-								uint64_t n531 = umin64(n529, n528);
-								if (n531 == 0) {
+								uint64_t n529 = umin64(n527, n526);
+								if (n529 == 0) {
 									store8(p3 + 1, 1);
-									n530 = 3;
+									n528 = 3;
 									goto L49;
 								}
-								n527 = n527 + n531;
+								n525 = n525 + n529;
 							}
 							if (load64(p17 + 8) != 0)
 								store64(p17 + 8, 0);
-							n454 = n454 + 1;
+							n452 = n452 + 1;
 						}
 					}
 				}
-				if (n450 == 1)
+				if (n448 == 1)
 					goto L50;
-				if (n449 == 0)
+				if (n447 == 0)
 					goto L51;
-				n448 = n448 + 1;
+				n446 = n446 + 1;
 			}
 			if (load64u(p19 + 24) != 0)
 				rattle_dealloc(loadptru(p19 + 8));
@@ -60724,71 +60716,71 @@ L45:
 				rattle_dealloc(loadptru(p19 + 32));
 			if (load64u(p19 + 72) != 0)
 				rattle_dealloc(loadptru(p19 + 56));
-			p532 = loadptru(p18 + 72);
-			n533 = load64u(p18 + 88);
-			p534 = loadptru(p18 + 1184);
-			n535 = load64u(p18 + 1200);
-			p536 = loadptru(p18 + 1216);
-			n537 = load64u(p18 + 1232);
+			p530 = loadptru(p18 + 72);
+			n531 = load64u(p18 + 88);
+			p532 = loadptru(p18 + 1184);
+			n533 = load64u(p18 + 1200);
+			p534 = loadptru(p18 + 1216);
+			n535 = load64u(p18 + 1232);
 			if (load64u(p18 + 48) != 0)
 				rattle_dealloc(loadptru(p18 + 32));
+			if (n531 != 0)
+				rattle_dealloc(p530);
 			if (n533 != 0)
 				rattle_dealloc(p532);
 			if (n535 != 0)
 				rattle_dealloc(p534);
-			if (n537 != 0)
-				rattle_dealloc(p536);
 			if (load64u(p18 + 1256) != 0)
 				rattle_dealloc(loadptru(p18 + 1240));
 			if (load64u(p18 + 1280) != 0)
 				rattle_dealloc(loadptru(p18 + 1264));
 			if (load64u(p17 + 16) != 0)
 				rattle_dealloc(loadptru(p17));
-			rattle_dealloc(p446);
-			n444 = 2;
-			n445 = 0;
+			rattle_dealloc(p444);
+			n442 = 2;
+			n443 = 0;
 			goto L52;
 L42:
 			{
 				if (load64(p17 + 8) != 0)
 					store64(p17 + 8, 0);
-				n476 = 0;
+				n474 = 0;
 				goto L44;
 			}
 L46:
 			{
-				uint64_t n538 = load64(p17 + 8);
-				if (n538 > n477) {
-					store64(p17 + 8, n477);
-					n476 = n477;
+				uint64_t n536 = load64(p17 + 8);
+				if (n536 > n475) {
+					store64(p17 + 8, n475);
+					n474 = n475;
 				} else {
-					n476 = n538;
+					n474 = n536;
 				}
 			}
 L44:
 			{
-				byte *p539 = loadptr(p17);
-				uint64_t n540 = 0;
+				byte *p537 = loadptr(p17);
+				uint64_t n538 = 0;
 				for (;;) {
-					if (n540 >= n476) {
-						n530 = 2;
+					if (n538 >= n474) {
+						n528 = 2;
 						break;
 					}
-					uint64_t n541 = n476 - n540;
-					uint64_t n542 = os_write(1, at(p539, n540), n541);
-					if ((int64_t)n542 < (int64_t)0) {
+					uint64_t n539 = n474 - n538;
+					uint64_t n540 = os_write(1, at(p537, n538), n539);
+					if ((int64_t)n540 < (int64_t)0) {
 						tp_error_last_error(p9);
 						store8(p3 + 1, 1);
-						n530 = 3;
+						n528 = 3;
 						break;
 					}
-					uint64_t n543 = umin64(n542, n541);
-					if (n543 == 0) {
+					uint64_t n541 = umin64(n540, n539);
+					if (n541 == 0) {
 						store8(p3 + 1, 1);
-						n530 = 3;
+						n528 = 3;
 						break;
 					}
-					n540 = n540 + n543;
+					n538 = n538 + n541;
 				}
 			}
 L49:
@@ -60799,114 +60791,114 @@ L49:
 					rattle_dealloc(loadptru(p19 + 32));
 				if (load64u(p19 + 72) != 0)
 					rattle_dealloc(loadptru(p19 + 56));
-				byte *p544 = loadptru(p18 + 72);
-				uint64_t n545 = load64u(p18 + 88);
-				byte *p546 = loadptru(p18 + 1184);
-				uint64_t n547 = load64u(p18 + 1200);
-				byte *p548 = loadptru(p18 + 1216);
-				uint64_t n549 = load64u(p18 + 1232);
+				byte *p542 = loadptru(p18 + 72);
+				uint64_t n543 = load64u(p18 + 88);
+				byte *p544 = loadptru(p18 + 1184);
+				uint64_t n545 = load64u(p18 + 1200);
+				byte *p546 = loadptru(p18 + 1216);
+				uint64_t n547 = load64u(p18 + 1232);
 				if (load64u(p18 + 48) != 0)
 					rattle_dealloc(loadptru(p18 + 32));
+				if (n543 != 0)
+					rattle_dealloc(p542);
 				if (n545 != 0)
 					rattle_dealloc(p544);
 				if (n547 != 0)
 					rattle_dealloc(p546);
-				if (n549 != 0)
-					rattle_dealloc(p548);
 				if (load64u(p18 + 1256) != 0)
 					rattle_dealloc(loadptru(p18 + 1240));
 				if (load64u(p18 + 1280) != 0)
 					rattle_dealloc(loadptru(p18 + 1264));
 				if (load64u(p17 + 16) != 0)
 					rattle_dealloc(loadptru(p17));
-				rattle_dealloc(p446);
-				n444 = n530;
-				n445 = 0;
+				rattle_dealloc(p444);
+				n442 = n528;
+				n443 = 0;
 				goto L52;
 			}
 L51:
 			{
-				uint64_t n550;
-				uint8_t n551, n552;
-				bool b553;
+				uint64_t n548;
+				uint8_t n549, n550;
+				bool b551;
 				memset(p7, 0, 24);
 				tp_Cutter_end(p7, p19, p4);
 				if (load8(p7) == 0) {
 					if (load8(p7 + 8) == 1) {
-						n550 = load64u(p7 + 16);
-						n551 = 1;
-						n552 = 1;
-						b553 = true;
+						n548 = load64u(p7 + 16);
+						n549 = 1;
+						n550 = 1;
+						b551 = true;
 					} else {
-						uint64_t n564;
+						uint64_t n562;
 						if (load64(p17 + 8) != 0)
 							store64(p17 + 8, 0);
-						uint64_t n554 = load64(p18 + 8);
-						uint64_t n555 = load64(p18 + 56);
-						uint64_t n556 = load64(p18 + 24);
-						byte *p557 = loadptr(p18 + 72);
-						uint64_t n558 = (uint64_t)load32(at(p557, n556 << 3) + 4);
-						bool b559 = n556 != n558;
-						uint64_t n560 = load64(p18 + 96);
-						uint64_t n561 = b559 ? (n558 - n560) : 0;
-						uint64_t n562 = 0;
-						bool b563 = b559;
+						uint64_t n552 = load64(p18 + 8);
+						uint64_t n553 = load64(p18 + 56);
+						uint64_t n554 = load64(p18 + 24);
+						byte *p555 = loadptr(p18 + 72);
+						uint64_t n556 = (uint64_t)load32(at(p555, n554 << 3) + 4);
+						bool b557 = n554 != n556;
+						uint64_t n558 = load64(p18 + 96);
+						uint64_t n559 = b557 ? (n556 - n558) : 0;
+						uint64_t n560 = 0;
+						bool b561 = b557;
 						for (;;) {
-							if (n562 == n555) {
-								n564 = n555;
+							if (n560 == n553) {
+								n562 = n553;
 								break;
 							}
-							if (!b563) {
-								n564 = n562;
+							if (!b561) {
+								n562 = n560;
 								break;
 							}
-							uint64_t n565 = (uint64_t)load32(at(p557, (n560 + n561) << 3) + 4);
-							n561 = usub_sat64(n565, n560);
-							n562 = n562 + 1;
-							b563 = n560 <= n565;
+							uint64_t n563 = (uint64_t)load32(at(p555, (n558 + n559) << 3) + 4);
+							n559 = usub_sat64(n563, n558);
+							n560 = n560 + 1;
+							b561 = n558 <= n563;
 						}
-						uint8_t n566 = tp_text_push_end(p17, n554, n555 - n564);
-						if ((n566 & 1) != 0) {
-							n550 = 0;
-							n551 = 2;
-							n552 = 1;
-							b553 = true;
+						uint8_t n564 = tp_text_push_end(p17, n552, n553 - n562);
+						if ((n564 & 1) != 0) {
+							n548 = 0;
+							n549 = 2;
+							n550 = 1;
+							b551 = true;
 						} else {
-							byte *p567 = loadptr(p17);
-							uint64_t n568 = load64(p17 + 8);
-							uint64_t n569 = 0;
-							while (n569 < n568) {
-								uint64_t n570 = n568 - n569;
-								uint64_t n571 = os_write(1, at(p567, n569), n570);
-								if ((int64_t)n571 < (int64_t)0) {
+							byte *p565 = loadptr(p17);
+							uint64_t n566 = load64(p17 + 8);
+							uint64_t n567 = 0;
+							while (n567 < n566) {
+								uint64_t n568 = n566 - n567;
+								uint64_t n569 = os_write(1, at(p565, n567), n568);
+								if ((int64_t)n569 < (int64_t)0) {
 									tp_error_last_error(p6);
 									goto L53;
 								}
-								uint64_t n572 = umin64(n571, n570);
-								if (n572 == 0)
+								uint64_t n570 = umin64(n569, n568);
+								if (n570 == 0)
 									goto L53;
-								n569 = n569 + n572;
+								n567 = n567 + n570;
 							}
-							n550 = 0;
-							n551 = 0;
-							n552 = (uint8_t)(load8(p19 + 88) ^ 1);
-							b553 = false;
+							n548 = 0;
+							n549 = 0;
+							n550 = (uint8_t)(load8(p19 + 88) ^ 1);
+							b551 = false;
 							goto L54;
 L53:
 							{
 								store8(p3 + 1, 1);
-								n550 = 0;
-								n551 = 3;
-								n552 = 1;
-								b553 = true;
+								n548 = 0;
+								n549 = 3;
+								n550 = 1;
+								b551 = true;
 							}
 						}
 					}
 				} else {
-					n550 = 0;
-					n551 = 2;
-					n552 = 1;
-					b553 = true;
+					n548 = 0;
+					n549 = 2;
+					n550 = 1;
+					b551 = true;
 				}
 L54:
 				{
@@ -60916,31 +60908,31 @@ L54:
 						rattle_dealloc(loadptru(p19 + 32));
 					if (load64u(p19 + 72) != 0)
 						rattle_dealloc(loadptru(p19 + 56));
-					byte *p573 = loadptru(p18 + 72);
-					uint64_t n574 = load64u(p18 + 88);
-					byte *p575 = loadptru(p18 + 1184);
-					uint64_t n576 = load64u(p18 + 1200);
-					byte *p577 = loadptru(p18 + 1216);
-					uint64_t n578 = load64u(p18 + 1232);
+					byte *p571 = loadptru(p18 + 72);
+					uint64_t n572 = load64u(p18 + 88);
+					byte *p573 = loadptru(p18 + 1184);
+					uint64_t n574 = load64u(p18 + 1200);
+					byte *p575 = loadptru(p18 + 1216);
+					uint64_t n576 = load64u(p18 + 1232);
 					if (load64u(p18 + 48) != 0)
 						rattle_dealloc(loadptru(p18 + 32));
+					if (n572 != 0)
+						rattle_dealloc(p571);
 					if (n574 != 0)
 						rattle_dealloc(p573);
 					if (n576 != 0)
 						rattle_dealloc(p575);
-					if (n578 != 0)
-						rattle_dealloc(p577);
 					if (load64u(p18 + 1256) != 0)
 						rattle_dealloc(loadptru(p18 + 1240));
 					if (load64u(p18 + 1280) != 0)
 						rattle_dealloc(loadptru(p18 + 1264));
 					if (load64u(p17 + 16) != 0)
 						rattle_dealloc(loadptru(p17));
-					rattle_dealloc(p446);
-					if (!b553)
-						return n552;
-					n579 = n550;
-					n580 = n551;
+					rattle_dealloc(p444);
+					if (!b551)
+						return n550;
+					n577 = n548;
+					n578 = n549;
 					goto L55;
 				}
 			}
@@ -60952,29 +60944,29 @@ L50:
 					rattle_dealloc(loadptru(p19 + 32));
 				if (load64u(p19 + 72) != 0)
 					rattle_dealloc(loadptru(p19 + 56));
-				byte *p581 = loadptru(p18 + 72);
-				uint64_t n582 = load64u(p18 + 88);
-				byte *p583 = loadptru(p18 + 1184);
-				uint64_t n584 = load64u(p18 + 1200);
-				byte *p585 = loadptru(p18 + 1216);
-				uint64_t n586 = load64u(p18 + 1232);
+				byte *p579 = loadptru(p18 + 72);
+				uint64_t n580 = load64u(p18 + 88);
+				byte *p581 = loadptru(p18 + 1184);
+				uint64_t n582 = load64u(p18 + 1200);
+				byte *p583 = loadptru(p18 + 1216);
+				uint64_t n584 = load64u(p18 + 1232);
 				if (load64u(p18 + 48) != 0)
 					rattle_dealloc(loadptru(p18 + 32));
+				if (n580 != 0)
+					rattle_dealloc(p579);
 				if (n582 != 0)
 					rattle_dealloc(p581);
 				if (n584 != 0)
 					rattle_dealloc(p583);
-				if (n586 != 0)
-					rattle_dealloc(p585);
 				if (load64u(p18 + 1256) != 0)
 					rattle_dealloc(loadptru(p18 + 1240));
 				if (load64u(p18 + 1280) != 0)
 					rattle_dealloc(loadptru(p18 + 1264));
 				if (load64u(p17 + 16) != 0)
 					rattle_dealloc(loadptru(p17));
-				rattle_dealloc(p446);
-				n444 = 1;
-				n445 = n451;
+				rattle_dealloc(p444);
+				n442 = 1;
+				n443 = n449;
 				goto L52;
 			}
 L39:
@@ -60987,29 +60979,29 @@ L39:
 					rattle_dealloc(loadptru(p19 + 32));
 				if (load64u(p19 + 72) != 0)
 					rattle_dealloc(loadptru(p19 + 56));
-				byte *p587 = loadptru(p18 + 72);
-				uint64_t n588 = load64u(p18 + 88);
-				byte *p589 = loadptru(p18 + 1184);
-				uint64_t n590 = load64u(p18 + 1200);
-				byte *p591 = loadptru(p18 + 1216);
-				uint64_t n592 = load64u(p18 + 1232);
+				byte *p585 = loadptru(p18 + 72);
+				uint64_t n586 = load64u(p18 + 88);
+				byte *p587 = loadptru(p18 + 1184);
+				uint64_t n588 = load64u(p18 + 1200);
+				byte *p589 = loadptru(p18 + 1216);
+				uint64_t n590 = load64u(p18 + 1232);
 				if (load64u(p18 + 48) != 0)
 					rattle_dealloc(loadptru(p18 + 32));
+				if (n586 != 0)
+					rattle_dealloc(p585);
 				if (n588 != 0)
 					rattle_dealloc(p587);
 				if (n590 != 0)
 					rattle_dealloc(p589);
-				if (n592 != 0)
-					rattle_dealloc(p591);
 				if (load64u(p18 + 1256) != 0)
 					rattle_dealloc(loadptru(p18 + 1240));
 				if (load64u(p18 + 1280) != 0)
 					rattle_dealloc(loadptru(p18 + 1264));
 				if (load64u(p17 + 16) != 0)
 					rattle_dealloc(loadptru(p17));
-				rattle_dealloc(p446);
-				n444 = 0;
-				n445 = 0;
+				rattle_dealloc(p444);
+				n442 = 0;
+				n443 = 0;
 				goto L52;
 			}
 L38:
@@ -61020,39 +61012,39 @@ L38:
 					rattle_dealloc(loadptru(p19 + 32));
 				if (load64u(p19 + 72) != 0)
 					rattle_dealloc(loadptru(p19 + 56));
-				byte *p593 = loadptru(p18 + 72);
-				uint64_t n594 = load64u(p18 + 88);
-				byte *p595 = loadptru(p18 + 1184);
-				uint64_t n596 = load64u(p18 + 1200);
-				byte *p597 = loadptru(p18 + 1216);
-				uint64_t n598 = load64u(p18 + 1232);
+				byte *p591 = loadptru(p18 + 72);
+				uint64_t n592 = load64u(p18 + 88);
+				byte *p593 = loadptru(p18 + 1184);
+				uint64_t n594 = load64u(p18 + 1200);
+				byte *p595 = loadptru(p18 + 1216);
+				uint64_t n596 = load64u(p18 + 1232);
 				if (load64u(p18 + 48) != 0)
 					rattle_dealloc(loadptru(p18 + 32));
+				if (n592 != 0)
+					rattle_dealloc(p591);
 				if (n594 != 0)
 					rattle_dealloc(p593);
 				if (n596 != 0)
 					rattle_dealloc(p595);
-				if (n598 != 0)
-					rattle_dealloc(p597);
 				if (load64u(p18 + 1256) != 0)
 					rattle_dealloc(loadptru(p18 + 1240));
 				if (load64u(p18 + 1280) != 0)
 					rattle_dealloc(loadptru(p18 + 1264));
 				if (load64u(p17 + 16) != 0)
 					rattle_dealloc(loadptru(p17));
-				rattle_dealloc(p446);
-				n444 = 4;
-				n445 = 0;
+				rattle_dealloc(p444);
+				n442 = 4;
+				n443 = 0;
 			}
 		}
 L52:
 		{
-			n579 = n445;
-			n580 = n444;
+			n577 = n443;
+			n578 = n442;
 		}
 L55:
 		{
-			tp_timer_commands_error_report_report_2(n580, n579, p4);
+			tp_timer_commands_error_report_report_2(n578, n577, p4);
 			return 1;
 		}
 	}
@@ -66119,435 +66111,427 @@ static uint8_t tp_timer_commands_verbs_do_verb(byte *p1, byte *p2, byte *p3, byt
 	ALIGN(8) byte p12[48];
 	ALIGN(8) byte p13[48];
 	ALIGN(8) byte p14[88];
-	ALIGN(8) byte p15[16];
+	ALIGN(8) byte p15[40];
 	ALIGN(8) byte p16[16];
-	ALIGN(8) byte p17[16];
-	ALIGN(8) byte p18[104];
-	ALIGN(8) byte p19[40];
-	ALIGN(8) byte p20[1056];
-	ALIGN(8) byte p21[24];
-	ALIGN(8) byte p22[1432];
-	ALIGN(8) byte p23[96];
-	ALIGN(8) byte p24[24];
-	ALIGN(8) byte p25[88];
-	ALIGN(8) byte p26[24];
+	ALIGN(8) byte p17[104];
+	ALIGN(8) byte p18[40];
+	ALIGN(8) byte p19[1056];
+	ALIGN(8) byte p20[24];
+	ALIGN(8) byte p21[1432];
+	ALIGN(8) byte p22[96];
+	ALIGN(8) byte p23[24];
+	ALIGN(8) byte p24[88];
+	ALIGN(8) byte p25[24];
+	ALIGN(8) byte p26[88];
 	ALIGN(8) byte p27[88];
-	ALIGN(8) byte p28[88];
-	ALIGN(8) byte p29[48];
-	ALIGN(8) byte p30[88];
+	ALIGN(8) byte p28[48];
+	ALIGN(8) byte p29[88];
+	ALIGN(8) byte p30[40];
 	ALIGN(8) byte p31[16];
-	ALIGN(8) byte p32[16];
-	ALIGN(8) byte p33[16];
-	ALIGN(8) byte p34[104];
-	ALIGN(8) byte p35[40];
-	ALIGN(8) byte p36[1056];
-	ALIGN(8) byte p37[24];
-	ALIGN(8) byte p38[1432];
-	ALIGN(8) byte p39[96];
+	ALIGN(8) byte p32[104];
+	ALIGN(8) byte p33[40];
+	ALIGN(8) byte p34[1056];
+	ALIGN(8) byte p35[24];
+	ALIGN(8) byte p36[1432];
+	ALIGN(8) byte p37[96];
+	ALIGN(8) byte p38[24];
+	ALIGN(8) byte p39[88];
 	ALIGN(8) byte p40[24];
 	ALIGN(8) byte p41[88];
-	ALIGN(8) byte p42[24];
-	ALIGN(8) byte p43[88];
+	ALIGN(8) byte p42[88];
+	ALIGN(8) byte p43[48];
 	ALIGN(8) byte p44[88];
-	ALIGN(8) byte p45[48];
-	ALIGN(8) byte p46[88];
-	ALIGN(8) byte p47[16];
-	ALIGN(8) byte p48[16];
-	ALIGN(8) byte p49[16];
-	ALIGN(8) byte p50[104];
-	ALIGN(8) byte p51[40];
-	ALIGN(8) byte p52[1056];
+	ALIGN(8) byte p45[40];
+	ALIGN(8) byte p46[16];
+	ALIGN(8) byte p47[104];
+	ALIGN(8) byte p48[40];
+	ALIGN(8) byte p49[1056];
+	ALIGN(8) byte p50[24];
+	ALIGN(8) byte p51[1432];
+	ALIGN(8) byte p52[96];
 	ALIGN(8) byte p53[24];
-	ALIGN(8) byte p54[1432];
-	ALIGN(8) byte p55[96];
+	ALIGN(8) byte p54[88];
+	ALIGN(8) byte p55[72];
 	ALIGN(8) byte p56[24];
-	ALIGN(8) byte p57[88];
-	ALIGN(8) byte p58[72];
-	ALIGN(8) byte p59[24];
-	ALIGN(8) byte p60[1384];
-	ALIGN(8) byte p61[24];
-	ALIGN(8) byte p62[16];
-	ALIGN(8) byte p63[16];
-	ALIGN(8) byte p64[16];
-	ALIGN(8) byte p65[104];
-	ALIGN(8) byte p66[40];
-	ALIGN(8) byte p67[1056];
-	ALIGN(8) byte p68[32];
-	uint8_t n69 = load8(p1 + 1);
-	uint8_t n70 = load8(p1 + 8);
-	uint8_t n71 = load8(p1 + 9);
-	uint8_t n72 = load8(p1 + 10);
-	uint8_t n73 = load8(p1 + 16);
-	uint64_t n74 = load64u(p1 + 24);
-	uint8_t n75 = load8(p1 + 32);
-	uint64_t n76 = load64u(p1 + 40);
-	uint8_t n77 = load8(p1 + 48);
-	uint64_t n78 = load64u(p1 + 56);
-	uint8_t n79 = load8(p1 + 64);
-	uint64_t n80 = load64u(p1 + 72);
-	uint64_t n81 = load64u(p2 + 16);
-	byte *p82 = loadptru(p2 + 40);
-	uint64_t n83 = load64u(p2 + 48);
-	uint64_t n84 = load64u(p2 + 56);
-	byte *p85 = loadptru(p2 + 80);
-	uint64_t n86 = load64u(p2 + 88);
-	uint64_t n87 = load64u(p2 + 96);
-	byte *p88 = loadptru(p2 + 208);
-	uint64_t n89 = load64u(p2 + 216);
-	uint64_t n90 = load64u(p2 + 224);
-	byte *p91 = loadptru(p2 + 1328);
-	uint64_t n92 = load64u(p2 + 1336);
-	uint64_t n93 = load64u(p2 + 1344);
-	uint64_t n94 = load64u(p2 + 1352);
+	ALIGN(8) byte p57[1384];
+	ALIGN(8) byte p58[24];
+	ALIGN(8) byte p59[40];
+	ALIGN(8) byte p60[16];
+	ALIGN(8) byte p61[104];
+	ALIGN(8) byte p62[40];
+	ALIGN(8) byte p63[1056];
+	ALIGN(8) byte p64[32];
+	uint8_t n65 = load8(p1 + 1);
+	uint8_t n66 = load8(p1 + 8);
+	uint8_t n67 = load8(p1 + 9);
+	uint8_t n68 = load8(p1 + 10);
+	uint8_t n69 = load8(p1 + 16);
+	uint64_t n70 = load64u(p1 + 24);
+	uint8_t n71 = load8(p1 + 32);
+	uint64_t n72 = load64u(p1 + 40);
+	uint8_t n73 = load8(p1 + 48);
+	uint64_t n74 = load64u(p1 + 56);
+	uint8_t n75 = load8(p1 + 64);
+	uint64_t n76 = load64u(p1 + 72);
+	byte *p77 = loadptru(p2 + 40);
+	uint64_t n78 = load64u(p2 + 48);
+	uint64_t n79 = load64u(p2 + 56);
+	byte *p80 = loadptru(p2 + 80);
+	uint64_t n81 = load64u(p2 + 88);
+	uint64_t n82 = load64u(p2 + 96);
+	byte *p83 = loadptru(p2 + 208);
+	uint64_t n84 = load64u(p2 + 216);
+	uint64_t n85 = load64u(p2 + 224);
+	byte *p86 = loadptru(p2 + 1328);
+	uint64_t n87 = load64u(p2 + 1336);
+	uint64_t n88 = load64u(p2 + 1344);
+	uint64_t n89 = load64u(p2 + 1352);
 	switch (MOSTLY_0(load8(p1))) {
 	case 0: {
-		uint8_t n264;
-		uint64_t n265;
-		memcpy(p62, p2, 16);
-		memcpy(p63, p2 + 24, 16);
-		memcpy(p64, p2 + 64, 16);
-		memcpy(p65, p2 + 104, 104);
-		memcpy(p66, p2 + 232, 40);
-		memcpy(p67, p2 + 272, 1056);
-		memset(p68, 0, 32);
-		tp_input_read_script(p68, p3);
-		if (load8(p68) == 0) {
-			byte *p99;
-			uint8_t n229;
-			uint64_t n230;
-			byte *p95 = loadptru(p68 + 8);
-			uint64_t n96 = load64u(p68 + 16);
-			bool b97 = load64u(p68 + 24) == 0;
-			memset(p61, 0, 24);
-			memcpy(p60, p62, 16);
-			store64u(p60 + 16, n81);
-			memcpy(p60 + 24, p63, 16);
-			storeptr(p60 + 40, p82);
-			store64(p60 + 48, n83);
-			store64(p60 + 56, n84);
-			memcpy(p60 + 64, p64, 16);
-			storeptr(p60 + 80, p85);
-			store64(p60 + 88, n86);
-			store64(p60 + 96, n87);
-			memcpy(p60 + 104, p65, 104);
-			storeptr(p60 + 208, p88);
-			store64(p60 + 216, n89);
-			store64(p60 + 224, n90);
-			memcpy(p60 + 232, p66, 40);
-			memcpy(p60 + 272, p67, 1056);
-			storeptr(p60 + 1328, p91);
-			store64(p60 + 1336, n92);
-			store64(p60 + 1344, n93);
-			store64(p60 + 1352, n94);
-			storeptru(p60 + 1360, p5);
-			memset(p60 + 1368, 0, 16);
-			uint64_t n98 = (n96 > UINT64_C(4611686018427387903)) ? UINT64_MAX : (n96 << 2);
-			if (n98 != 0) {
-				uint64_t n100, n102, n104, n106;
-				byte *p101, *p103, *p105;
-				if ((int64_t)n98 < (int64_t)0) {
-					n100 = n93;
-					p101 = p91;
-					n102 = n90;
-					p103 = p88;
-					n104 = n87;
-					p105 = p85;
-					n106 = n84;
+		uint8_t n259;
+		uint64_t n260;
+		memcpy(p59, p2, 40);
+		memcpy(p60, p2 + 64, 16);
+		memcpy(p61, p2 + 104, 104);
+		memcpy(p62, p2 + 232, 40);
+		memcpy(p63, p2 + 272, 1056);
+		memset(p64, 0, 32);
+		tp_input_read_script(p64, p3);
+		if (load8(p64) == 0) {
+			byte *p94;
+			uint8_t n224;
+			uint64_t n225;
+			byte *p90 = loadptru(p64 + 8);
+			uint64_t n91 = load64u(p64 + 16);
+			bool b92 = load64u(p64 + 24) == 0;
+			memset(p58, 0, 24);
+			memcpy(p57, p59, 40);
+			storeptr(p57 + 40, p77);
+			store64(p57 + 48, n78);
+			store64(p57 + 56, n79);
+			memcpy(p57 + 64, p60, 16);
+			storeptr(p57 + 80, p80);
+			store64(p57 + 88, n81);
+			store64(p57 + 96, n82);
+			memcpy(p57 + 104, p61, 104);
+			storeptr(p57 + 208, p83);
+			store64(p57 + 216, n84);
+			store64(p57 + 224, n85);
+			memcpy(p57 + 232, p62, 40);
+			memcpy(p57 + 272, p63, 1056);
+			storeptr(p57 + 1328, p86);
+			store64(p57 + 1336, n87);
+			store64(p57 + 1344, n88);
+			store64(p57 + 1352, n89);
+			storeptru(p57 + 1360, p5);
+			memset(p57 + 1368, 0, 16);
+			uint64_t n93 = (n91 > UINT64_C(4611686018427387903)) ? UINT64_MAX : (n91 << 2);
+			if (n93 != 0) {
+				uint64_t n95, n97, n99, n101;
+				byte *p96, *p98, *p100;
+				if ((int64_t)n93 < (int64_t)0) {
+					n95 = n88;
+					p96 = p86;
+					n97 = n85;
+					p98 = p83;
+					n99 = n82;
+					p100 = p80;
+					n101 = n79;
 				} else {
-					of_i64_i64 s107 = rattle_alloc(n98, 1);
-					if ((s107.f0 & 1) != 0) {
-						p99 = (byte *)(uintptr_t)s107.f1;
+					of_i64_i64 s102 = rattle_alloc(n93, 1);
+					if ((s102.f0 & 1) != 0) {
+						p94 = (byte *)(uintptr_t)s102.f1;
 						goto L1;
 					}
-					n100 = load64u(p60 + 1344);
-					p101 = loadptru(p60 + 1328);
-					n102 = load64u(p60 + 224);
-					p103 = loadptru(p60 + 208);
-					n104 = load64u(p60 + 96);
-					p105 = loadptru(p60 + 80);
-					n106 = load64u(p60 + 56);
+					n95 = load64u(p57 + 1344);
+					p96 = loadptru(p57 + 1328);
+					n97 = load64u(p57 + 224);
+					p98 = loadptru(p57 + 208);
+					n99 = load64u(p57 + 96);
+					p100 = loadptru(p57 + 80);
+					n101 = load64u(p57 + 56);
 				}
-				if (n106 != 0)
-					rattle_dealloc(loadptru(p60 + 40));
-				if (n104 != 0)
-					rattle_dealloc(p105);
-				if (n102 != 0)
-					rattle_dealloc(p103);
-				if (n100 != 0)
-					rattle_dealloc(p101);
-				if (load64u(p60 + 1376) == 0)
+				if (n101 != 0)
+					rattle_dealloc(loadptru(p57 + 40));
+				if (n99 != 0)
+					rattle_dealloc(p100);
+				if (n97 != 0)
+					rattle_dealloc(p98);
+				if (n95 != 0)
+					rattle_dealloc(p96);
+				if (load64u(p57 + 1376) == 0)
 					goto L2;
-				rattle_dealloc(loadptru(p60 + 1360));
+				rattle_dealloc(loadptru(p57 + 1360));
 				goto L2;
 			}
-			p99 = p5;
+			p94 = p5;
 L1:
 			{
-				bool b220;
-				uint64_t n221;
-				storeptru(p61, p99);
-				store64u(p61 + 8, 0);
-				store64u(p61 + 16, n98);
-				memset(p59 + 8, 0, 16);
-				storeptru(p59, p5);
-				uint64_t n108 = 0;
-				byte *p109 = p95;
-				uint64_t n110 = n96;
+				bool b215;
+				uint64_t n216;
+				storeptru(p58, p94);
+				store64u(p58 + 8, 0);
+				store64u(p58 + 16, n93);
+				memset(p56 + 8, 0, 16);
+				storeptru(p56, p5);
+				uint64_t n103 = 0;
+				byte *p104 = p90;
+				uint64_t n105 = n91;
 				for (;;) {
-					byte *p149, *p167, *p174, *p180, *p186, *p187, *p213;
-					uint64_t n150, n151, n152, n153, n154, n168, n169, n170, n171, n172, n175, n176, n177, n178, n181, n182, n183, n184, n188, n189, n190, n191, n214;
-					uint8_t n215;
-					if (n110 == 0)
+					byte *p144, *p162, *p169, *p175, *p181, *p182, *p208;
+					uint64_t n145, n146, n147, n148, n149, n163, n164, n165, n166, n167, n170, n171, n172, n173, n176, n177, n178, n179, n183, n184, n185, n186, n209;
+					uint8_t n210;
+					if (n105 == 0)
 						goto L3;
-					if (n110 < 6) {
-						if (n110 != 5)
+					if (n105 < 6) {
+						if (n105 != 5)
 							goto L4;
-						uint32_t n111 = ((((uint32_t)load8(p109 + 3) << 24) | ((uint32_t)load8(p109 + 2) << 16)) | ((uint32_t)load8(p109 + 1) << 8)) | (uint32_t)load8(p109);
-						if (n111 != 1886352499)
+						uint32_t n106 = ((((uint32_t)load8(p104 + 3) << 24) | ((uint32_t)load8(p104 + 2) << 16)) | ((uint32_t)load8(p104 + 1) << 8)) | (uint32_t)load8(p104);
+						if (n106 != 1886352499)
 							goto L5;
-						uint64_t n112 = 0;
-						bool b113 = false;
-						while (n112 != 1) {
-							n112 = 1;
-							b113 = (int)b113 | (int)(32 != load8(p109 + 4));
+						uint64_t n107 = 0;
+						bool b108 = false;
+						while (n107 != 1) {
+							n107 = 1;
+							b108 = (int)b108 | (int)(32 != load8(p104 + 4));
 						}
-						uint64_t n114 = 0;
-						bool b115 = false;
-						while (n114 != 1) {
-							n114 = 1;
-							b115 = (int)b115 | (int)(32 != load8(p109 + 4));
+						uint64_t n109 = 0;
+						bool b110 = false;
+						while (n109 != 1) {
+							n109 = 1;
+							b110 = (int)b110 | (int)(32 != load8(p104 + 4));
 						}
-						uint64_t n116 = 0;
-						bool b117 = false;
-						while (n116 != 1) {
-							n116 = 1;
-							b117 = (int)b117 | (int)(32 != load8(p109 + 4));
+						uint64_t n111 = 0;
+						bool b112 = false;
+						while (n111 != 1) {
+							n111 = 1;
+							b112 = (int)b112 | (int)(32 != load8(p104 + 4));
 						}
-						if ((int)((int)b113 | (int)b115) | (int)b117)
+						if ((int)((int)b108 | (int)b110) | (int)b112)
 							goto L5;
 					} else {
-						uint32_t n118 = ((((uint32_t)load8(p109 + 3) << 24) | ((uint32_t)load8(p109 + 2) << 16)) | ((uint32_t)load8(p109 + 1) << 8)) | (uint32_t)load8(p109);
-						switch (n118) {
+						uint32_t n113 = ((((uint32_t)load8(p104 + 3) << 24) | ((uint32_t)load8(p104 + 2) << 16)) | ((uint32_t)load8(p104 + 1) << 8)) | (uint32_t)load8(p104);
+						switch (n113) {
 						case 1918989427: {
-							uint64_t n128, n134, n140, n146;
-							uint64_t n119 = 0;
-							bool b120 = false;
-							while (n119 != 1) {
-								n119 = 1;
-								b120 = (int)b120 | (int)(116 != load8(p109 + 4));
+							uint64_t n123, n129, n135, n141;
+							uint64_t n114 = 0;
+							bool b115 = false;
+							while (n114 != 1) {
+								n114 = 1;
+								b115 = (int)b115 | (int)(116 != load8(p104 + 4));
 							}
-							uint64_t n121 = 0;
-							bool b122 = false;
-							while (n121 != 1) {
-								n121 = 1;
-								b122 = (int)b122 | (int)(32 != load8(p109 + 5));
+							uint64_t n116 = 0;
+							bool b117 = false;
+							while (n116 != 1) {
+								n116 = 1;
+								b117 = (int)b117 | (int)(32 != load8(p104 + 5));
 							}
-							uint64_t n123 = 0;
-							bool b124 = false;
-							while (n123 != 1) {
-								n123 = 1;
-								b124 = (int)b124 | (int)(32 != load8(p109 + 5));
+							uint64_t n118 = 0;
+							bool b119 = false;
+							while (n118 != 1) {
+								n118 = 1;
+								b119 = (int)b119 | (int)(32 != load8(p104 + 5));
 							}
-							if ((int)((int)b120 | (int)b122) | (int)b124)
+							if ((int)((int)b115 | (int)b117) | (int)b119)
 								goto L5;
-							uint64_t n125 = n110 - 6;
-							uint64_t n126 = 0;
+							uint64_t n120 = n105 - 6;
+							uint64_t n121 = 0;
+							uint64_t n122 = 0;
+							for (;;) {
+								if (n121 == n120) {
+									n123 = n120;
+									break;
+								}
+								uint8_t n124 = load8(at(p104 + 6, n121));
+								if ((uint8_t)(n124 - 48) >= 10) {
+									n123 = n121;
+									break;
+								}
+								n121 = n121 + 1;
+								n122 = (n122 * 10) + (uint64_t)(uint8_t)(n124 & 15);
+							}
+							switch (n123) {
+							case 0: {
+								goto L6;
+							}
+							case 1: {
+								if (n122 > UINT64_C(1152921504606846975))
+									goto L6;
+								break;
+							}
+							default: {
+								if (((int)(load8(p104 + 6) == 48) | (int)(n123 > 19)) || (n122 > UINT64_C(1152921504606846975)))
+									goto L6;
+								break;
+							}
+							}
+							byte *p125 = at(p104 + 6, n123);
+							if (n120 == n123)
+								goto L6;
+							if (load8(p125) != 32)
+								goto L6;
+							uint64_t n126 = n120 + (n123 ^ UINT64_MAX);
 							uint64_t n127 = 0;
+							uint64_t n128 = 0;
 							for (;;) {
-								if (n126 == n125) {
-									n128 = n125;
+								if (n127 == n126) {
+									n129 = n126;
 									break;
 								}
-								uint8_t n129 = load8(at(p109 + 6, n126));
-								if ((uint8_t)(n129 - 48) >= 10) {
-									n128 = n126;
+								uint8_t n130 = load8(at(p125 + 1, n127));
+								if ((uint8_t)(n130 - 48) >= 10) {
+									n129 = n127;
 									break;
 								}
-								n126 = n126 + 1;
-								n127 = (n127 * 10) + (uint64_t)(uint8_t)(n129 & 15);
+								n127 = n127 + 1;
+								n128 = (n128 * 10) + (uint64_t)(uint8_t)(n130 & 15);
 							}
-							switch (n128) {
+							switch (n129) {
 							case 0: {
 								goto L6;
 							}
 							case 1: {
-								if (n127 > UINT64_C(1152921504606846975))
+								if (n128 > UINT64_C(1152921504606846975))
 									goto L6;
 								break;
 							}
 							default: {
-								if (((int)(load8(p109 + 6) == 48) | (int)(n128 > 19)) || (n127 > UINT64_C(1152921504606846975)))
+								if (((int)(load8(p125 + 1) == 48) | (int)(n129 > 19)) || (n128 > UINT64_C(1152921504606846975)))
 									goto L6;
 								break;
 							}
 							}
-							byte *p130 = at(p109 + 6, n128);
-							if (n125 == n128)
+							byte *p131 = at(p125 + 1, n129);
+							if (n126 == n129)
 								goto L6;
-							if (load8(p130) != 32)
+							if (load8(p131) != 32)
 								goto L6;
-							uint64_t n131 = n125 + (n128 ^ UINT64_MAX);
-							uint64_t n132 = 0;
+							uint64_t n132 = n126 + (n129 ^ UINT64_MAX);
 							uint64_t n133 = 0;
+							uint64_t n134 = 0;
 							for (;;) {
-								if (n132 == n131) {
-									n134 = n131;
+								if (n133 == n132) {
+									n135 = n132;
 									break;
 								}
-								uint8_t n135 = load8(at(p130 + 1, n132));
-								if ((uint8_t)(n135 - 48) >= 10) {
-									n134 = n132;
+								uint8_t n136 = load8(at(p131 + 1, n133));
+								if ((uint8_t)(n136 - 48) >= 10) {
+									n135 = n133;
 									break;
 								}
-								n132 = n132 + 1;
-								n133 = (n133 * 10) + (uint64_t)(uint8_t)(n135 & 15);
+								n133 = n133 + 1;
+								n134 = (n134 * 10) + (uint64_t)(uint8_t)(n136 & 15);
 							}
-							switch (n134) {
+							switch (n135) {
 							case 0: {
 								goto L6;
 							}
 							case 1: {
-								if (n133 > UINT64_C(1152921504606846975))
+								if (n134 > UINT64_C(1152921504606846975))
 									goto L6;
 								break;
 							}
 							default: {
-								if (((int)(load8(p130 + 1) == 48) | (int)(n134 > 19)) || (n133 > UINT64_C(1152921504606846975)))
+								if (((int)(load8(p131 + 1) == 48) | (int)(n135 > 19)) || (n134 > UINT64_C(1152921504606846975)))
 									goto L6;
 								break;
 							}
 							}
-							byte *p136 = at(p130 + 1, n134);
-							if (n131 == n134)
+							byte *p137 = at(p131 + 1, n135);
+							if (n132 == n135)
 								goto L6;
-							if (load8(p136) != 32)
+							if (load8(p137) != 32)
 								goto L6;
-							uint64_t n137 = n131 + (n134 ^ UINT64_MAX);
-							uint64_t n138 = 0;
+							uint64_t n138 = n132 + (n135 ^ UINT64_MAX);
 							uint64_t n139 = 0;
+							uint64_t n140 = 0;
 							for (;;) {
-								if (n138 == n137) {
-									n140 = n137;
+								if (n139 == n138) {
+									n141 = n138;
 									break;
 								}
-								uint8_t n141 = load8(at(p136 + 1, n138));
-								if ((uint8_t)(n141 - 48) >= 10) {
-									n140 = n138;
+								uint8_t n142 = load8(at(p137 + 1, n139));
+								if ((uint8_t)(n142 - 48) >= 10) {
+									n141 = n139;
 									break;
 								}
-								n138 = n138 + 1;
-								n139 = (n139 * 10) + (uint64_t)(uint8_t)(n141 & 15);
+								n139 = n139 + 1;
+								n140 = (n140 * 10) + (uint64_t)(uint8_t)(n142 & 15);
 							}
-							switch (n140) {
+							switch (n141) {
 							case 0: {
 								goto L6;
 							}
 							case 1: {
-								if (n139 > UINT64_C(1152921504606846975))
+								if (n140 > UINT64_C(1152921504606846975))
 									goto L6;
 								break;
 							}
 							default: {
-								if (((int)(load8(p136 + 1) == 48) | (int)(n140 > 19)) || (n139 > UINT64_C(1152921504606846975)))
+								if (((int)(load8(p137 + 1) == 48) | (int)(n141 > 19)) || (n140 > UINT64_C(1152921504606846975)))
 									goto L6;
 								break;
 							}
 							}
-							byte *p142 = at(p136 + 1, n140);
-							if (n137 == n140)
+							byte *p143 = at(p137 + 1, n141);
+							if (n138 == n141)
 								goto L6;
-							if (load8(p142) != 32)
+							if (load8(p143) != 10)
 								goto L6;
-							uint64_t n143 = n137 + (n140 ^ UINT64_MAX);
-							uint64_t n144 = 0;
-							uint64_t n145 = 0;
-							for (;;) {
-								if (n144 == n143) {
-									n146 = n143;
-									break;
-								}
-								uint8_t n147 = load8(at(p142 + 1, n144));
-								if ((uint8_t)(n147 - 48) >= 10) {
-									n146 = n144;
-									break;
-								}
-								n144 = n144 + 1;
-								n145 = (n145 * 10) + (uint64_t)(uint8_t)(n147 & 15);
-							}
-							switch (n146) {
-							case 0: {
-								goto L6;
-							}
-							case 1: {
-								if (n145 > UINT64_C(1152921504606846975))
-									goto L6;
-								break;
-							}
-							default: {
-								if (((int)(load8(p142 + 1) == 48) | (int)(n146 > 19)) || (n145 > UINT64_C(1152921504606846975)))
-									goto L6;
-								break;
-							}
-							}
-							byte *p148 = at(p142 + 1, n146);
-							if (n143 == n146)
-								goto L6;
-							if (load8(p148) != 10)
-								goto L6;
-							p149 = p148 + 1;
-							n150 = n143 + (n146 ^ UINT64_MAX);
-							n151 = n127;
-							n152 = n133;
-							n153 = n139;
-							n154 = n145;
+							p144 = p143 + 1;
+							n145 = n138 + (n141 ^ UINT64_MAX);
+							n146 = n122;
+							n147 = n128;
+							n148 = n134;
+							n149 = n140;
 							goto L7;
 						}
 						case 1886352499: {
-							uint64_t n155 = 0;
-							bool b156 = false;
-							while (n155 != 1) {
-								n155 = 1;
-								b156 = (int)b156 | (int)(32 != load8(p109 + 4));
+							uint64_t n150 = 0;
+							bool b151 = false;
+							while (n150 != 1) {
+								n150 = 1;
+								b151 = (int)b151 | (int)(32 != load8(p104 + 4));
 							}
-							uint64_t n157 = 0;
-							bool b158 = false;
-							while (n157 != 1) {
-								n157 = 1;
-								b158 = (int)b158 | (int)(32 != load8(p109 + 4));
+							uint64_t n152 = 0;
+							bool b153 = false;
+							while (n152 != 1) {
+								n152 = 1;
+								b153 = (int)b153 | (int)(32 != load8(p104 + 4));
 							}
-							uint64_t n159 = 0;
-							bool b160 = false;
-							while (n159 != 1) {
-								n159 = 1;
-								b160 = (int)b160 | (int)(32 != load8(p109 + 4));
+							uint64_t n154 = 0;
+							bool b155 = false;
+							while (n154 != 1) {
+								n154 = 1;
+								b155 = (int)b155 | (int)(32 != load8(p104 + 4));
 							}
-							if ((int)((int)b156 | (int)b158) | (int)b160)
+							if ((int)((int)b151 | (int)b153) | (int)b155)
 								goto L5;
 							break;
 						}
 						case 1936682083: {
-							uint64_t n161 = 0;
-							bool b162 = false;
-							while (n161 != 1) {
-								n161 = 1;
-								b162 = (int)b162 | (int)(101 != load8(p109 + 4));
+							uint64_t n156 = 0;
+							bool b157 = false;
+							while (n156 != 1) {
+								n156 = 1;
+								b157 = (int)b157 | (int)(101 != load8(p104 + 4));
 							}
-							uint64_t n163 = 0;
-							bool b164 = false;
-							while (n163 != 1) {
-								n163 = 1;
-								b164 = (int)b164 | (int)(10 != load8(p109 + 5));
+							uint64_t n158 = 0;
+							bool b159 = false;
+							while (n158 != 1) {
+								n158 = 1;
+								b159 = (int)b159 | (int)(10 != load8(p104 + 5));
 							}
-							uint64_t n165 = 0;
-							bool b166 = false;
-							while (n165 != 1) {
-								n165 = 1;
-								b166 = (int)b166 | (int)(10 != load8(p109 + 5));
+							uint64_t n160 = 0;
+							bool b161 = false;
+							while (n160 != 1) {
+								n160 = 1;
+								b161 = (int)b161 | (int)(10 != load8(p104 + 5));
 							}
-							if ((int)((int)b162 | (int)b164) | (int)b166)
+							if ((int)((int)b157 | (int)b159) | (int)b161)
 								goto L5;
-							p167 = p109 + 6;
-							n168 = n110 - 6;
+							p162 = p104 + 6;
+							n163 = n105 - 6;
 							goto L8;
 						}
 						default: {
@@ -66555,228 +66539,228 @@ L1:
 						}
 						}
 					}
-					n169 = n110 - 5;
-					n170 = 0;
+					n164 = n105 - 5;
+					n165 = 0;
+					n166 = 0;
+					for (;;) {
+						if (n165 == n164) {
+							n167 = n164;
+							break;
+						}
+						uint8_t n168 = load8(at(p104 + 5, n165));
+						if ((uint8_t)(n168 - 48) >= 10) {
+							n167 = n165;
+							break;
+						}
+						n165 = n165 + 1;
+						n166 = (n166 * 10) + (uint64_t)(uint8_t)(n168 & 15);
+					}
+					switch (n167) {
+					case 0: {
+						goto L6;
+					}
+					case 1: {
+						if (n166 > UINT64_C(1152921504606846975))
+							goto L6;
+						break;
+					}
+					default: {
+						if (((int)(load8(p104 + 5) == 48) | (int)(n167 > 19)) || (n166 > UINT64_C(1152921504606846975)))
+							goto L6;
+						break;
+					}
+					}
+					p169 = at(p104 + 5, n167);
+					if (n164 == n167)
+						goto L6;
+					if (load8(p169) != 32)
+						goto L6;
+					n170 = n164 + (n167 ^ UINT64_MAX);
 					n171 = 0;
+					n172 = 0;
 					for (;;) {
-						if (n170 == n169) {
-							n172 = n169;
+						if (n171 == n170) {
+							n173 = n170;
 							break;
 						}
-						uint8_t n173 = load8(at(p109 + 5, n170));
-						if ((uint8_t)(n173 - 48) >= 10) {
-							n172 = n170;
+						uint8_t n174 = load8(at(p169 + 1, n171));
+						if ((uint8_t)(n174 - 48) >= 10) {
+							n173 = n171;
 							break;
 						}
-						n170 = n170 + 1;
-						n171 = (n171 * 10) + (uint64_t)(uint8_t)(n173 & 15);
+						n171 = n171 + 1;
+						n172 = (n172 * 10) + (uint64_t)(uint8_t)(n174 & 15);
 					}
-					switch (n172) {
+					switch (n173) {
 					case 0: {
 						goto L6;
 					}
 					case 1: {
-						if (n171 > UINT64_C(1152921504606846975))
+						if (n172 > UINT64_C(1152921504606846975))
 							goto L6;
 						break;
 					}
 					default: {
-						if (((int)(load8(p109 + 5) == 48) | (int)(n172 > 19)) || (n171 > UINT64_C(1152921504606846975)))
+						if (((int)(load8(p169 + 1) == 48) | (int)(n173 > 19)) || (n172 > UINT64_C(1152921504606846975)))
 							goto L6;
 						break;
 					}
 					}
-					p174 = at(p109 + 5, n172);
-					if (n169 == n172)
+					p175 = at(p169 + 1, n173);
+					if (n170 == n173)
 						goto L6;
-					if (load8(p174) != 32)
+					if (load8(p175) != 32)
 						goto L6;
-					n175 = n169 + (n172 ^ UINT64_MAX);
-					n176 = 0;
+					n176 = n170 + (n173 ^ UINT64_MAX);
 					n177 = 0;
+					n178 = 0;
 					for (;;) {
-						if (n176 == n175) {
-							n178 = n175;
+						if (n177 == n176) {
+							n179 = n176;
 							break;
 						}
-						uint8_t n179 = load8(at(p174 + 1, n176));
-						if ((uint8_t)(n179 - 48) >= 10) {
-							n178 = n176;
+						uint8_t n180 = load8(at(p175 + 1, n177));
+						if ((uint8_t)(n180 - 48) >= 10) {
+							n179 = n177;
 							break;
 						}
-						n176 = n176 + 1;
-						n177 = (n177 * 10) + (uint64_t)(uint8_t)(n179 & 15);
+						n177 = n177 + 1;
+						n178 = (n178 * 10) + (uint64_t)(uint8_t)(n180 & 15);
 					}
-					switch (n178) {
+					switch (n179) {
 					case 0: {
 						goto L6;
 					}
 					case 1: {
-						if (n177 > UINT64_C(1152921504606846975))
+						if (n178 > UINT64_C(1152921504606846975))
 							goto L6;
 						break;
 					}
 					default: {
-						if (((int)(load8(p174 + 1) == 48) | (int)(n178 > 19)) || (n177 > UINT64_C(1152921504606846975)))
+						if (((int)(load8(p175 + 1) == 48) | (int)(n179 > 19)) || (n178 > UINT64_C(1152921504606846975)))
 							goto L6;
 						break;
 					}
 					}
-					p180 = at(p174 + 1, n178);
-					if (n175 == n178)
+					p181 = at(p175 + 1, n179);
+					if (n176 == n179)
 						goto L6;
-					if (load8(p180) != 32)
+					if (load8(p181) != 10)
 						goto L6;
-					n181 = n175 + (n178 ^ UINT64_MAX);
-					n182 = 0;
-					n183 = 0;
-					for (;;) {
-						if (n182 == n181) {
-							n184 = n181;
-							break;
-						}
-						uint8_t n185 = load8(at(p180 + 1, n182));
-						if ((uint8_t)(n185 - 48) >= 10) {
-							n184 = n182;
-							break;
-						}
-						n182 = n182 + 1;
-						n183 = (n183 * 10) + (uint64_t)(uint8_t)(n185 & 15);
-					}
-					switch (n184) {
-					case 0: {
-						goto L6;
-					}
-					case 1: {
-						if (n183 > UINT64_C(1152921504606846975))
-							goto L6;
-						break;
-					}
-					default: {
-						if (((int)(load8(p180 + 1) == 48) | (int)(n184 > 19)) || (n183 > UINT64_C(1152921504606846975)))
-							goto L6;
-						break;
-					}
-					}
-					p186 = at(p180 + 1, n184);
-					if (n181 == n184)
-						goto L6;
-					if (load8(p186) != 10)
-						goto L6;
-					p187 = p186 + 1;
-					n188 = n181 + (n184 ^ UINT64_MAX);
-					n189 = n171;
-					n190 = n177;
-					n191 = n183;
+					p182 = p181 + 1;
+					n183 = n176 + (n179 ^ UINT64_MAX);
+					n184 = n166;
+					n185 = n172;
+					n186 = n178;
 					goto L9;
 L5:
 					{
-						uint8_t n199;
-						uint64_t n200, n201, n202, n203, n204, n205, n207, n208, n210;
-						byte *p206;
-						bool b209, b211;
-						memset(p58, 0, 72);
-						uint32_t n192 = ((((uint32_t)load8(p109 + 3) << 24) | ((uint32_t)load8(p109 + 2) << 16)) | ((uint32_t)load8(p109 + 1) << 8)) | (uint32_t)load8(p109);
-						if (n192 == 1801677172) {
-							if (n110 == 4)
+						uint8_t n194;
+						uint64_t n195, n196, n197, n198, n199, n200, n202, n203, n205;
+						byte *p201;
+						bool b204, b206;
+						memset(p55, 0, 72);
+						uint32_t n187 = ((((uint32_t)load8(p104 + 3) << 24) | ((uint32_t)load8(p104 + 2) << 16)) | ((uint32_t)load8(p104 + 1) << 8)) | (uint32_t)load8(p104);
+						if (n187 == 1801677172) {
+							if (n105 == 4)
 								goto L4;
-							uint64_t n193 = 0;
-							bool b194 = false;
-							while (n193 != 1) {
-								n193 = 1;
-								b194 = (int)b194 | (int)(32 != load8(p109 + 4));
+							uint64_t n188 = 0;
+							bool b189 = false;
+							while (n188 != 1) {
+								n188 = 1;
+								b189 = (int)b189 | (int)(32 != load8(p104 + 4));
 							}
-							uint64_t n195 = 0;
-							bool b196 = false;
-							while (n195 != 1) {
-								n195 = 1;
-								b196 = (int)b196 | (int)(32 != load8(p109 + 4));
+							uint64_t n190 = 0;
+							bool b191 = false;
+							while (n190 != 1) {
+								n190 = 1;
+								b191 = (int)b191 | (int)(32 != load8(p104 + 4));
 							}
-							uint64_t n197 = 0;
-							bool b198 = false;
-							while (n197 != 1) {
-								n197 = 1;
-								b198 = (int)b198 | (int)(32 != load8(p109 + 4));
+							uint64_t n192 = 0;
+							bool b193 = false;
+							while (n192 != 1) {
+								n192 = 1;
+								b193 = (int)b193 | (int)(32 != load8(p104 + 4));
 							}
-							if (!((int)((int)b194 | (int)b196) | (int)b198)) {
-								tp_lines_read_tick(p58, p109 + 5, n110 - 5);
-								n199 = load8(p58);
-								n200 = load64u(p58 + 8);
-								n201 = load64u(p58 + 16);
-								n202 = load64u(p58 + 24);
-								n203 = load64u(p58 + 32);
-								n204 = load64u(p58 + 40);
-								n205 = load64u(p58 + 48);
-								p206 = loadptru(p58 + 56);
-								n207 = load64u(p58 + 64);
+							if (!((int)((int)b189 | (int)b191) | (int)b193)) {
+								tp_lines_read_tick(p55, p104 + 5, n105 - 5);
+								n194 = load8(p55);
+								n195 = load64u(p55 + 8);
+								n196 = load64u(p55 + 16);
+								n197 = load64u(p55 + 24);
+								n198 = load64u(p55 + 32);
+								n199 = load64u(p55 + 40);
+								n200 = load64u(p55 + 48);
+								p201 = loadptru(p55 + 56);
+								n202 = load64u(p55 + 64);
 								goto L10;
 							}
 						}
-						if (!((int)(n110 > 7) & (int)(n192 == 1953719666)))
+						if (!((int)(n105 > 7) & (int)(n187 == 1953719666)))
 							goto L4;
-						n208 = 0;
-						b209 = false;
-						while (n208 != 4) {
-							b209 = (int)b209 | (int)(load8(at((byte *)tp_static_220 + 4, n208)) != load8(at(p109 + 4, n208)));
-							n208 = n208 + 1;
+						n203 = 0;
+						b204 = false;
+						while (n203 != 4) {
+							b204 = (int)b204 | (int)(load8(at((byte *)tp_static_220 + 4, n203)) != load8(at(p104 + 4, n203)));
+							n203 = n203 + 1;
 						}
-						n210 = 0;
-						b211 = false;
-						while (n210 != 4) {
-							b211 = (int)b211 | (int)(load8(at((byte *)tp_static_220 + 4, n210)) != load8(at(p109 + 4, n210)));
-							n210 = n210 + 1;
+						n205 = 0;
+						b206 = false;
+						while (n205 != 4) {
+							b206 = (int)b206 | (int)(load8(at((byte *)tp_static_220 + 4, n205)) != load8(at(p104 + 4, n205)));
+							n205 = n205 + 1;
 						}
-						if ((int)b209 | (int)b211)
+						if ((int)b204 | (int)b206)
 							goto L4;
-						tp_lines_read_restart(p58, p109 + 8, n110 - 8);
-						n199 = load8(p58);
-						n200 = load64u(p58 + 8);
-						n201 = load64u(p58 + 16);
-						n202 = load64u(p58 + 24);
-						n203 = load64u(p58 + 32);
-						n204 = load64u(p58 + 40);
-						n205 = load64u(p58 + 48);
-						p206 = loadptru(p58 + 56);
-						n207 = load64u(p58 + 64);
+						tp_lines_read_restart(p55, p104 + 8, n105 - 8);
+						n194 = load8(p55);
+						n195 = load64u(p55 + 8);
+						n196 = load64u(p55 + 16);
+						n197 = load64u(p55 + 24);
+						n198 = load64u(p55 + 32);
+						n199 = load64u(p55 + 40);
+						n200 = load64u(p55 + 48);
+						p201 = loadptru(p55 + 56);
+						n202 = load64u(p55 + 64);
 L10:
 						{
-							if (n199 != 1)
+							if (n194 != 1)
 								goto L6;
-							switch (MOSTLY_0((uint8_t)n200)) {
+							switch (MOSTLY_0((uint8_t)n195)) {
 							case 0: {
-								p149 = p206;
-								n150 = n207;
-								n151 = n201;
-								n152 = n202;
-								n153 = n203;
-								n154 = n204;
+								p144 = p201;
+								n145 = n202;
+								n146 = n196;
+								n147 = n197;
+								n148 = n198;
+								n149 = n199;
 								goto L7;
 							}
 							case 1: {
-								p187 = p206;
-								n188 = n207;
-								n189 = n201;
-								n190 = n202;
-								n191 = n203;
+								p182 = p201;
+								n183 = n202;
+								n184 = n196;
+								n185 = n197;
+								n186 = n198;
 								goto L9;
 							}
 							case 2: {
-								uint8_t n212 = tp_timer_script_script_run_answer_restart(p60, n201, n202, n203, n204, n205, p61);
-								p213 = p206;
-								n214 = n207;
-								n215 = n212;
+								uint8_t n207 = tp_timer_script_script_run_answer_restart(p57, n196, n197, n198, n199, n200, p58);
+								p208 = p201;
+								n209 = n202;
+								n210 = n207;
 								goto L11;
 							}
 							case 3: {
-								uint8_t n216 = tp_timer_script_script_run_answer_ticks(p60, n201, p59, p61);
-								p213 = p206;
-								n214 = n207;
-								n215 = n216;
+								uint8_t n211 = tp_timer_script_script_run_answer_ticks(p57, n196, p56, p58);
+								p208 = p201;
+								n209 = n202;
+								n210 = n211;
 								goto L11;
 							}
 							case 4: {
-								p167 = p206;
-								n168 = n207;
+								p162 = p201;
+								n163 = n202;
 								break;
 							}
 							default: {
@@ -66787,1351 +66771,1342 @@ L10:
 					}
 L8:
 					{
-						uint8_t n217 = tp_timer_script_script_run_answer_close(p60, p59, p61);
-						p213 = p167;
-						n214 = n168;
-						n215 = n217;
+						uint8_t n212 = tp_timer_script_script_run_answer_close(p57, p56, p58);
+						p208 = p162;
+						n209 = n163;
+						n210 = n212;
 						goto L11;
 					}
 L9:
 					{
-						uint8_t n218 = tp_timer_script_script_run_answer_stop(p60, n189, n190, n191, p61);
-						p213 = p187;
-						n214 = n188;
-						n215 = n218;
+						uint8_t n213 = tp_timer_script_script_run_answer_stop(p57, n184, n185, n186, p58);
+						p208 = p182;
+						n209 = n183;
+						n210 = n213;
 						goto L11;
 					}
 L7:
 					{
-						uint8_t n219 = tp_timer_script_script_run_answer_start(p60, n151, n152, n153, n154, p61);
-						p213 = p149;
-						n214 = n150;
-						n215 = n219;
+						uint8_t n214 = tp_timer_script_script_run_answer_start(p57, n146, n147, n148, n149, p58);
+						p208 = p144;
+						n209 = n145;
+						n210 = n214;
 					}
 L11:
 					{
-						if ((n215 & 1) != 0)
+						if ((n210 & 1) != 0)
 							break;
-						n108 = n108 + 1;
-						p109 = p213;
-						n110 = n214;
+						n103 = n103 + 1;
+						p104 = p208;
+						n105 = n209;
 					}
 				}
-				if (load64u(p59 + 16) == 0) {
-					b220 = true;
-					n221 = 0;
+				if (load64u(p56 + 16) == 0) {
+					b215 = true;
+					n216 = 0;
 					goto L12;
 				}
-				rattle_dealloc(loadptru(p59));
-				b220 = true;
-				n221 = 0;
+				rattle_dealloc(loadptru(p56));
+				b215 = true;
+				n216 = 0;
 				goto L12;
 L4: ;
 L6:
 				{
-					uint64_t n222 = n108 + 1;
-					if (load64u(p59 + 16) == 0) {
-						b220 = false;
-						n221 = n222;
+					uint64_t n217 = n103 + 1;
+					if (load64u(p56 + 16) == 0) {
+						b215 = false;
+						n216 = n217;
 					} else {
-						rattle_dealloc(loadptru(p59));
-						b220 = false;
-						n221 = n222;
+						rattle_dealloc(loadptru(p56));
+						b215 = false;
+						n216 = n217;
 					}
 				}
 L12:
 				{
-					if (load64u(p61 + 16) != 0)
-						rattle_dealloc(loadptru(p61));
-					byte *p223 = loadptru(p60 + 80);
-					uint64_t n224 = load64u(p60 + 96);
-					byte *p225 = loadptru(p60 + 208);
-					uint64_t n226 = load64u(p60 + 224);
-					byte *p227 = loadptru(p60 + 1328);
-					uint64_t n228 = load64u(p60 + 1344);
-					if (load64u(p60 + 56) != 0)
-						rattle_dealloc(loadptru(p60 + 40));
-					if (n224 != 0)
-						rattle_dealloc(p223);
-					if (n226 != 0)
-						rattle_dealloc(p225);
-					if (n228 != 0)
-						rattle_dealloc(p227);
-					if (load64u(p60 + 1376) != 0)
-						rattle_dealloc(loadptru(p60 + 1360));
-					if (b220)
+					if (load64u(p58 + 16) != 0)
+						rattle_dealloc(loadptru(p58));
+					byte *p218 = loadptru(p57 + 80);
+					uint64_t n219 = load64u(p57 + 96);
+					byte *p220 = loadptru(p57 + 208);
+					uint64_t n221 = load64u(p57 + 224);
+					byte *p222 = loadptru(p57 + 1328);
+					uint64_t n223 = load64u(p57 + 1344);
+					if (load64u(p57 + 56) != 0)
+						rattle_dealloc(loadptru(p57 + 40));
+					if (n219 != 0)
+						rattle_dealloc(p218);
+					if (n221 != 0)
+						rattle_dealloc(p220);
+					if (n223 != 0)
+						rattle_dealloc(p222);
+					if (load64u(p57 + 1376) != 0)
+						rattle_dealloc(loadptru(p57 + 1360));
+					if (b215)
 						goto L13;
-					n229 = 2;
-					n230 = n221;
+					n224 = 2;
+					n225 = n216;
 					goto L14;
 				}
 L3:
 				{
-					uint64_t n241;
-					if (load64u(p59 + 16) != 0)
-						rattle_dealloc(loadptru(p59));
-					uint64_t n231 = load64(p60 + 16);
-					uint64_t n232 = load64(p60 + 64);
-					uint64_t n233 = load64(p60 + 32);
-					byte *p234 = loadptr(p60 + 80);
-					uint64_t n235 = (uint64_t)load32(at(p234, n233 << 3) + 4);
-					bool b236 = n233 != n235;
-					uint64_t n237 = load64(p60 + 104);
-					uint64_t n238 = b236 ? (n235 - n237) : 0;
-					uint64_t n239 = 0;
-					bool b240 = b236;
+					uint64_t n236;
+					if (load64u(p56 + 16) != 0)
+						rattle_dealloc(loadptru(p56));
+					uint64_t n226 = load64(p57 + 16);
+					uint64_t n227 = load64(p57 + 64);
+					uint64_t n228 = load64(p57 + 32);
+					byte *p229 = loadptr(p57 + 80);
+					uint64_t n230 = (uint64_t)load32(at(p229, n228 << 3) + 4);
+					bool b231 = n228 != n230;
+					uint64_t n232 = load64(p57 + 104);
+					uint64_t n233 = b231 ? (n230 - n232) : 0;
+					uint64_t n234 = 0;
+					bool b235 = b231;
 					for (;;) {
-						if (n239 == n232) {
-							n241 = n232;
+						if (n234 == n227) {
+							n236 = n227;
 							break;
 						}
-						if (!b240) {
-							n241 = n239;
+						if (!b235) {
+							n236 = n234;
 							break;
 						}
-						uint64_t n242 = (uint64_t)load32(at(p234, (n237 + n238) << 3) + 4);
-						n238 = usub_sat64(n242, n237);
-						n239 = n239 + 1;
-						b240 = n237 <= n242;
+						uint64_t n237 = (uint64_t)load32(at(p229, (n232 + n233) << 3) + 4);
+						n233 = usub_sat64(n237, n232);
+						n234 = n234 + 1;
+						b235 = n232 <= n237;
 					}
-					uint8_t n243 = tp_text_push_end(p61, n231, n232 - n241);
-					if ((n243 & 1) == 0) {
-						uint64_t n250 = load64u(p61);
-						uint64_t n251 = load64u(p61 + 8);
-						uint64_t n252 = load64u(p61 + 16);
-						byte *p253 = loadptru(p60 + 80);
-						uint64_t n254 = load64u(p60 + 96);
-						byte *p255 = loadptru(p60 + 208);
-						uint64_t n256 = load64u(p60 + 224);
-						byte *p257 = loadptru(p60 + 1328);
-						uint64_t n258 = load64u(p60 + 1344);
-						if (load64u(p60 + 56) != 0)
-							rattle_dealloc(loadptru(p60 + 40));
-						if (n254 != 0)
-							rattle_dealloc(p253);
-						if (n256 != 0)
-							rattle_dealloc(p255);
-						if (n258 != 0)
-							rattle_dealloc(p257);
-						if (load64u(p60 + 1376) != 0)
-							rattle_dealloc(loadptru(p60 + 1360));
-						byte *p259 = (byte *)(uintptr_t)n250;
-						uint64_t n260 = 0;
-						while (n260 < n251) {
-							uint64_t n261 = n251 - n260;
-							uint64_t n262 = os_write(1, at(p259, n260), n261);
-							if ((int64_t)n262 < (int64_t)0) {
-								tp_error_last_error(p57);
+					uint8_t n238 = tp_text_push_end(p58, n226, n227 - n236);
+					if ((n238 & 1) == 0) {
+						uint64_t n245 = load64u(p58);
+						uint64_t n246 = load64u(p58 + 8);
+						uint64_t n247 = load64u(p58 + 16);
+						byte *p248 = loadptru(p57 + 80);
+						uint64_t n249 = load64u(p57 + 96);
+						byte *p250 = loadptru(p57 + 208);
+						uint64_t n251 = load64u(p57 + 224);
+						byte *p252 = loadptru(p57 + 1328);
+						uint64_t n253 = load64u(p57 + 1344);
+						if (load64u(p57 + 56) != 0)
+							rattle_dealloc(loadptru(p57 + 40));
+						if (n249 != 0)
+							rattle_dealloc(p248);
+						if (n251 != 0)
+							rattle_dealloc(p250);
+						if (n253 != 0)
+							rattle_dealloc(p252);
+						if (load64u(p57 + 1376) != 0)
+							rattle_dealloc(loadptru(p57 + 1360));
+						byte *p254 = (byte *)(uintptr_t)n245;
+						uint64_t n255 = 0;
+						while (n255 < n246) {
+							uint64_t n256 = n246 - n255;
+							uint64_t n257 = os_write(1, at(p254, n255), n256);
+							if ((int64_t)n257 < (int64_t)0) {
+								tp_error_last_error(p54);
 								goto L15;
 							}
-							uint64_t n263 = umin64(n262, n261);
-							if (n263 == 0)
+							uint64_t n258 = umin64(n257, n256);
+							if (n258 == 0)
 								goto L15;
-							n260 = n260 + n263;
+							n255 = n255 + n258;
 						}
-						if (n252 != 0)
-							rattle_dealloc(p259);
-						if (!b97)
-							rattle_dealloc(p95);
+						if (n247 != 0)
+							rattle_dealloc(p254);
+						if (!b92)
+							rattle_dealloc(p90);
 						return 0;
 L15:
 						{
 							store8(p3 + 1, 1);
-							if (n252 != 0)
-								rattle_dealloc(p259);
-							if (b97) {
-								n264 = 4;
-								n265 = n260;
+							if (n247 != 0)
+								rattle_dealloc(p254);
+							if (b92) {
+								n259 = 4;
+								n260 = n255;
 								goto L16;
 							}
-							rattle_dealloc(p95);
-							n264 = 4;
-							n265 = n260;
+							rattle_dealloc(p90);
+							n259 = 4;
+							n260 = n255;
 							goto L16;
 						}
 					}
-					if (load64u(p61 + 16) != 0)
-						rattle_dealloc(loadptru(p61));
-					byte *p244 = loadptru(p60 + 80);
-					uint64_t n245 = load64u(p60 + 96);
-					byte *p246 = loadptru(p60 + 208);
-					uint64_t n247 = load64u(p60 + 224);
-					byte *p248 = loadptru(p60 + 1328);
-					uint64_t n249 = load64u(p60 + 1344);
-					if (load64u(p60 + 56) != 0)
-						rattle_dealloc(loadptru(p60 + 40));
-					if (n245 != 0)
-						rattle_dealloc(p244);
-					if (n247 != 0)
-						rattle_dealloc(p246);
-					if (n249 != 0)
-						rattle_dealloc(p248);
-					if (load64u(p60 + 1376) != 0)
-						rattle_dealloc(loadptru(p60 + 1360));
+					if (load64u(p58 + 16) != 0)
+						rattle_dealloc(loadptru(p58));
+					byte *p239 = loadptru(p57 + 80);
+					uint64_t n240 = load64u(p57 + 96);
+					byte *p241 = loadptru(p57 + 208);
+					uint64_t n242 = load64u(p57 + 224);
+					byte *p243 = loadptru(p57 + 1328);
+					uint64_t n244 = load64u(p57 + 1344);
+					if (load64u(p57 + 56) != 0)
+						rattle_dealloc(loadptru(p57 + 40));
+					if (n240 != 0)
+						rattle_dealloc(p239);
+					if (n242 != 0)
+						rattle_dealloc(p241);
+					if (n244 != 0)
+						rattle_dealloc(p243);
+					if (load64u(p57 + 1376) != 0)
+						rattle_dealloc(loadptru(p57 + 1360));
 				}
 			}
 L2: ;
 L13:
 			{
-				n229 = 3;
-				n230 = 0;
+				n224 = 3;
+				n225 = 0;
 			}
 L14:
 			{
-				if (b97) {
-					n264 = n229;
-					n265 = n230;
+				if (b92) {
+					n259 = n224;
+					n260 = n225;
 				} else {
-					rattle_dealloc(p95);
-					n264 = n229;
-					n265 = n230;
+					rattle_dealloc(p90);
+					n259 = n224;
+					n260 = n225;
 				}
 			}
 		} else {
-			uint8_t n266;
-			switch (MOSTLY_0(load8(p68 + 1))) {
+			uint8_t n261;
+			switch (MOSTLY_0(load8(p64 + 1))) {
 			case 0: {
-				n266 = 0;
+				n261 = 0;
 				break;
 			}
 			case 1: {
-				n266 = 1;
+				n261 = 1;
 				break;
 			}
 			case 2: {
-				n266 = 3;
+				n261 = 3;
 				break;
 			}
 			default: {
 				UNREACHABLE();
 			}
 			}
-			if (n84 != 0)
-				rattle_dealloc(p82);
-			if (n87 != 0)
-				rattle_dealloc(p85);
-			if (n90 != 0)
-				rattle_dealloc(p88);
-			if (n93 == 0) {
-				n264 = n266;
-				n265 = 0;
+			if (n79 != 0)
+				rattle_dealloc(p77);
+			if (n82 != 0)
+				rattle_dealloc(p80);
+			if (n85 != 0)
+				rattle_dealloc(p83);
+			if (n88 == 0) {
+				n259 = n261;
+				n260 = 0;
 			} else {
-				rattle_dealloc(p91);
-				n264 = n266;
-				n265 = 0;
+				rattle_dealloc(p86);
+				n259 = n261;
+				n260 = 0;
 			}
 		}
 L16:
 		{
-			tp_timer_commands_error_report_report(n264, n265, p4);
+			tp_timer_commands_error_report_report(n259, n260, p4);
 			return 1;
 		}
 	}
 	case 1: {
-		uint8_t n377, n448;
-		uint64_t n378, n447;
+		uint8_t n372, n443;
+		uint64_t n373, n442;
 		if ((load8(p1 + 2) & 1) != 0) {
-			uint8_t n268, n351;
-			uint64_t n269, n350;
-			memcpy(p47, p2, 16);
-			memcpy(p48, p2 + 24, 16);
-			memcpy(p49, p2 + 64, 16);
-			memcpy(p50, p2 + 104, 104);
-			memcpy(p51, p2 + 232, 40);
-			memcpy(p52, p2 + 272, 1056);
+			uint8_t n263, n346;
+			uint64_t n264, n345;
+			memcpy(p45, p2, 40);
+			memcpy(p46, p2 + 64, 16);
+			memcpy(p47, p2 + 104, 104);
+			memcpy(p48, p2 + 232, 40);
+			memcpy(p49, p2 + 272, 1056);
+			memset(p50, 0, 24);
+			memset(p51, 0, 1432);
+			memset(p52, 0, 96);
 			memset(p53, 0, 24);
-			memset(p54, 0, 1432);
-			memset(p55, 0, 96);
-			memset(p56, 0, 24);
-			of_i64_i64 s267 = rattle_alloc(16384, 1);
-			if ((s267.f0 & 1) == 0) {
-				if (n84 != 0)
-					rattle_dealloc(p82);
-				if (n87 != 0)
-					rattle_dealloc(p85);
-				if (n90 != 0)
-					rattle_dealloc(p88);
-				if (n93 == 0) {
-					n268 = 2;
-					n269 = 0;
+			of_i64_i64 s262 = rattle_alloc(16384, 1);
+			if ((s262.f0 & 1) == 0) {
+				if (n79 != 0)
+					rattle_dealloc(p77);
+				if (n82 != 0)
+					rattle_dealloc(p80);
+				if (n85 != 0)
+					rattle_dealloc(p83);
+				if (n88 == 0) {
+					n263 = 2;
+					n264 = 0;
 				} else {
-					rattle_dealloc(p91);
-					n268 = 2;
-					n269 = 0;
+					rattle_dealloc(p86);
+					n263 = 2;
+					n264 = 0;
 				}
 			} else {
-				uint64_t n275, n286, n287, n298, n300, n302, n304;
-				uint8_t n295;
-				byte *p297, *p299, *p301, *p303;
-				byte *p270 = (byte *)(uintptr_t)s267.f1;
-				uint64_t n271 = 0;
-				while (n271 != 16383) {
-					store8(inside(p270, n271), 0);
-					n271 = n271 + 1;
+				uint64_t n270, n281, n282, n293, n295, n297, n299;
+				uint8_t n290;
+				byte *p292, *p294, *p296, *p298;
+				byte *p265 = (byte *)(uintptr_t)s262.f1;
+				uint64_t n266 = 0;
+				while (n266 != 16383) {
+					store8(inside(p265, n266), 0);
+					n266 = n266 + 1;
 				}
-				store8(p270 + 16383, 0);
-				storeptru(p53, p5);
-				memset(p53 + 8, 0, 16);
-				memcpy(p54, p47, 16);
-				store64u(p54 + 16, n81);
-				memcpy(p54 + 24, p48, 16);
-				storeptru(p54 + 40, p82);
-				store64u(p54 + 48, n83);
-				store64u(p54 + 56, n84);
-				memcpy(p54 + 64, p49, 16);
-				storeptru(p54 + 80, p85);
-				store64u(p54 + 88, n86);
-				store64u(p54 + 96, n87);
-				memcpy(p54 + 104, p50, 104);
-				storeptru(p54 + 208, p88);
-				store64u(p54 + 216, n89);
-				store64u(p54 + 224, n90);
-				memcpy(p54 + 232, p51, 40);
-				memcpy(p54 + 272, p52, 1056);
-				storeptru(p54 + 1328, p91);
-				store64u(p54 + 1336, n92);
-				store64u(p54 + 1344, n93);
-				store64u(p54 + 1352, n94);
-				storeptru(p54 + 1360, p5);
-				memset(p54 + 1368, 0, 16);
-				storeptru(p54 + 1384, p5);
-				memset(p54 + 1392, 0, 16);
-				storeptru(p54 + 1408, p5);
-				memset(p54 + 1416, 0, 16);
-				store8(p55, n69);
-				memset(p55 + 1, 0, 7);
-				storeptru(p55 + 8, p5);
-				memset(p55 + 16, 0, 16);
-				storeptru(p55 + 32, p5);
-				memset(p55 + 40, 0, 16);
-				storeptru(p55 + 56, p5);
-				memset(p55 + 64, 0, 16);
-				store64u(p55 + 80, 1);
-				store8(p55 + 88, 1);
-				memset(p55 + 89, 0, 7);
-				uint64_t n272 = 0;
+				store8(p265 + 16383, 0);
+				storeptru(p50, p5);
+				memset(p50 + 8, 0, 16);
+				memcpy(p51, p45, 40);
+				storeptru(p51 + 40, p77);
+				store64u(p51 + 48, n78);
+				store64u(p51 + 56, n79);
+				memcpy(p51 + 64, p46, 16);
+				storeptru(p51 + 80, p80);
+				store64u(p51 + 88, n81);
+				store64u(p51 + 96, n82);
+				memcpy(p51 + 104, p47, 104);
+				storeptru(p51 + 208, p83);
+				store64u(p51 + 216, n84);
+				store64u(p51 + 224, n85);
+				memcpy(p51 + 232, p48, 40);
+				memcpy(p51 + 272, p49, 1056);
+				storeptru(p51 + 1328, p86);
+				store64u(p51 + 1336, n87);
+				store64u(p51 + 1344, n88);
+				store64u(p51 + 1352, n89);
+				storeptru(p51 + 1360, p5);
+				memset(p51 + 1368, 0, 16);
+				storeptru(p51 + 1384, p5);
+				memset(p51 + 1392, 0, 16);
+				storeptru(p51 + 1408, p5);
+				memset(p51 + 1416, 0, 16);
+				store8(p52, n65);
+				memset(p52 + 1, 0, 7);
+				storeptru(p52 + 8, p5);
+				memset(p52 + 16, 0, 16);
+				storeptru(p52 + 32, p5);
+				memset(p52 + 40, 0, 16);
+				storeptru(p52 + 56, p5);
+				memset(p52 + 64, 0, 16);
+				store64u(p52 + 80, 1);
+				store8(p52 + 88, 1);
+				memset(p52 + 89, 0, 7);
+				uint64_t n267 = 0;
 				for (;;) {
-					if (n272 == UINT64_MAX)
+					if (n267 == UINT64_MAX)
 						goto L17;
-					uint64_t n273 = os_read(0, p270, 16384);
-					if ((int64_t)n273 < (int64_t)0)
+					uint64_t n268 = os_read(0, p265, 16384);
+					if ((int64_t)n268 < (int64_t)0)
 						goto L18;
-					tp_Cutter_take_in(p56, p55, p270, umin64(n273, 16384), p4);
-					if (load8(p56) != 0)
+					tp_Cutter_take_in(p53, p52, p265, umin64(n268, 16384), p4);
+					if (load8(p53) != 0)
 						break;
-					uint8_t n274 = load8(p56 + 8);
-					n275 = load64u(p56 + 16);
-					byte *p276 = loadptr(p55 + 8);
-					uint64_t n277 = load64(p55 + 16);
-					if (load64(p53 + 8) != 0)
-						store64(p53 + 8, 0);
-					uint64_t n278 = 0;
-					while (n278 != n277) {
-						byte *p279 = at(p276, n278 * 48);
-						uint64_t n280 = load64u(p279 + 8);
-						uint64_t n281 = load64u(p279 + 16);
-						uint64_t n282 = load64u(p279 + 24);
-						uint64_t n283 = load64u(p279 + 32);
-						uint64_t n284 = load64u(p279 + 40);
-						store64u(p45, (uint64_t)load8(p279));
-						store64(p45 + 8, n280);
-						store64(p45 + 16, n281);
-						store64(p45 + 24, n282);
-						store64(p45 + 32, n283);
-						store64(p45 + 40, n284);
-						uint8_t n285 = tp_session_Session_play_one(p54, p45, p53);
-						if ((n285 & 1) != 0) {
-							n286 = load64(p53 + 8);
+					uint8_t n269 = load8(p53 + 8);
+					n270 = load64u(p53 + 16);
+					byte *p271 = loadptr(p52 + 8);
+					uint64_t n272 = load64(p52 + 16);
+					if (load64(p50 + 8) != 0)
+						store64(p50 + 8, 0);
+					uint64_t n273 = 0;
+					while (n273 != n272) {
+						byte *p274 = at(p271, n273 * 48);
+						uint64_t n275 = load64u(p274 + 8);
+						uint64_t n276 = load64u(p274 + 16);
+						uint64_t n277 = load64u(p274 + 24);
+						uint64_t n278 = load64u(p274 + 32);
+						uint64_t n279 = load64u(p274 + 40);
+						store64u(p43, (uint64_t)load8(p274));
+						store64(p43 + 8, n275);
+						store64(p43 + 16, n276);
+						store64(p43 + 24, n277);
+						store64(p43 + 32, n278);
+						store64(p43 + 40, n279);
+						uint8_t n280 = tp_session_Session_play_one(p51, p43, p50);
+						if ((n280 & 1) != 0) {
+							n281 = load64(p50 + 8);
 							goto L19;
 						}
-						n287 = load64(p53 + 8);
-						of_i8_i64 s288 = tp_Facility_quiet_until(p54);
-						uint8_t n289 = tp_render_push_wakeup(p53, s288.f0, s288.f1);
-						if ((n289 & 1) != 0)
+						n282 = load64(p50 + 8);
+						of_i8_i64 s283 = tp_Facility_quiet_until(p51);
+						uint8_t n284 = tp_render_push_wakeup(p50, s283.f0, s283.f1);
+						if ((n284 & 1) != 0)
 							goto L20;
-						byte *p290 = loadptr(p53);
-						uint64_t n291 = load64(p53 + 8);
-						uint64_t n292 = 0;
-						while (n292 < n291) {
-							uint64_t n293 = n291 - n292;
-							uint64_t n294 = os_write(1, at(p290, n292), n293);
-							if ((int64_t)n294 < (int64_t)0) {
-								tp_error_last_error(p43);
+						byte *p285 = loadptr(p50);
+						uint64_t n286 = load64(p50 + 8);
+						uint64_t n287 = 0;
+						while (n287 < n286) {
+							uint64_t n288 = n286 - n287;
+							uint64_t n289 = os_write(1, at(p285, n287), n288);
+							if ((int64_t)n289 < (int64_t)0) {
+								tp_error_last_error(p41);
 								store8(p3 + 1, 1);
-								n295 = 3;
+								n290 = 3;
 								goto L21;
 							}
-							uint64_t n296 = umin64(n294, n293);
-							if (n296 == 0) {
+							uint64_t n291 = umin64(n289, n288);
+							if (n291 == 0) {
 								store8(p3 + 1, 1);
-								n295 = 3;
+								n290 = 3;
 								goto L21;
 							}
-							n292 = n292 + n296;
+							n287 = n287 + n291;
 						}
-						if (load64(p53 + 8) != 0)
-							store64(p53 + 8, 0);
-						n278 = n278 + 1;
+						if (load64(p50 + 8) != 0)
+							store64(p50 + 8, 0);
+						n273 = n273 + 1;
 					}
-					if (n274 == 1)
+					if (n269 == 1)
 						goto L22;
-					if (n273 == 0)
+					if (n268 == 0)
 						goto L23;
-					n272 = n272 + 1;
+					n267 = n267 + 1;
 				}
-				if (load64u(p55 + 24) != 0)
-					rattle_dealloc(loadptru(p55 + 8));
-				if (load64u(p55 + 48) != 0)
-					rattle_dealloc(loadptru(p55 + 32));
-				if (load64u(p55 + 72) != 0)
-					rattle_dealloc(loadptru(p55 + 56));
-				p297 = loadptru(p54 + 80);
-				n298 = load64u(p54 + 96);
-				p299 = loadptru(p54 + 208);
-				n300 = load64u(p54 + 224);
-				p301 = loadptru(p54 + 1328);
-				n302 = load64u(p54 + 1344);
-				p303 = loadptru(p54 + 1360);
-				n304 = load64u(p54 + 1376);
-				if (load64u(p54 + 56) != 0)
-					rattle_dealloc(loadptru(p54 + 40));
-				if (n298 != 0)
-					rattle_dealloc(p297);
-				if (n300 != 0)
-					rattle_dealloc(p299);
-				if (n302 != 0)
-					rattle_dealloc(p301);
-				if (n304 != 0)
-					rattle_dealloc(p303);
-				if (load64u(p54 + 1400) != 0)
-					rattle_dealloc(loadptru(p54 + 1384));
-				if (load64u(p54 + 1424) != 0)
-					rattle_dealloc(loadptru(p54 + 1408));
-				if (load64u(p53 + 16) != 0)
-					rattle_dealloc(loadptru(p53));
-				rattle_dealloc(p270);
-				n268 = 2;
-				n269 = 0;
+				if (load64u(p52 + 24) != 0)
+					rattle_dealloc(loadptru(p52 + 8));
+				if (load64u(p52 + 48) != 0)
+					rattle_dealloc(loadptru(p52 + 32));
+				if (load64u(p52 + 72) != 0)
+					rattle_dealloc(loadptru(p52 + 56));
+				p292 = loadptru(p51 + 80);
+				n293 = load64u(p51 + 96);
+				p294 = loadptru(p51 + 208);
+				n295 = load64u(p51 + 224);
+				p296 = loadptru(p51 + 1328);
+				n297 = load64u(p51 + 1344);
+				p298 = loadptru(p51 + 1360);
+				n299 = load64u(p51 + 1376);
+				if (load64u(p51 + 56) != 0)
+					rattle_dealloc(loadptru(p51 + 40));
+				if (n293 != 0)
+					rattle_dealloc(p292);
+				if (n295 != 0)
+					rattle_dealloc(p294);
+				if (n297 != 0)
+					rattle_dealloc(p296);
+				if (n299 != 0)
+					rattle_dealloc(p298);
+				if (load64u(p51 + 1400) != 0)
+					rattle_dealloc(loadptru(p51 + 1384));
+				if (load64u(p51 + 1424) != 0)
+					rattle_dealloc(loadptru(p51 + 1408));
+				if (load64u(p50 + 16) != 0)
+					rattle_dealloc(loadptru(p50));
+				rattle_dealloc(p265);
+				n263 = 2;
+				n264 = 0;
 				goto L24;
 L20:
 				{
-					uint64_t n305 = load64(p53 + 8);
-					if (n305 > n287) {
-						store64(p53 + 8, n287);
-						n286 = n287;
+					uint64_t n300 = load64(p50 + 8);
+					if (n300 > n282) {
+						store64(p50 + 8, n282);
+						n281 = n282;
 					} else {
-						n286 = n305;
+						n281 = n300;
 					}
 				}
 L19:
 				{
-					byte *p306 = loadptr(p53);
-					uint64_t n307 = 0;
+					byte *p301 = loadptr(p50);
+					uint64_t n302 = 0;
 					for (;;) {
-						if (n307 >= n286) {
-							n295 = 2;
+						if (n302 >= n281) {
+							n290 = 2;
 							break;
 						}
-						uint64_t n308 = n286 - n307;
-						uint64_t n309 = os_write(1, at(p306, n307), n308);
-						if ((int64_t)n309 < (int64_t)0) {
-							tp_error_last_error(p44);
+						uint64_t n303 = n281 - n302;
+						uint64_t n304 = os_write(1, at(p301, n302), n303);
+						if ((int64_t)n304 < (int64_t)0) {
+							tp_error_last_error(p42);
 							store8(p3 + 1, 1);
-							n295 = 3;
+							n290 = 3;
 							break;
 						}
-						uint64_t n310 = umin64(n309, n308);
-						if (n310 == 0) {
+						uint64_t n305 = umin64(n304, n303);
+						if (n305 == 0) {
 							store8(p3 + 1, 1);
-							n295 = 3;
+							n290 = 3;
 							break;
 						}
-						n307 = n307 + n310;
+						n302 = n302 + n305;
 					}
 				}
 L21:
 				{
-					if (load64u(p55 + 24) != 0)
-						rattle_dealloc(loadptru(p55 + 8));
-					if (load64u(p55 + 48) != 0)
-						rattle_dealloc(loadptru(p55 + 32));
-					if (load64u(p55 + 72) != 0)
-						rattle_dealloc(loadptru(p55 + 56));
-					byte *p311 = loadptru(p54 + 80);
-					uint64_t n312 = load64u(p54 + 96);
-					byte *p313 = loadptru(p54 + 208);
-					uint64_t n314 = load64u(p54 + 224);
-					byte *p315 = loadptru(p54 + 1328);
-					uint64_t n316 = load64u(p54 + 1344);
-					byte *p317 = loadptru(p54 + 1360);
-					uint64_t n318 = load64u(p54 + 1376);
-					if (load64u(p54 + 56) != 0)
-						rattle_dealloc(loadptru(p54 + 40));
-					if (n312 != 0)
-						rattle_dealloc(p311);
-					if (n314 != 0)
-						rattle_dealloc(p313);
-					if (n316 != 0)
-						rattle_dealloc(p315);
-					if (n318 != 0)
-						rattle_dealloc(p317);
-					if (load64u(p54 + 1400) != 0)
-						rattle_dealloc(loadptru(p54 + 1384));
-					if (load64u(p54 + 1424) != 0)
-						rattle_dealloc(loadptru(p54 + 1408));
-					if (load64u(p53 + 16) != 0)
-						rattle_dealloc(loadptru(p53));
-					rattle_dealloc(p270);
-					n268 = n295;
-					n269 = 0;
+					if (load64u(p52 + 24) != 0)
+						rattle_dealloc(loadptru(p52 + 8));
+					if (load64u(p52 + 48) != 0)
+						rattle_dealloc(loadptru(p52 + 32));
+					if (load64u(p52 + 72) != 0)
+						rattle_dealloc(loadptru(p52 + 56));
+					byte *p306 = loadptru(p51 + 80);
+					uint64_t n307 = load64u(p51 + 96);
+					byte *p308 = loadptru(p51 + 208);
+					uint64_t n309 = load64u(p51 + 224);
+					byte *p310 = loadptru(p51 + 1328);
+					uint64_t n311 = load64u(p51 + 1344);
+					byte *p312 = loadptru(p51 + 1360);
+					uint64_t n313 = load64u(p51 + 1376);
+					if (load64u(p51 + 56) != 0)
+						rattle_dealloc(loadptru(p51 + 40));
+					if (n307 != 0)
+						rattle_dealloc(p306);
+					if (n309 != 0)
+						rattle_dealloc(p308);
+					if (n311 != 0)
+						rattle_dealloc(p310);
+					if (n313 != 0)
+						rattle_dealloc(p312);
+					if (load64u(p51 + 1400) != 0)
+						rattle_dealloc(loadptru(p51 + 1384));
+					if (load64u(p51 + 1424) != 0)
+						rattle_dealloc(loadptru(p51 + 1408));
+					if (load64u(p50 + 16) != 0)
+						rattle_dealloc(loadptru(p50));
+					rattle_dealloc(p265);
+					n263 = n290;
+					n264 = 0;
 					goto L24;
 				}
 L23:
 				{
-					uint64_t n319;
-					uint8_t n320, n321;
-					bool b322;
-					memset(p42, 0, 24);
-					tp_Cutter_end(p42, p55, p4);
-					if (load8(p42) == 0) {
-						if (load8(p42 + 8) == 1) {
-							n319 = load64u(p42 + 16);
-							n320 = 1;
-							n321 = 1;
-							b322 = true;
+					uint64_t n314;
+					uint8_t n315, n316;
+					bool b317;
+					memset(p40, 0, 24);
+					tp_Cutter_end(p40, p52, p4);
+					if (load8(p40) == 0) {
+						if (load8(p40 + 8) == 1) {
+							n314 = load64u(p40 + 16);
+							n315 = 1;
+							n316 = 1;
+							b317 = true;
 						} else {
-							uint64_t n333;
-							if (load64(p53 + 8) != 0)
-								store64(p53 + 8, 0);
-							uint64_t n323 = load64(p54 + 16);
-							uint64_t n324 = load64(p54 + 64);
-							uint64_t n325 = load64(p54 + 32);
-							byte *p326 = loadptr(p54 + 80);
-							uint64_t n327 = (uint64_t)load32(at(p326, n325 << 3) + 4);
-							bool b328 = n325 != n327;
-							uint64_t n329 = load64(p54 + 104);
-							uint64_t n330 = b328 ? (n327 - n329) : 0;
-							uint64_t n331 = 0;
-							bool b332 = b328;
+							uint64_t n328;
+							if (load64(p50 + 8) != 0)
+								store64(p50 + 8, 0);
+							uint64_t n318 = load64(p51 + 16);
+							uint64_t n319 = load64(p51 + 64);
+							uint64_t n320 = load64(p51 + 32);
+							byte *p321 = loadptr(p51 + 80);
+							uint64_t n322 = (uint64_t)load32(at(p321, n320 << 3) + 4);
+							bool b323 = n320 != n322;
+							uint64_t n324 = load64(p51 + 104);
+							uint64_t n325 = b323 ? (n322 - n324) : 0;
+							uint64_t n326 = 0;
+							bool b327 = b323;
 							for (;;) {
-								if (n331 == n324) {
-									n333 = n324;
+								if (n326 == n319) {
+									n328 = n319;
 									break;
 								}
-								if (!b332) {
-									n333 = n331;
+								if (!b327) {
+									n328 = n326;
 									break;
 								}
-								uint64_t n334 = (uint64_t)load32(at(p326, (n329 + n330) << 3) + 4);
-								n330 = usub_sat64(n334, n329);
-								n331 = n331 + 1;
-								b332 = n329 <= n334;
+								uint64_t n329 = (uint64_t)load32(at(p321, (n324 + n325) << 3) + 4);
+								n325 = usub_sat64(n329, n324);
+								n326 = n326 + 1;
+								b327 = n324 <= n329;
 							}
-							uint8_t n335 = tp_text_push_end(p53, n323, n324 - n333);
-							if ((n335 & 1) != 0) {
-								n319 = 0;
-								n320 = 2;
-								n321 = 1;
-								b322 = true;
+							uint8_t n330 = tp_text_push_end(p50, n318, n319 - n328);
+							if ((n330 & 1) != 0) {
+								n314 = 0;
+								n315 = 2;
+								n316 = 1;
+								b317 = true;
 							} else {
-								byte *p336 = loadptr(p53);
-								uint64_t n337 = load64(p53 + 8);
-								uint64_t n338 = 0;
-								while (n338 < n337) {
-									uint64_t n339 = n337 - n338;
-									uint64_t n340 = os_write(1, at(p336, n338), n339);
-									if ((int64_t)n340 < (int64_t)0) {
-										tp_error_last_error(p41);
+								byte *p331 = loadptr(p50);
+								uint64_t n332 = load64(p50 + 8);
+								uint64_t n333 = 0;
+								while (n333 < n332) {
+									uint64_t n334 = n332 - n333;
+									uint64_t n335 = os_write(1, at(p331, n333), n334);
+									if ((int64_t)n335 < (int64_t)0) {
+										tp_error_last_error(p39);
 										goto L25;
 									}
-									uint64_t n341 = umin64(n340, n339);
-									if (n341 == 0)
+									uint64_t n336 = umin64(n335, n334);
+									if (n336 == 0)
 										goto L25;
-									n338 = n338 + n341;
+									n333 = n333 + n336;
 								}
-								n319 = 0;
-								n320 = 0;
-								n321 = (uint8_t)(load8(p55 + 88) ^ 1);
-								b322 = false;
+								n314 = 0;
+								n315 = 0;
+								n316 = (uint8_t)(load8(p52 + 88) ^ 1);
+								b317 = false;
 								goto L26;
 L25:
 								{
 									store8(p3 + 1, 1);
-									n319 = 0;
-									n320 = 3;
-									n321 = 1;
-									b322 = true;
+									n314 = 0;
+									n315 = 3;
+									n316 = 1;
+									b317 = true;
 								}
 							}
 						}
 					} else {
-						n319 = 0;
-						n320 = 2;
-						n321 = 1;
-						b322 = true;
+						n314 = 0;
+						n315 = 2;
+						n316 = 1;
+						b317 = true;
 					}
 L26:
 					{
-						if (load64u(p55 + 24) != 0)
-							rattle_dealloc(loadptru(p55 + 8));
-						if (load64u(p55 + 48) != 0)
-							rattle_dealloc(loadptru(p55 + 32));
-						if (load64u(p55 + 72) != 0)
-							rattle_dealloc(loadptru(p55 + 56));
-						byte *p342 = loadptru(p54 + 80);
-						uint64_t n343 = load64u(p54 + 96);
-						byte *p344 = loadptru(p54 + 208);
-						uint64_t n345 = load64u(p54 + 224);
-						byte *p346 = loadptru(p54 + 1328);
-						uint64_t n347 = load64u(p54 + 1344);
-						byte *p348 = loadptru(p54 + 1360);
-						uint64_t n349 = load64u(p54 + 1376);
-						if (load64u(p54 + 56) != 0)
-							rattle_dealloc(loadptru(p54 + 40));
-						if (n343 != 0)
-							rattle_dealloc(p342);
-						if (n345 != 0)
-							rattle_dealloc(p344);
-						if (n347 != 0)
-							rattle_dealloc(p346);
-						if (n349 != 0)
-							rattle_dealloc(p348);
-						if (load64u(p54 + 1400) != 0)
-							rattle_dealloc(loadptru(p54 + 1384));
-						if (load64u(p54 + 1424) != 0)
-							rattle_dealloc(loadptru(p54 + 1408));
-						if (load64u(p53 + 16) != 0)
-							rattle_dealloc(loadptru(p53));
-						rattle_dealloc(p270);
-						if (!b322)
-							return n321;
-						n350 = n319;
-						n351 = n320;
+						if (load64u(p52 + 24) != 0)
+							rattle_dealloc(loadptru(p52 + 8));
+						if (load64u(p52 + 48) != 0)
+							rattle_dealloc(loadptru(p52 + 32));
+						if (load64u(p52 + 72) != 0)
+							rattle_dealloc(loadptru(p52 + 56));
+						byte *p337 = loadptru(p51 + 80);
+						uint64_t n338 = load64u(p51 + 96);
+						byte *p339 = loadptru(p51 + 208);
+						uint64_t n340 = load64u(p51 + 224);
+						byte *p341 = loadptru(p51 + 1328);
+						uint64_t n342 = load64u(p51 + 1344);
+						byte *p343 = loadptru(p51 + 1360);
+						uint64_t n344 = load64u(p51 + 1376);
+						if (load64u(p51 + 56) != 0)
+							rattle_dealloc(loadptru(p51 + 40));
+						if (n338 != 0)
+							rattle_dealloc(p337);
+						if (n340 != 0)
+							rattle_dealloc(p339);
+						if (n342 != 0)
+							rattle_dealloc(p341);
+						if (n344 != 0)
+							rattle_dealloc(p343);
+						if (load64u(p51 + 1400) != 0)
+							rattle_dealloc(loadptru(p51 + 1384));
+						if (load64u(p51 + 1424) != 0)
+							rattle_dealloc(loadptru(p51 + 1408));
+						if (load64u(p50 + 16) != 0)
+							rattle_dealloc(loadptru(p50));
+						rattle_dealloc(p265);
+						if (!b317)
+							return n316;
+						n345 = n314;
+						n346 = n315;
 						goto L27;
 					}
 				}
 L22:
 				{
-					if (load64u(p55 + 24) != 0)
-						rattle_dealloc(loadptru(p55 + 8));
-					if (load64u(p55 + 48) != 0)
-						rattle_dealloc(loadptru(p55 + 32));
-					if (load64u(p55 + 72) != 0)
-						rattle_dealloc(loadptru(p55 + 56));
-					byte *p352 = loadptru(p54 + 80);
-					uint64_t n353 = load64u(p54 + 96);
-					byte *p354 = loadptru(p54 + 208);
-					uint64_t n355 = load64u(p54 + 224);
-					byte *p356 = loadptru(p54 + 1328);
-					uint64_t n357 = load64u(p54 + 1344);
-					byte *p358 = loadptru(p54 + 1360);
-					uint64_t n359 = load64u(p54 + 1376);
-					if (load64u(p54 + 56) != 0)
-						rattle_dealloc(loadptru(p54 + 40));
-					if (n353 != 0)
-						rattle_dealloc(p352);
-					if (n355 != 0)
-						rattle_dealloc(p354);
-					if (n357 != 0)
-						rattle_dealloc(p356);
-					if (n359 != 0)
-						rattle_dealloc(p358);
-					if (load64u(p54 + 1400) != 0)
-						rattle_dealloc(loadptru(p54 + 1384));
-					if (load64u(p54 + 1424) != 0)
-						rattle_dealloc(loadptru(p54 + 1408));
-					if (load64u(p53 + 16) != 0)
-						rattle_dealloc(loadptru(p53));
-					rattle_dealloc(p270);
-					n268 = 1;
-					n269 = n275;
+					if (load64u(p52 + 24) != 0)
+						rattle_dealloc(loadptru(p52 + 8));
+					if (load64u(p52 + 48) != 0)
+						rattle_dealloc(loadptru(p52 + 32));
+					if (load64u(p52 + 72) != 0)
+						rattle_dealloc(loadptru(p52 + 56));
+					byte *p347 = loadptru(p51 + 80);
+					uint64_t n348 = load64u(p51 + 96);
+					byte *p349 = loadptru(p51 + 208);
+					uint64_t n350 = load64u(p51 + 224);
+					byte *p351 = loadptru(p51 + 1328);
+					uint64_t n352 = load64u(p51 + 1344);
+					byte *p353 = loadptru(p51 + 1360);
+					uint64_t n354 = load64u(p51 + 1376);
+					if (load64u(p51 + 56) != 0)
+						rattle_dealloc(loadptru(p51 + 40));
+					if (n348 != 0)
+						rattle_dealloc(p347);
+					if (n350 != 0)
+						rattle_dealloc(p349);
+					if (n352 != 0)
+						rattle_dealloc(p351);
+					if (n354 != 0)
+						rattle_dealloc(p353);
+					if (load64u(p51 + 1400) != 0)
+						rattle_dealloc(loadptru(p51 + 1384));
+					if (load64u(p51 + 1424) != 0)
+						rattle_dealloc(loadptru(p51 + 1408));
+					if (load64u(p50 + 16) != 0)
+						rattle_dealloc(loadptru(p50));
+					rattle_dealloc(p265);
+					n263 = 1;
+					n264 = n270;
 					goto L24;
 				}
 L18:
 				{
-					tp_error_last_error(p46);
+					tp_error_last_error(p44);
 					store8(p3, 1);
-					if (load64u(p55 + 24) != 0)
-						rattle_dealloc(loadptru(p55 + 8));
-					if (load64u(p55 + 48) != 0)
-						rattle_dealloc(loadptru(p55 + 32));
-					if (load64u(p55 + 72) != 0)
-						rattle_dealloc(loadptru(p55 + 56));
-					byte *p360 = loadptru(p54 + 80);
-					uint64_t n361 = load64u(p54 + 96);
-					byte *p362 = loadptru(p54 + 208);
-					uint64_t n363 = load64u(p54 + 224);
-					byte *p364 = loadptru(p54 + 1328);
-					uint64_t n365 = load64u(p54 + 1344);
-					byte *p366 = loadptru(p54 + 1360);
-					uint64_t n367 = load64u(p54 + 1376);
-					if (load64u(p54 + 56) != 0)
-						rattle_dealloc(loadptru(p54 + 40));
-					if (n361 != 0)
-						rattle_dealloc(p360);
-					if (n363 != 0)
-						rattle_dealloc(p362);
-					if (n365 != 0)
-						rattle_dealloc(p364);
-					if (n367 != 0)
-						rattle_dealloc(p366);
-					if (load64u(p54 + 1400) != 0)
-						rattle_dealloc(loadptru(p54 + 1384));
-					if (load64u(p54 + 1424) != 0)
-						rattle_dealloc(loadptru(p54 + 1408));
-					if (load64u(p53 + 16) != 0)
-						rattle_dealloc(loadptru(p53));
-					rattle_dealloc(p270);
-					n268 = 0;
-					n269 = 0;
+					if (load64u(p52 + 24) != 0)
+						rattle_dealloc(loadptru(p52 + 8));
+					if (load64u(p52 + 48) != 0)
+						rattle_dealloc(loadptru(p52 + 32));
+					if (load64u(p52 + 72) != 0)
+						rattle_dealloc(loadptru(p52 + 56));
+					byte *p355 = loadptru(p51 + 80);
+					uint64_t n356 = load64u(p51 + 96);
+					byte *p357 = loadptru(p51 + 208);
+					uint64_t n358 = load64u(p51 + 224);
+					byte *p359 = loadptru(p51 + 1328);
+					uint64_t n360 = load64u(p51 + 1344);
+					byte *p361 = loadptru(p51 + 1360);
+					uint64_t n362 = load64u(p51 + 1376);
+					if (load64u(p51 + 56) != 0)
+						rattle_dealloc(loadptru(p51 + 40));
+					if (n356 != 0)
+						rattle_dealloc(p355);
+					if (n358 != 0)
+						rattle_dealloc(p357);
+					if (n360 != 0)
+						rattle_dealloc(p359);
+					if (n362 != 0)
+						rattle_dealloc(p361);
+					if (load64u(p51 + 1400) != 0)
+						rattle_dealloc(loadptru(p51 + 1384));
+					if (load64u(p51 + 1424) != 0)
+						rattle_dealloc(loadptru(p51 + 1408));
+					if (load64u(p50 + 16) != 0)
+						rattle_dealloc(loadptru(p50));
+					rattle_dealloc(p265);
+					n263 = 0;
+					n264 = 0;
 					goto L24;
 				}
 L17:
 				{
-					if (load64u(p55 + 24) != 0)
-						rattle_dealloc(loadptru(p55 + 8));
-					if (load64u(p55 + 48) != 0)
-						rattle_dealloc(loadptru(p55 + 32));
-					if (load64u(p55 + 72) != 0)
-						rattle_dealloc(loadptru(p55 + 56));
-					byte *p368 = loadptru(p54 + 80);
-					uint64_t n369 = load64u(p54 + 96);
-					byte *p370 = loadptru(p54 + 208);
-					uint64_t n371 = load64u(p54 + 224);
-					byte *p372 = loadptru(p54 + 1328);
-					uint64_t n373 = load64u(p54 + 1344);
-					byte *p374 = loadptru(p54 + 1360);
-					uint64_t n375 = load64u(p54 + 1376);
-					if (load64u(p54 + 56) != 0)
-						rattle_dealloc(loadptru(p54 + 40));
-					if (n369 != 0)
-						rattle_dealloc(p368);
-					if (n371 != 0)
-						rattle_dealloc(p370);
-					if (n373 != 0)
-						rattle_dealloc(p372);
-					if (n375 != 0)
-						rattle_dealloc(p374);
-					if (load64u(p54 + 1400) != 0)
-						rattle_dealloc(loadptru(p54 + 1384));
-					if (load64u(p54 + 1424) != 0)
-						rattle_dealloc(loadptru(p54 + 1408));
-					if (load64u(p53 + 16) != 0)
-						rattle_dealloc(loadptru(p53));
-					rattle_dealloc(p270);
-					n268 = 4;
-					n269 = 0;
+					if (load64u(p52 + 24) != 0)
+						rattle_dealloc(loadptru(p52 + 8));
+					if (load64u(p52 + 48) != 0)
+						rattle_dealloc(loadptru(p52 + 32));
+					if (load64u(p52 + 72) != 0)
+						rattle_dealloc(loadptru(p52 + 56));
+					byte *p363 = loadptru(p51 + 80);
+					uint64_t n364 = load64u(p51 + 96);
+					byte *p365 = loadptru(p51 + 208);
+					uint64_t n366 = load64u(p51 + 224);
+					byte *p367 = loadptru(p51 + 1328);
+					uint64_t n368 = load64u(p51 + 1344);
+					byte *p369 = loadptru(p51 + 1360);
+					uint64_t n370 = load64u(p51 + 1376);
+					if (load64u(p51 + 56) != 0)
+						rattle_dealloc(loadptru(p51 + 40));
+					if (n364 != 0)
+						rattle_dealloc(p363);
+					if (n366 != 0)
+						rattle_dealloc(p365);
+					if (n368 != 0)
+						rattle_dealloc(p367);
+					if (n370 != 0)
+						rattle_dealloc(p369);
+					if (load64u(p51 + 1400) != 0)
+						rattle_dealloc(loadptru(p51 + 1384));
+					if (load64u(p51 + 1424) != 0)
+						rattle_dealloc(loadptru(p51 + 1408));
+					if (load64u(p50 + 16) != 0)
+						rattle_dealloc(loadptru(p50));
+					rattle_dealloc(p265);
+					n263 = 4;
+					n264 = 0;
 				}
 			}
 L24:
 			{
-				n350 = n269;
-				n351 = n268;
+				n345 = n264;
+				n346 = n263;
 			}
 L27:
 			{
-				tp_timer_commands_error_report_report_2(n351, n350, p4);
+				tp_timer_commands_error_report_report_2(n346, n345, p4);
 				return 1;
 			}
 		}
-		memcpy(p31, p2, 16);
-		memcpy(p32, p2 + 24, 16);
-		memcpy(p33, p2 + 64, 16);
-		memcpy(p34, p2 + 104, 104);
-		memcpy(p35, p2 + 232, 40);
-		memcpy(p36, p2 + 272, 1056);
-		memset(p37, 0, 24);
-		memset(p38, 0, 1432);
-		memset(p39, 0, 96);
-		memset(p40, 0, 24);
-		of_i64_i64 s376 = rattle_alloc(16384, 1);
-		if ((s376.f0 & 1) == 0) {
-			if (n84 != 0)
-				rattle_dealloc(p82);
-			if (n87 != 0)
-				rattle_dealloc(p85);
-			if (n90 != 0)
-				rattle_dealloc(p88);
-			if (n93 == 0) {
-				n377 = 2;
-				n378 = 0;
+		memcpy(p30, p2, 40);
+		memcpy(p31, p2 + 64, 16);
+		memcpy(p32, p2 + 104, 104);
+		memcpy(p33, p2 + 232, 40);
+		memcpy(p34, p2 + 272, 1056);
+		memset(p35, 0, 24);
+		memset(p36, 0, 1432);
+		memset(p37, 0, 96);
+		memset(p38, 0, 24);
+		of_i64_i64 s371 = rattle_alloc(16384, 1);
+		if ((s371.f0 & 1) == 0) {
+			if (n79 != 0)
+				rattle_dealloc(p77);
+			if (n82 != 0)
+				rattle_dealloc(p80);
+			if (n85 != 0)
+				rattle_dealloc(p83);
+			if (n88 == 0) {
+				n372 = 2;
+				n373 = 0;
 			} else {
-				rattle_dealloc(p91);
-				n377 = 2;
-				n378 = 0;
+				rattle_dealloc(p86);
+				n372 = 2;
+				n373 = 0;
 			}
 		} else {
-			uint64_t n384, n403, n405, n407, n409;
-			uint8_t n400;
-			byte *p402, *p404, *p406, *p408;
-			byte *p379 = (byte *)(uintptr_t)s376.f1;
-			uint64_t n380 = 0;
-			while (n380 != 16383) {
-				store8(inside(p379, n380), 0);
-				n380 = n380 + 1;
+			uint64_t n379, n398, n400, n402, n404;
+			uint8_t n395;
+			byte *p397, *p399, *p401, *p403;
+			byte *p374 = (byte *)(uintptr_t)s371.f1;
+			uint64_t n375 = 0;
+			while (n375 != 16383) {
+				store8(inside(p374, n375), 0);
+				n375 = n375 + 1;
 			}
-			store8(p379 + 16383, 0);
-			storeptru(p37, p5);
-			memset(p37 + 8, 0, 16);
-			memcpy(p38, p31, 16);
-			store64u(p38 + 16, n81);
-			memcpy(p38 + 24, p32, 16);
-			storeptru(p38 + 40, p82);
-			store64u(p38 + 48, n83);
-			store64u(p38 + 56, n84);
-			memcpy(p38 + 64, p33, 16);
-			storeptru(p38 + 80, p85);
-			store64u(p38 + 88, n86);
-			store64u(p38 + 96, n87);
-			memcpy(p38 + 104, p34, 104);
-			storeptru(p38 + 208, p88);
-			store64u(p38 + 216, n89);
-			store64u(p38 + 224, n90);
-			memcpy(p38 + 232, p35, 40);
-			memcpy(p38 + 272, p36, 1056);
-			storeptru(p38 + 1328, p91);
-			store64u(p38 + 1336, n92);
-			store64u(p38 + 1344, n93);
-			store64u(p38 + 1352, n94);
-			storeptru(p38 + 1360, p5);
-			memset(p38 + 1368, 0, 16);
-			storeptru(p38 + 1384, p5);
-			memset(p38 + 1392, 0, 16);
-			storeptru(p38 + 1408, p5);
-			memset(p38 + 1416, 0, 16);
-			store8(p39, n69);
-			memset(p39 + 1, 0, 7);
-			storeptru(p39 + 8, p5);
-			memset(p39 + 16, 0, 16);
-			storeptru(p39 + 32, p5);
-			memset(p39 + 40, 0, 16);
-			storeptru(p39 + 56, p5);
-			memset(p39 + 64, 0, 16);
-			store64u(p39 + 80, 1);
-			store8(p39 + 88, 1);
-			memset(p39 + 89, 0, 7);
-			uint64_t n381 = 0;
+			store8(p374 + 16383, 0);
+			storeptru(p35, p5);
+			memset(p35 + 8, 0, 16);
+			memcpy(p36, p30, 40);
+			storeptru(p36 + 40, p77);
+			store64u(p36 + 48, n78);
+			store64u(p36 + 56, n79);
+			memcpy(p36 + 64, p31, 16);
+			storeptru(p36 + 80, p80);
+			store64u(p36 + 88, n81);
+			store64u(p36 + 96, n82);
+			memcpy(p36 + 104, p32, 104);
+			storeptru(p36 + 208, p83);
+			store64u(p36 + 216, n84);
+			store64u(p36 + 224, n85);
+			memcpy(p36 + 232, p33, 40);
+			memcpy(p36 + 272, p34, 1056);
+			storeptru(p36 + 1328, p86);
+			store64u(p36 + 1336, n87);
+			store64u(p36 + 1344, n88);
+			store64u(p36 + 1352, n89);
+			storeptru(p36 + 1360, p5);
+			memset(p36 + 1368, 0, 16);
+			storeptru(p36 + 1384, p5);
+			memset(p36 + 1392, 0, 16);
+			storeptru(p36 + 1408, p5);
+			memset(p36 + 1416, 0, 16);
+			store8(p37, n65);
+			memset(p37 + 1, 0, 7);
+			storeptru(p37 + 8, p5);
+			memset(p37 + 16, 0, 16);
+			storeptru(p37 + 32, p5);
+			memset(p37 + 40, 0, 16);
+			storeptru(p37 + 56, p5);
+			memset(p37 + 64, 0, 16);
+			store64u(p37 + 80, 1);
+			store8(p37 + 88, 1);
+			memset(p37 + 89, 0, 7);
+			uint64_t n376 = 0;
 			for (;;) {
-				if (n381 == UINT64_MAX)
+				if (n376 == UINT64_MAX)
 					goto L28;
-				uint64_t n382 = os_read(0, p379, 16384);
-				if ((int64_t)n382 < (int64_t)0)
+				uint64_t n377 = os_read(0, p374, 16384);
+				if ((int64_t)n377 < (int64_t)0)
 					goto L29;
-				tp_Cutter_take_in(p40, p39, p379, umin64(n382, 16384), p4);
-				if (load8(p40) != 0)
+				tp_Cutter_take_in(p38, p37, p374, umin64(n377, 16384), p4);
+				if (load8(p38) != 0)
 					break;
-				uint8_t n383 = load8(p40 + 8);
-				n384 = load64u(p40 + 16);
-				byte *p385 = loadptr(p39 + 8);
-				uint64_t n386 = load64(p39 + 16);
-				if (load64(p37 + 8) != 0)
-					store64(p37 + 8, 0);
-				uint64_t n387 = 0;
-				while (n387 != n386) {
-					byte *p388 = at(p385, n387 * 48);
-					uint64_t n389 = load64u(p388 + 8);
-					uint64_t n390 = load64u(p388 + 16);
-					uint64_t n391 = load64u(p388 + 24);
-					uint64_t n392 = load64u(p388 + 32);
-					uint64_t n393 = load64u(p388 + 40);
-					store64u(p29, (uint64_t)load8(p388));
-					store64(p29 + 8, n389);
-					store64(p29 + 16, n390);
-					store64(p29 + 24, n391);
-					store64(p29 + 32, n392);
-					store64(p29 + 40, n393);
-					uint8_t n394 = tp_session_Session_play_one(p38, p29, p37);
-					if ((n394 & 1) != 0)
+				uint8_t n378 = load8(p38 + 8);
+				n379 = load64u(p38 + 16);
+				byte *p380 = loadptr(p37 + 8);
+				uint64_t n381 = load64(p37 + 16);
+				if (load64(p35 + 8) != 0)
+					store64(p35 + 8, 0);
+				uint64_t n382 = 0;
+				while (n382 != n381) {
+					byte *p383 = at(p380, n382 * 48);
+					uint64_t n384 = load64u(p383 + 8);
+					uint64_t n385 = load64u(p383 + 16);
+					uint64_t n386 = load64u(p383 + 24);
+					uint64_t n387 = load64u(p383 + 32);
+					uint64_t n388 = load64u(p383 + 40);
+					store64u(p28, (uint64_t)load8(p383));
+					store64(p28 + 8, n384);
+					store64(p28 + 16, n385);
+					store64(p28 + 24, n386);
+					store64(p28 + 32, n387);
+					store64(p28 + 40, n388);
+					uint8_t n389 = tp_session_Session_play_one(p36, p28, p35);
+					if ((n389 & 1) != 0)
 						goto L30;
-					n387 = n387 + 1;
+					n382 = n382 + 1;
 				}
-				byte *p395 = loadptr(p37);
-				uint64_t n396 = load64(p37 + 8);
-				uint64_t n397 = 0;
-				while (n397 < n396) {
-					uint64_t n398 = n396 - n397;
-					uint64_t n399 = os_write(1, at(p395, n397), n398);
-					if ((int64_t)n399 < (int64_t)0) {
-						tp_error_last_error(p27);
+				byte *p390 = loadptr(p35);
+				uint64_t n391 = load64(p35 + 8);
+				uint64_t n392 = 0;
+				while (n392 < n391) {
+					uint64_t n393 = n391 - n392;
+					uint64_t n394 = os_write(1, at(p390, n392), n393);
+					if ((int64_t)n394 < (int64_t)0) {
+						tp_error_last_error(p26);
 						store8(p3 + 1, 1);
-						n400 = 3;
+						n395 = 3;
 						goto L31;
 					}
-					uint64_t n401 = umin64(n399, n398);
-					if (n401 == 0) {
+					uint64_t n396 = umin64(n394, n393);
+					if (n396 == 0) {
 						store8(p3 + 1, 1);
-						n400 = 3;
+						n395 = 3;
 						goto L31;
 					}
-					n397 = n397 + n401;
+					n392 = n392 + n396;
 				}
-				if (n383 == 1)
+				if (n378 == 1)
 					goto L32;
-				if (n382 == 0)
+				if (n377 == 0)
 					goto L33;
-				n381 = n381 + 1;
+				n376 = n376 + 1;
 			}
-			if (load64u(p39 + 24) != 0)
-				rattle_dealloc(loadptru(p39 + 8));
-			if (load64u(p39 + 48) != 0)
-				rattle_dealloc(loadptru(p39 + 32));
-			if (load64u(p39 + 72) != 0)
-				rattle_dealloc(loadptru(p39 + 56));
-			p402 = loadptru(p38 + 80);
-			n403 = load64u(p38 + 96);
-			p404 = loadptru(p38 + 208);
-			n405 = load64u(p38 + 224);
-			p406 = loadptru(p38 + 1328);
-			n407 = load64u(p38 + 1344);
-			p408 = loadptru(p38 + 1360);
-			n409 = load64u(p38 + 1376);
-			if (load64u(p38 + 56) != 0)
-				rattle_dealloc(loadptru(p38 + 40));
-			if (n403 != 0)
-				rattle_dealloc(p402);
-			if (n405 != 0)
-				rattle_dealloc(p404);
-			if (n407 != 0)
-				rattle_dealloc(p406);
-			if (n409 != 0)
-				rattle_dealloc(p408);
-			if (load64u(p38 + 1400) != 0)
-				rattle_dealloc(loadptru(p38 + 1384));
-			if (load64u(p38 + 1424) != 0)
-				rattle_dealloc(loadptru(p38 + 1408));
-			if (load64u(p37 + 16) != 0)
-				rattle_dealloc(loadptru(p37));
-			rattle_dealloc(p379);
-			n377 = 2;
-			n378 = 0;
+			if (load64u(p37 + 24) != 0)
+				rattle_dealloc(loadptru(p37 + 8));
+			if (load64u(p37 + 48) != 0)
+				rattle_dealloc(loadptru(p37 + 32));
+			if (load64u(p37 + 72) != 0)
+				rattle_dealloc(loadptru(p37 + 56));
+			p397 = loadptru(p36 + 80);
+			n398 = load64u(p36 + 96);
+			p399 = loadptru(p36 + 208);
+			n400 = load64u(p36 + 224);
+			p401 = loadptru(p36 + 1328);
+			n402 = load64u(p36 + 1344);
+			p403 = loadptru(p36 + 1360);
+			n404 = load64u(p36 + 1376);
+			if (load64u(p36 + 56) != 0)
+				rattle_dealloc(loadptru(p36 + 40));
+			if (n398 != 0)
+				rattle_dealloc(p397);
+			if (n400 != 0)
+				rattle_dealloc(p399);
+			if (n402 != 0)
+				rattle_dealloc(p401);
+			if (n404 != 0)
+				rattle_dealloc(p403);
+			if (load64u(p36 + 1400) != 0)
+				rattle_dealloc(loadptru(p36 + 1384));
+			if (load64u(p36 + 1424) != 0)
+				rattle_dealloc(loadptru(p36 + 1408));
+			if (load64u(p35 + 16) != 0)
+				rattle_dealloc(loadptru(p35));
+			rattle_dealloc(p374);
+			n372 = 2;
+			n373 = 0;
 			goto L34;
 L30:
 			{
-				byte *p410 = loadptr(p37);
-				uint64_t n411 = load64(p37 + 8);
-				uint64_t n412 = 0;
+				byte *p405 = loadptr(p35);
+				uint64_t n406 = load64(p35 + 8);
+				uint64_t n407 = 0;
 				for (;;) {
-					if (n412 >= n411) {
-						n400 = 2;
+					if (n407 >= n406) {
+						n395 = 2;
 						goto L31;
 					}
-					uint64_t n413 = n411 - n412;
-					uint64_t n414 = os_write(1, at(p410, n412), n413);
-					if ((int64_t)n414 < (int64_t)0) {
-						tp_error_last_error(p28);
+					uint64_t n408 = n406 - n407;
+					uint64_t n409 = os_write(1, at(p405, n407), n408);
+					if ((int64_t)n409 < (int64_t)0) {
+						tp_error_last_error(p27);
 						store8(p3 + 1, 1);
-						n400 = 3;
+						n395 = 3;
 						goto L31;
 					}
-					uint64_t n415 = umin64(n414, n413);
-					if (n415 == 0) {
+					uint64_t n410 = umin64(n409, n408);
+					if (n410 == 0) {
 						store8(p3 + 1, 1);
-						n400 = 3;
+						n395 = 3;
 						goto L31;
 					}
-					n412 = n412 + n415;
+					n407 = n407 + n410;
 				}
 			}
 L33:
 			{
-				uint64_t n416;
-				uint8_t n417, n418;
-				bool b419;
-				memset(p26, 0, 24);
-				tp_Cutter_end(p26, p39, p4);
-				if (load8(p26) == 0) {
-					if (load8(p26 + 8) == 1) {
-						n416 = load64u(p26 + 16);
-						n417 = 1;
-						n418 = 1;
-						b419 = true;
+				uint64_t n411;
+				uint8_t n412, n413;
+				bool b414;
+				memset(p25, 0, 24);
+				tp_Cutter_end(p25, p37, p4);
+				if (load8(p25) == 0) {
+					if (load8(p25 + 8) == 1) {
+						n411 = load64u(p25 + 16);
+						n412 = 1;
+						n413 = 1;
+						b414 = true;
 					} else {
-						uint64_t n430;
-						if (load64(p37 + 8) != 0)
-							store64(p37 + 8, 0);
-						uint64_t n420 = load64(p38 + 16);
-						uint64_t n421 = load64(p38 + 64);
-						uint64_t n422 = load64(p38 + 32);
-						byte *p423 = loadptr(p38 + 80);
-						uint64_t n424 = (uint64_t)load32(at(p423, n422 << 3) + 4);
-						bool b425 = n422 != n424;
-						uint64_t n426 = load64(p38 + 104);
-						uint64_t n427 = b425 ? (n424 - n426) : 0;
-						uint64_t n428 = 0;
-						bool b429 = b425;
+						uint64_t n425;
+						if (load64(p35 + 8) != 0)
+							store64(p35 + 8, 0);
+						uint64_t n415 = load64(p36 + 16);
+						uint64_t n416 = load64(p36 + 64);
+						uint64_t n417 = load64(p36 + 32);
+						byte *p418 = loadptr(p36 + 80);
+						uint64_t n419 = (uint64_t)load32(at(p418, n417 << 3) + 4);
+						bool b420 = n417 != n419;
+						uint64_t n421 = load64(p36 + 104);
+						uint64_t n422 = b420 ? (n419 - n421) : 0;
+						uint64_t n423 = 0;
+						bool b424 = b420;
 						for (;;) {
-							if (n428 == n421) {
-								n430 = n421;
+							if (n423 == n416) {
+								n425 = n416;
 								break;
 							}
-							if (!b429) {
-								n430 = n428;
+							if (!b424) {
+								n425 = n423;
 								break;
 							}
-							uint64_t n431 = (uint64_t)load32(at(p423, (n426 + n427) << 3) + 4);
-							n427 = usub_sat64(n431, n426);
-							n428 = n428 + 1;
-							b429 = n426 <= n431;
+							uint64_t n426 = (uint64_t)load32(at(p418, (n421 + n422) << 3) + 4);
+							n422 = usub_sat64(n426, n421);
+							n423 = n423 + 1;
+							b424 = n421 <= n426;
 						}
-						uint8_t n432 = tp_text_push_end(p37, n420, n421 - n430);
-						if ((n432 & 1) != 0) {
-							n416 = 0;
-							n417 = 2;
-							n418 = 1;
-							b419 = true;
+						uint8_t n427 = tp_text_push_end(p35, n415, n416 - n425);
+						if ((n427 & 1) != 0) {
+							n411 = 0;
+							n412 = 2;
+							n413 = 1;
+							b414 = true;
 						} else {
-							byte *p433 = loadptr(p37);
-							uint64_t n434 = load64(p37 + 8);
-							uint64_t n435 = 0;
-							while (n435 < n434) {
-								uint64_t n436 = n434 - n435;
-								uint64_t n437 = os_write(1, at(p433, n435), n436);
-								if ((int64_t)n437 < (int64_t)0) {
-									tp_error_last_error(p25);
+							byte *p428 = loadptr(p35);
+							uint64_t n429 = load64(p35 + 8);
+							uint64_t n430 = 0;
+							while (n430 < n429) {
+								uint64_t n431 = n429 - n430;
+								uint64_t n432 = os_write(1, at(p428, n430), n431);
+								if ((int64_t)n432 < (int64_t)0) {
+									tp_error_last_error(p24);
 									goto L35;
 								}
-								uint64_t n438 = umin64(n437, n436);
-								if (n438 == 0)
+								uint64_t n433 = umin64(n432, n431);
+								if (n433 == 0)
 									goto L35;
-								n435 = n435 + n438;
+								n430 = n430 + n433;
 							}
-							n416 = 0;
-							n417 = 0;
-							n418 = (uint8_t)(load8(p39 + 88) ^ 1);
-							b419 = false;
+							n411 = 0;
+							n412 = 0;
+							n413 = (uint8_t)(load8(p37 + 88) ^ 1);
+							b414 = false;
 							goto L36;
 L35:
 							{
 								store8(p3 + 1, 1);
-								n416 = 0;
-								n417 = 3;
-								n418 = 1;
-								b419 = true;
+								n411 = 0;
+								n412 = 3;
+								n413 = 1;
+								b414 = true;
 							}
 						}
 					}
 				} else {
-					n416 = 0;
-					n417 = 2;
-					n418 = 1;
-					b419 = true;
+					n411 = 0;
+					n412 = 2;
+					n413 = 1;
+					b414 = true;
 				}
 L36:
 				{
-					if (load64u(p39 + 24) != 0)
-						rattle_dealloc(loadptru(p39 + 8));
-					if (load64u(p39 + 48) != 0)
-						rattle_dealloc(loadptru(p39 + 32));
-					if (load64u(p39 + 72) != 0)
-						rattle_dealloc(loadptru(p39 + 56));
-					byte *p439 = loadptru(p38 + 80);
-					uint64_t n440 = load64u(p38 + 96);
-					byte *p441 = loadptru(p38 + 208);
-					uint64_t n442 = load64u(p38 + 224);
-					byte *p443 = loadptru(p38 + 1328);
-					uint64_t n444 = load64u(p38 + 1344);
-					byte *p445 = loadptru(p38 + 1360);
-					uint64_t n446 = load64u(p38 + 1376);
-					if (load64u(p38 + 56) != 0)
-						rattle_dealloc(loadptru(p38 + 40));
-					if (n440 != 0)
-						rattle_dealloc(p439);
-					if (n442 != 0)
-						rattle_dealloc(p441);
-					if (n444 != 0)
-						rattle_dealloc(p443);
-					if (n446 != 0)
-						rattle_dealloc(p445);
-					if (load64u(p38 + 1400) != 0)
-						rattle_dealloc(loadptru(p38 + 1384));
-					if (load64u(p38 + 1424) != 0)
-						rattle_dealloc(loadptru(p38 + 1408));
-					if (load64u(p37 + 16) != 0)
-						rattle_dealloc(loadptru(p37));
-					rattle_dealloc(p379);
-					if (!b419)
-						return n418;
-					n447 = n416;
-					n448 = n417;
+					if (load64u(p37 + 24) != 0)
+						rattle_dealloc(loadptru(p37 + 8));
+					if (load64u(p37 + 48) != 0)
+						rattle_dealloc(loadptru(p37 + 32));
+					if (load64u(p37 + 72) != 0)
+						rattle_dealloc(loadptru(p37 + 56));
+					byte *p434 = loadptru(p36 + 80);
+					uint64_t n435 = load64u(p36 + 96);
+					byte *p436 = loadptru(p36 + 208);
+					uint64_t n437 = load64u(p36 + 224);
+					byte *p438 = loadptru(p36 + 1328);
+					uint64_t n439 = load64u(p36 + 1344);
+					byte *p440 = loadptru(p36 + 1360);
+					uint64_t n441 = load64u(p36 + 1376);
+					if (load64u(p36 + 56) != 0)
+						rattle_dealloc(loadptru(p36 + 40));
+					if (n435 != 0)
+						rattle_dealloc(p434);
+					if (n437 != 0)
+						rattle_dealloc(p436);
+					if (n439 != 0)
+						rattle_dealloc(p438);
+					if (n441 != 0)
+						rattle_dealloc(p440);
+					if (load64u(p36 + 1400) != 0)
+						rattle_dealloc(loadptru(p36 + 1384));
+					if (load64u(p36 + 1424) != 0)
+						rattle_dealloc(loadptru(p36 + 1408));
+					if (load64u(p35 + 16) != 0)
+						rattle_dealloc(loadptru(p35));
+					rattle_dealloc(p374);
+					if (!b414)
+						return n413;
+					n442 = n411;
+					n443 = n412;
 					goto L37;
 				}
 			}
 L32:
 			{
-				if (load64u(p39 + 24) != 0)
-					rattle_dealloc(loadptru(p39 + 8));
-				if (load64u(p39 + 48) != 0)
-					rattle_dealloc(loadptru(p39 + 32));
-				if (load64u(p39 + 72) != 0)
-					rattle_dealloc(loadptru(p39 + 56));
-				byte *p449 = loadptru(p38 + 80);
-				uint64_t n450 = load64u(p38 + 96);
-				byte *p451 = loadptru(p38 + 208);
-				uint64_t n452 = load64u(p38 + 224);
-				byte *p453 = loadptru(p38 + 1328);
-				uint64_t n454 = load64u(p38 + 1344);
-				byte *p455 = loadptru(p38 + 1360);
-				uint64_t n456 = load64u(p38 + 1376);
-				if (load64u(p38 + 56) != 0)
-					rattle_dealloc(loadptru(p38 + 40));
-				if (n450 != 0)
-					rattle_dealloc(p449);
-				if (n452 != 0)
-					rattle_dealloc(p451);
-				if (n454 != 0)
-					rattle_dealloc(p453);
-				if (n456 != 0)
-					rattle_dealloc(p455);
-				if (load64u(p38 + 1400) != 0)
-					rattle_dealloc(loadptru(p38 + 1384));
-				if (load64u(p38 + 1424) != 0)
-					rattle_dealloc(loadptru(p38 + 1408));
-				if (load64u(p37 + 16) != 0)
-					rattle_dealloc(loadptru(p37));
-				rattle_dealloc(p379);
-				n377 = 1;
-				n378 = n384;
+				if (load64u(p37 + 24) != 0)
+					rattle_dealloc(loadptru(p37 + 8));
+				if (load64u(p37 + 48) != 0)
+					rattle_dealloc(loadptru(p37 + 32));
+				if (load64u(p37 + 72) != 0)
+					rattle_dealloc(loadptru(p37 + 56));
+				byte *p444 = loadptru(p36 + 80);
+				uint64_t n445 = load64u(p36 + 96);
+				byte *p446 = loadptru(p36 + 208);
+				uint64_t n447 = load64u(p36 + 224);
+				byte *p448 = loadptru(p36 + 1328);
+				uint64_t n449 = load64u(p36 + 1344);
+				byte *p450 = loadptru(p36 + 1360);
+				uint64_t n451 = load64u(p36 + 1376);
+				if (load64u(p36 + 56) != 0)
+					rattle_dealloc(loadptru(p36 + 40));
+				if (n445 != 0)
+					rattle_dealloc(p444);
+				if (n447 != 0)
+					rattle_dealloc(p446);
+				if (n449 != 0)
+					rattle_dealloc(p448);
+				if (n451 != 0)
+					rattle_dealloc(p450);
+				if (load64u(p36 + 1400) != 0)
+					rattle_dealloc(loadptru(p36 + 1384));
+				if (load64u(p36 + 1424) != 0)
+					rattle_dealloc(loadptru(p36 + 1408));
+				if (load64u(p35 + 16) != 0)
+					rattle_dealloc(loadptru(p35));
+				rattle_dealloc(p374);
+				n372 = 1;
+				n373 = n379;
 				goto L34;
 			}
 L31:
 			{
-				if (load64u(p39 + 24) != 0)
-					rattle_dealloc(loadptru(p39 + 8));
-				if (load64u(p39 + 48) != 0)
-					rattle_dealloc(loadptru(p39 + 32));
-				if (load64u(p39 + 72) != 0)
-					rattle_dealloc(loadptru(p39 + 56));
-				byte *p457 = loadptru(p38 + 80);
-				uint64_t n458 = load64u(p38 + 96);
-				byte *p459 = loadptru(p38 + 208);
-				uint64_t n460 = load64u(p38 + 224);
-				byte *p461 = loadptru(p38 + 1328);
-				uint64_t n462 = load64u(p38 + 1344);
-				byte *p463 = loadptru(p38 + 1360);
-				uint64_t n464 = load64u(p38 + 1376);
-				if (load64u(p38 + 56) != 0)
-					rattle_dealloc(loadptru(p38 + 40));
-				if (n458 != 0)
-					rattle_dealloc(p457);
-				if (n460 != 0)
-					rattle_dealloc(p459);
-				if (n462 != 0)
-					rattle_dealloc(p461);
-				if (n464 != 0)
-					rattle_dealloc(p463);
-				if (load64u(p38 + 1400) != 0)
-					rattle_dealloc(loadptru(p38 + 1384));
-				if (load64u(p38 + 1424) != 0)
-					rattle_dealloc(loadptru(p38 + 1408));
-				if (load64u(p37 + 16) != 0)
-					rattle_dealloc(loadptru(p37));
-				rattle_dealloc(p379);
-				n377 = n400;
-				n378 = 0;
+				if (load64u(p37 + 24) != 0)
+					rattle_dealloc(loadptru(p37 + 8));
+				if (load64u(p37 + 48) != 0)
+					rattle_dealloc(loadptru(p37 + 32));
+				if (load64u(p37 + 72) != 0)
+					rattle_dealloc(loadptru(p37 + 56));
+				byte *p452 = loadptru(p36 + 80);
+				uint64_t n453 = load64u(p36 + 96);
+				byte *p454 = loadptru(p36 + 208);
+				uint64_t n455 = load64u(p36 + 224);
+				byte *p456 = loadptru(p36 + 1328);
+				uint64_t n457 = load64u(p36 + 1344);
+				byte *p458 = loadptru(p36 + 1360);
+				uint64_t n459 = load64u(p36 + 1376);
+				if (load64u(p36 + 56) != 0)
+					rattle_dealloc(loadptru(p36 + 40));
+				if (n453 != 0)
+					rattle_dealloc(p452);
+				if (n455 != 0)
+					rattle_dealloc(p454);
+				if (n457 != 0)
+					rattle_dealloc(p456);
+				if (n459 != 0)
+					rattle_dealloc(p458);
+				if (load64u(p36 + 1400) != 0)
+					rattle_dealloc(loadptru(p36 + 1384));
+				if (load64u(p36 + 1424) != 0)
+					rattle_dealloc(loadptru(p36 + 1408));
+				if (load64u(p35 + 16) != 0)
+					rattle_dealloc(loadptru(p35));
+				rattle_dealloc(p374);
+				n372 = n395;
+				n373 = 0;
 				goto L34;
 			}
 L29:
 			{
-				tp_error_last_error(p30);
+				tp_error_last_error(p29);
 				store8(p3, 1);
-				if (load64u(p39 + 24) != 0)
-					rattle_dealloc(loadptru(p39 + 8));
-				if (load64u(p39 + 48) != 0)
-					rattle_dealloc(loadptru(p39 + 32));
-				if (load64u(p39 + 72) != 0)
-					rattle_dealloc(loadptru(p39 + 56));
-				byte *p465 = loadptru(p38 + 80);
-				uint64_t n466 = load64u(p38 + 96);
-				byte *p467 = loadptru(p38 + 208);
-				uint64_t n468 = load64u(p38 + 224);
-				byte *p469 = loadptru(p38 + 1328);
-				uint64_t n470 = load64u(p38 + 1344);
-				byte *p471 = loadptru(p38 + 1360);
-				uint64_t n472 = load64u(p38 + 1376);
-				if (load64u(p38 + 56) != 0)
-					rattle_dealloc(loadptru(p38 + 40));
-				if (n466 != 0)
-					rattle_dealloc(p465);
-				if (n468 != 0)
-					rattle_dealloc(p467);
-				if (n470 != 0)
-					rattle_dealloc(p469);
-				if (n472 != 0)
-					rattle_dealloc(p471);
-				if (load64u(p38 + 1400) != 0)
-					rattle_dealloc(loadptru(p38 + 1384));
-				if (load64u(p38 + 1424) != 0)
-					rattle_dealloc(loadptru(p38 + 1408));
-				if (load64u(p37 + 16) != 0)
-					rattle_dealloc(loadptru(p37));
-				rattle_dealloc(p379);
-				n377 = 0;
-				n378 = 0;
+				if (load64u(p37 + 24) != 0)
+					rattle_dealloc(loadptru(p37 + 8));
+				if (load64u(p37 + 48) != 0)
+					rattle_dealloc(loadptru(p37 + 32));
+				if (load64u(p37 + 72) != 0)
+					rattle_dealloc(loadptru(p37 + 56));
+				byte *p460 = loadptru(p36 + 80);
+				uint64_t n461 = load64u(p36 + 96);
+				byte *p462 = loadptru(p36 + 208);
+				uint64_t n463 = load64u(p36 + 224);
+				byte *p464 = loadptru(p36 + 1328);
+				uint64_t n465 = load64u(p36 + 1344);
+				byte *p466 = loadptru(p36 + 1360);
+				uint64_t n467 = load64u(p36 + 1376);
+				if (load64u(p36 + 56) != 0)
+					rattle_dealloc(loadptru(p36 + 40));
+				if (n461 != 0)
+					rattle_dealloc(p460);
+				if (n463 != 0)
+					rattle_dealloc(p462);
+				if (n465 != 0)
+					rattle_dealloc(p464);
+				if (n467 != 0)
+					rattle_dealloc(p466);
+				if (load64u(p36 + 1400) != 0)
+					rattle_dealloc(loadptru(p36 + 1384));
+				if (load64u(p36 + 1424) != 0)
+					rattle_dealloc(loadptru(p36 + 1408));
+				if (load64u(p35 + 16) != 0)
+					rattle_dealloc(loadptru(p35));
+				rattle_dealloc(p374);
+				n372 = 0;
+				n373 = 0;
 				goto L34;
 			}
 L28:
 			{
-				if (load64u(p39 + 24) != 0)
-					rattle_dealloc(loadptru(p39 + 8));
-				if (load64u(p39 + 48) != 0)
-					rattle_dealloc(loadptru(p39 + 32));
-				if (load64u(p39 + 72) != 0)
-					rattle_dealloc(loadptru(p39 + 56));
-				byte *p473 = loadptru(p38 + 80);
-				uint64_t n474 = load64u(p38 + 96);
-				byte *p475 = loadptru(p38 + 208);
-				uint64_t n476 = load64u(p38 + 224);
-				byte *p477 = loadptru(p38 + 1328);
-				uint64_t n478 = load64u(p38 + 1344);
-				byte *p479 = loadptru(p38 + 1360);
-				uint64_t n480 = load64u(p38 + 1376);
-				if (load64u(p38 + 56) != 0)
-					rattle_dealloc(loadptru(p38 + 40));
-				if (n474 != 0)
-					rattle_dealloc(p473);
-				if (n476 != 0)
-					rattle_dealloc(p475);
-				if (n478 != 0)
-					rattle_dealloc(p477);
-				if (n480 != 0)
-					rattle_dealloc(p479);
-				if (load64u(p38 + 1400) != 0)
-					rattle_dealloc(loadptru(p38 + 1384));
-				if (load64u(p38 + 1424) != 0)
-					rattle_dealloc(loadptru(p38 + 1408));
-				if (load64u(p37 + 16) != 0)
-					rattle_dealloc(loadptru(p37));
-				rattle_dealloc(p379);
-				n377 = 4;
-				n378 = 0;
+				if (load64u(p37 + 24) != 0)
+					rattle_dealloc(loadptru(p37 + 8));
+				if (load64u(p37 + 48) != 0)
+					rattle_dealloc(loadptru(p37 + 32));
+				if (load64u(p37 + 72) != 0)
+					rattle_dealloc(loadptru(p37 + 56));
+				byte *p468 = loadptru(p36 + 80);
+				uint64_t n469 = load64u(p36 + 96);
+				byte *p470 = loadptru(p36 + 208);
+				uint64_t n471 = load64u(p36 + 224);
+				byte *p472 = loadptru(p36 + 1328);
+				uint64_t n473 = load64u(p36 + 1344);
+				byte *p474 = loadptru(p36 + 1360);
+				uint64_t n475 = load64u(p36 + 1376);
+				if (load64u(p36 + 56) != 0)
+					rattle_dealloc(loadptru(p36 + 40));
+				if (n469 != 0)
+					rattle_dealloc(p468);
+				if (n471 != 0)
+					rattle_dealloc(p470);
+				if (n473 != 0)
+					rattle_dealloc(p472);
+				if (n475 != 0)
+					rattle_dealloc(p474);
+				if (load64u(p36 + 1400) != 0)
+					rattle_dealloc(loadptru(p36 + 1384));
+				if (load64u(p36 + 1424) != 0)
+					rattle_dealloc(loadptru(p36 + 1408));
+				if (load64u(p35 + 16) != 0)
+					rattle_dealloc(loadptru(p35));
+				rattle_dealloc(p374);
+				n372 = 4;
+				n373 = 0;
 			}
 		}
 L34:
 		{
-			n447 = n378;
-			n448 = n377;
+			n442 = n373;
+			n443 = n372;
 		}
 L37:
 		{
-			tp_timer_commands_error_report_report_2(n448, n447, p4);
+			tp_timer_commands_error_report_report_2(n443, n442, p4);
 			return 1;
 		}
 	}
 	case 2: {
-		uint8_t n482, n619;
-		uint64_t n483, n618;
-		memcpy(p15, p2, 16);
-		memcpy(p16, p2 + 24, 16);
-		memcpy(p17, p2 + 64, 16);
-		memcpy(p18, p2 + 104, 104);
-		memcpy(p19, p2 + 232, 40);
-		memcpy(p20, p2 + 272, 1056);
-		memset(p21, 0, 24);
-		memset(p22, 0, 1432);
-		memset(p23, 0, 96);
-		memset(p24, 0, 24);
-		of_i64_i64 s481 = rattle_alloc(16384, 1);
-		if ((s481.f0 & 1) == 0) {
-			if (n84 != 0)
-				rattle_dealloc(p82);
-			if (n87 != 0)
-				rattle_dealloc(p85);
-			if (n90 != 0)
-				rattle_dealloc(p88);
-			if (n93 == 0) {
-				n482 = 2;
-				n483 = 0;
+		uint8_t n477, n614;
+		uint64_t n478, n613;
+		memcpy(p15, p2, 40);
+		memcpy(p16, p2 + 64, 16);
+		memcpy(p17, p2 + 104, 104);
+		memcpy(p18, p2 + 232, 40);
+		memcpy(p19, p2 + 272, 1056);
+		memset(p20, 0, 24);
+		memset(p21, 0, 1432);
+		memset(p22, 0, 96);
+		memset(p23, 0, 24);
+		of_i64_i64 s476 = rattle_alloc(16384, 1);
+		if ((s476.f0 & 1) == 0) {
+			if (n79 != 0)
+				rattle_dealloc(p77);
+			if (n82 != 0)
+				rattle_dealloc(p80);
+			if (n85 != 0)
+				rattle_dealloc(p83);
+			if (n88 == 0) {
+				n477 = 2;
+				n478 = 0;
 			} else {
-				rattle_dealloc(p91);
-				n482 = 2;
-				n483 = 0;
+				rattle_dealloc(p86);
+				n477 = 2;
+				n478 = 0;
 			}
 		} else {
-			uint64_t n489, n547, n548, n566, n568, n570, n572;
-			uint8_t n563;
-			byte *p565, *p567, *p569, *p571;
-			byte *p484 = (byte *)(uintptr_t)s481.f1;
-			uint64_t n485 = 0;
-			while (n485 != 16383) {
-				store8(inside(p484, n485), 0);
-				n485 = n485 + 1;
+			uint64_t n484, n542, n543, n561, n563, n565, n567;
+			uint8_t n558;
+			byte *p560, *p562, *p564, *p566;
+			byte *p479 = (byte *)(uintptr_t)s476.f1;
+			uint64_t n480 = 0;
+			while (n480 != 16383) {
+				store8(inside(p479, n480), 0);
+				n480 = n480 + 1;
 			}
-			store8(p484 + 16383, 0);
-			storeptru(p21, p5);
-			memset(p21 + 8, 0, 16);
-			memcpy(p22, p15, 16);
-			store64u(p22 + 16, n81);
-			memcpy(p22 + 24, p16, 16);
-			storeptru(p22 + 40, p82);
-			store64u(p22 + 48, n83);
-			store64u(p22 + 56, n84);
-			memcpy(p22 + 64, p17, 16);
-			storeptru(p22 + 80, p85);
-			store64u(p22 + 88, n86);
-			store64u(p22 + 96, n87);
-			memcpy(p22 + 104, p18, 104);
-			storeptru(p22 + 208, p88);
-			store64u(p22 + 216, n89);
-			store64u(p22 + 224, n90);
-			memcpy(p22 + 232, p19, 40);
-			memcpy(p22 + 272, p20, 1056);
-			storeptru(p22 + 1328, p91);
-			store64u(p22 + 1336, n92);
-			store64u(p22 + 1344, n93);
-			store64u(p22 + 1352, n94);
-			storeptru(p22 + 1360, p5);
-			memset(p22 + 1368, 0, 16);
-			storeptru(p22 + 1384, p5);
-			memset(p22 + 1392, 0, 16);
-			storeptru(p22 + 1408, p5);
-			memset(p22 + 1416, 0, 16);
-			store64(p23, 0);
-			storeptru(p23 + 8, p5);
-			memset(p23 + 16, 0, 16);
-			storeptru(p23 + 32, p5);
-			memset(p23 + 40, 0, 16);
-			storeptru(p23 + 56, p5);
-			memset(p23 + 64, 0, 16);
-			store64u(p23 + 80, 1);
-			store8(p23 + 88, 1);
-			memset(p23 + 89, 0, 7);
-			uint64_t n486 = 0;
+			store8(p479 + 16383, 0);
+			storeptru(p20, p5);
+			memset(p20 + 8, 0, 16);
+			memcpy(p21, p15, 40);
+			storeptru(p21 + 40, p77);
+			store64u(p21 + 48, n78);
+			store64u(p21 + 56, n79);
+			memcpy(p21 + 64, p16, 16);
+			storeptru(p21 + 80, p80);
+			store64u(p21 + 88, n81);
+			store64u(p21 + 96, n82);
+			memcpy(p21 + 104, p17, 104);
+			storeptru(p21 + 208, p83);
+			store64u(p21 + 216, n84);
+			store64u(p21 + 224, n85);
+			memcpy(p21 + 232, p18, 40);
+			memcpy(p21 + 272, p19, 1056);
+			storeptru(p21 + 1328, p86);
+			store64u(p21 + 1336, n87);
+			store64u(p21 + 1344, n88);
+			store64u(p21 + 1352, n89);
+			storeptru(p21 + 1360, p5);
+			memset(p21 + 1368, 0, 16);
+			storeptru(p21 + 1384, p5);
+			memset(p21 + 1392, 0, 16);
+			storeptru(p21 + 1408, p5);
+			memset(p21 + 1416, 0, 16);
+			store64(p22, 0);
+			storeptru(p22 + 8, p5);
+			memset(p22 + 16, 0, 16);
+			storeptru(p22 + 32, p5);
+			memset(p22 + 40, 0, 16);
+			storeptru(p22 + 56, p5);
+			memset(p22 + 64, 0, 16);
+			store64u(p22 + 80, 1);
+			store8(p22 + 88, 1);
+			memset(p22 + 89, 0, 7);
+			uint64_t n481 = 0;
 			for (;;) {
-				if (n486 == UINT64_MAX)
+				if (n481 == UINT64_MAX)
 					goto L38;
-				uint64_t n487 = os_read(0, p484, 16384);
-				if ((int64_t)n487 < (int64_t)0)
+				uint64_t n482 = os_read(0, p479, 16384);
+				if ((int64_t)n482 < (int64_t)0)
 					goto L39;
-				tp_Cutter_take_in(p24, p23, p484, umin64(n487, 16384), p4);
-				if (load8(p24) != 0)
+				tp_Cutter_take_in(p23, p22, p479, umin64(n482, 16384), p4);
+				if (load8(p23) != 0)
 					break;
-				uint8_t n488 = load8(p24 + 8);
-				n489 = load64u(p24 + 16);
-				byte *p490 = loadptr(p23 + 8);
-				uint64_t n491 = load64(p23 + 16);
-				if (load64(p21 + 8) != 0)
-					store64(p21 + 8, 0);
-				uint64_t n492 = 0;
-				while (n492 != n491) {
-					byte *p493 = at(p490, n492 * 48);
-					uint8_t n494 = load8(p493);
-					uint64_t n495 = load64u(p493 + 8);
-					uint64_t n496 = load64(p22 + 288);
-					uint64_t n497 = load64u(p493 + 16);
-					uint64_t n498 = load64u(p493 + 24);
-					uint64_t n499 = load64u(p493 + 32);
-					uint64_t n500 = load64u(p493 + 40);
-					store64u(p13, (uint64_t)n494);
-					store64(p13 + 8, n495);
-					store64(p13 + 16, n497);
-					store64(p13 + 24, n498);
-					store64(p13 + 32, n499);
-					store64(p13 + 40, n500);
-					if ((n71 & 1) != 0) {
-						uint64_t n501;
-						switch (n494) {
+				uint8_t n483 = load8(p23 + 8);
+				n484 = load64u(p23 + 16);
+				byte *p485 = loadptr(p22 + 8);
+				uint64_t n486 = load64(p22 + 16);
+				if (load64(p20 + 8) != 0)
+					store64(p20 + 8, 0);
+				uint64_t n487 = 0;
+				while (n487 != n486) {
+					byte *p488 = at(p485, n487 * 48);
+					uint8_t n489 = load8(p488);
+					uint64_t n490 = load64u(p488 + 8);
+					uint64_t n491 = load64(p21 + 288);
+					uint64_t n492 = load64u(p488 + 16);
+					uint64_t n493 = load64u(p488 + 24);
+					uint64_t n494 = load64u(p488 + 32);
+					uint64_t n495 = load64u(p488 + 40);
+					store64u(p13, (uint64_t)n489);
+					store64(p13 + 8, n490);
+					store64(p13 + 16, n492);
+					store64(p13 + 24, n493);
+					store64(p13 + 32, n494);
+					store64(p13 + 40, n495);
+					if ((n67 & 1) != 0) {
+						uint64_t n496;
+						switch (n489) {
 						case 3: {
-							n501 = n495;
+							n496 = n490;
 							break;
 						}
 						case 0:
@@ -68144,668 +68119,668 @@ L37:
 							UNREACHABLE();
 						}
 						}
-						while (n501 != 0) {
-							uint64_t n504, n507, n511, n512;
-							uint8_t n510;
-							uint64_t n502 = load64(p22 + 16);
-							of_i8_i64 s503 = tp_Facility_quiet_until(p22);
-							if (s503.f0 == 1) {
-								if ((s503.f1 > load64(p22 + 8)) || ((load8(p22 + 1320) & 1) != 0)) {
-									n504 = n501;
+						while (n496 != 0) {
+							uint64_t n499, n502, n506, n507;
+							uint8_t n505;
+							uint64_t n497 = load64(p21 + 16);
+							of_i8_i64 s498 = tp_Facility_quiet_until(p21);
+							if (s498.f0 == 1) {
+								if ((s498.f1 > load64(p21 + 8)) || ((load8(p21 + 1320) & 1) != 0)) {
+									n499 = n496;
 								} else {
-									n504 = umin64(s503.f1 - n502, n501);
+									n499 = umin64(s498.f1 - n497, n496);
 								}
 							} else {
-								n504 = n501;
+								n499 = n496;
 							}
 							memset(p12 + 16, 0, 32);
-							uint64_t n505 = load64(p22 + 104);
-							uint64_t n506 = 0;
+							uint64_t n500 = load64(p21 + 104);
+							uint64_t n501 = 0;
 							for (;;) {
-								if (n506 == n505) {
-									n507 = n505;
+								if (n501 == n500) {
+									n502 = n500;
 									break;
 								}
-								if (n506 != (uint64_t)load32(at(loadptr(p22 + 80), n506 << 3) + 4)) {
-									n507 = n506;
+								if (n501 != (uint64_t)load32(at(loadptr(p21 + 80), n501 << 3) + 4)) {
+									n502 = n501;
 									break;
 								}
-								n506 = n506 + 1;
+								n501 = n501 + 1;
 							}
 							store64u(p12, 3);
-							store64(p12 + 8, n504);
-							uint8_t n508 = tp_session_Session_play_one(p22, p12, p21);
-							if ((n508 & 1) != 0)
+							store64(p12 + 8, n499);
+							uint8_t n503 = tp_session_Session_play_one(p21, p12, p20);
+							if ((n503 & 1) != 0)
 								goto L41;
-							uint64_t n509 = load64(p22 + 16);
-							if (n77 == 1) {
-								if (n78 > n509)
+							uint64_t n504 = load64(p21 + 16);
+							if (n73 == 1) {
+								if (n74 > n504)
 									goto L42;
 							}
-							if (n79 == 1) {
-								if (n509 > n80)
+							if (n75 == 1) {
+								if (n504 > n76)
 									goto L42;
 							}
-							switch (MOSTLY_0(load8(p22))) {
+							switch (MOSTLY_0(load8(p21))) {
 							case 0: {
-								n510 = 1;
+								n505 = 1;
 								break;
 							}
 							case 1: {
-								n510 = 4;
+								n505 = 4;
 								break;
 							}
 							case 2: {
-								n510 = 2;
+								n505 = 2;
 								break;
 							}
 							default: {
 								UNREACHABLE();
 							}
 							}
-							n511 = umin64(load64(p22 + 104), n507);
-							n512 = 0;
-							while (n512 != n511) {
-								byte *p513 = loadptr(p22 + 80);
-								uint64_t n514 = load64(p22 + 104);
-								uint64_t n515 = (uint64_t)load32(at(p513, n512 << 3));
-								uint64_t n516 = load64(p22 + 64);
-								uint8_t n517 = 0;
-								uint64_t n518 = 0;
-								uint64_t n519 = n515;
-								uint64_t n520 = usub_sat64(n515, n514);
-								uint64_t n521 = 0;
-								while (n521 != n516) {
-									uint8_t n524;
-									uint64_t n525;
-									if (n514 > n519)
+							n506 = umin64(load64(p21 + 104), n502);
+							n507 = 0;
+							while (n507 != n506) {
+								byte *p508 = loadptr(p21 + 80);
+								uint64_t n509 = load64(p21 + 104);
+								uint64_t n510 = (uint64_t)load32(at(p508, n507 << 3));
+								uint64_t n511 = load64(p21 + 64);
+								uint8_t n512 = 0;
+								uint64_t n513 = 0;
+								uint64_t n514 = n510;
+								uint64_t n515 = usub_sat64(n510, n509);
+								uint64_t n516 = 0;
+								while (n516 != n511) {
+									uint8_t n519;
+									uint64_t n520;
+									if (n509 > n514)
 										break;
-									byte *p522 = at(loadptr(p22 + 40), n520 * 48);
-									if (n520 >= load64(p22 + 48))
+									byte *p517 = at(loadptr(p21 + 40), n515 * 48);
+									if (n515 >= load64(p21 + 48))
 										break;
-									if (load8(p522) != 1)
+									if (load8(p517) != 1)
 										break;
-									uint64_t n523 = load64u(p522 + 8);
-									if (n73 == 1) {
-										if (n74 != load64u(p522 + 16)) {
-											n524 = n517;
-											n525 = n518;
+									uint64_t n518 = load64u(p517 + 8);
+									if (n69 == 1) {
+										if (n70 != load64u(p517 + 16)) {
+											n519 = n512;
+											n520 = n513;
 											goto L43;
 										}
 									}
-									if (n75 == 1) {
-										if (n76 != n523) {
-											n524 = n517;
-											n525 = n518;
+									if (n71 == 1) {
+										if (n72 != n518) {
+											n519 = n512;
+											n520 = n513;
 											goto L43;
 										}
 									}
-									n524 = 1;
-									n525 = n520;
+									n519 = 1;
+									n520 = n515;
 L43:
 									{
-										uint64_t n526 = (uint64_t)load32(at(p513, (n514 + n520) << 3));
-										n517 = n524;
-										n518 = n525;
-										n519 = n526;
-										n520 = usub_sat64(n526, n514);
-										n521 = n521 + 1;
+										uint64_t n521 = (uint64_t)load32(at(p508, (n509 + n515) << 3));
+										n512 = n519;
+										n513 = n520;
+										n514 = n521;
+										n515 = usub_sat64(n521, n509);
+										n516 = n516 + 1;
 									}
 								}
-								if (n517 == 1) {
-									uint64_t n531, n532, n535;
-									uint8_t n527 = tp_render_push_number(p21, (byte *)tp_static_293, 11, load64(p22 + 16));
-									if ((n527 & 1) != 0)
+								if (n512 == 1) {
+									uint64_t n526, n527, n530;
+									uint8_t n522 = tp_render_push_number(p20, (byte *)tp_static_293, 11, load64(p21 + 16));
+									if ((n522 & 1) != 0)
 										goto L41;
-									store8(p11, n73);
+									store8(p11, n69);
 									store56u(p11 + 1, 0);
-									store64(p11 + 8, n74);
-									store8(p11 + 16, n75);
+									store64(p11 + 8, n70);
+									store8(p11 + 16, n71);
 									store56u(p11 + 17, 0);
-									store64(p11 + 24, n76);
+									store64(p11 + 24, n72);
 									store64(p11 + 32, 0);
-									uint64_t n528 = load64(p21 + 16);
-									uint64_t n529 = load64(p21 + 8);
-									if ((n528 - n529) < 5) {
-										bool b530 = tp_std_alloc_vec_Vec_grow_amortized_6(p21, 5);
-										if (!b530)
+									uint64_t n523 = load64(p20 + 16);
+									uint64_t n524 = load64(p20 + 8);
+									if ((n523 - n524) < 5) {
+										bool b525 = tp_std_alloc_vec_Vec_grow_amortized_6(p20, 5);
+										if (!b525)
 											goto L44;
-										n531 = load64(p21 + 16);
-										n532 = load64(p21 + 8);
+										n526 = load64(p20 + 16);
+										n527 = load64(p20 + 8);
 									} else {
-										n531 = n528;
-										n532 = n529;
+										n526 = n523;
+										n527 = n524;
 									}
-									byte *p533 = loadptr(p21);
-									byte *p534 = at(p533, n532);
-									if (((uint64_t)(uintptr_t)p534 - (uint64_t)(uintptr_t)(byte *)tp_static_294) >= 5) {
-										memcpy(p534, (byte *)tp_static_294, 5);
+									byte *p528 = loadptr(p20);
+									byte *p529 = at(p528, n527);
+									if (((uint64_t)(uintptr_t)p529 - (uint64_t)(uintptr_t)(byte *)tp_static_294) >= 5) {
+										memcpy(p529, (byte *)tp_static_294, 5);
 										goto L45;
 									}
-									n535 = 0;
-									while (n535 != 5) {
-										store8(inside(p534, n535), load8(inside((byte *)tp_static_294, n535)));
-										n535 = n535 + 1;
+									n530 = 0;
+									while (n530 != 5) {
+										store8(inside(p529, n530), load8(inside((byte *)tp_static_294, n530)));
+										n530 = n530 + 1;
 									}
 L45:
 									{
-										uint64_t n540, n541, n544;
-										storeptr(p21, p533);
-										store64(p21 + 8, n532 + 5);
-										store64(p21 + 16, n531);
-										uint8_t n536 = tp_render_push_name(p21, n507, n510);
-										if ((n536 & 1) != 0)
+										uint64_t n535, n536, n539;
+										storeptr(p20, p528);
+										store64(p20 + 8, n527 + 5);
+										store64(p20 + 16, n526);
+										uint8_t n531 = tp_render_push_name(p20, n502, n505);
+										if ((n531 & 1) != 0)
 											goto L44;
-										uint64_t n537 = load64(p21 + 16);
-										uint64_t n538 = load64(p21 + 8);
-										if ((n537 - n538) < 3) {
-											bool b539 = tp_std_alloc_vec_Vec_grow_amortized_6(p21, 3);
-											if (!b539)
+										uint64_t n532 = load64(p20 + 16);
+										uint64_t n533 = load64(p20 + 8);
+										if ((n532 - n533) < 3) {
+											bool b534 = tp_std_alloc_vec_Vec_grow_amortized_6(p20, 3);
+											if (!b534)
 												goto L44;
-											n540 = load64(p21 + 16);
-											n541 = load64(p21 + 8);
+											n535 = load64(p20 + 16);
+											n536 = load64(p20 + 8);
 										} else {
-											n540 = n537;
-											n541 = n538;
+											n535 = n532;
+											n536 = n533;
 										}
-										byte *p542 = loadptr(p21);
-										byte *p543 = at(p542, n541);
-										if (((uint64_t)(uintptr_t)p543 - (uint64_t)(uintptr_t)(byte *)tp_static_295) >= 3) {
-											memcpy(p543, (byte *)tp_static_295, 3);
+										byte *p537 = loadptr(p20);
+										byte *p538 = at(p537, n536);
+										if (((uint64_t)(uintptr_t)p538 - (uint64_t)(uintptr_t)(byte *)tp_static_295) >= 3) {
+											memcpy(p538, (byte *)tp_static_295, 3);
 											goto L46;
 										}
-										n544 = 0;
-										while (n544 != 3) {
-											store8(inside(p543, n544), load8(inside((byte *)tp_static_295, n544)));
-											n544 = n544 + 1;
+										n539 = 0;
+										while (n539 != 3) {
+											store8(inside(p538, n539), load8(inside((byte *)tp_static_295, n539)));
+											n539 = n539 + 1;
 										}
 L46:
 										{
-											storeptr(p21, p542);
-											store64(p21 + 8, n541 + 3);
-											store64(p21 + 16, n540);
-											uint8_t n545 = tp_render_push_list(p21, p22 + 40, n512, n518, n510, p11);
-											if ((n545 & 1) != 0)
+											storeptr(p20, p537);
+											store64(p20 + 8, n536 + 3);
+											store64(p20 + 16, n535);
+											uint8_t n540 = tp_render_push_list(p20, p21 + 40, n507, n513, n505, p11);
+											if ((n540 & 1) != 0)
 												goto L41;
 										}
 									}
 								}
-								n512 = n512 + 1;
+								n507 = n507 + 1;
 							}
 L42:
 							{
-								n501 = n501 - n504;
+								n496 = n496 - n499;
 							}
 						}
 						goto L47;
 					}
 L40:
 					{
-						uint8_t n546 = tp_session_Session_play_one(p22, p13, p21);
-						if ((n546 & 1) != 0) {
-							n547 = load64(p21 + 8);
+						uint8_t n541 = tp_session_Session_play_one(p21, p13, p20);
+						if ((n541 & 1) != 0) {
+							n542 = load64(p20 + 8);
 							goto L48;
 						}
 					}
 L47:
 					{
-						uint64_t n550, n553, n555;
-						bool b551;
-						uint8_t n552, n557, n558;
-						n548 = load64(p21 + 8);
-						uint64_t n549 = load64(p22 + 16);
-						if (n77 == 1) {
-							if (n78 > n549) {
-								n550 = n548;
+						uint64_t n545, n548, n550;
+						bool b546;
+						uint8_t n547, n552, n553;
+						n543 = load64(p20 + 8);
+						uint64_t n544 = load64(p21 + 16);
+						if (n73 == 1) {
+							if (n74 > n544) {
+								n545 = n543;
 								goto L49;
 							}
 						}
-						if (n79 == 1) {
-							if (n549 > n80) {
-								n550 = n548;
+						if (n75 == 1) {
+							if (n544 > n76) {
+								n545 = n543;
 								goto L49;
 							}
 						}
-						b551 = (n70 & 1) != 0;
-						store64(p10, (uint64_t)n73);
-						store64(p10 + 8, n74);
-						store64(p10 + 16, (uint64_t)n75);
-						store64(p10 + 24, n76);
-						store64(p10 + 32, ((n72 & 1) != 0) ? n496 : 0);
-						n552 = tp_render_push_number(p21, (byte *)tp_static_283, 6, n549);
-						if ((n552 & 1) != 0)
+						b546 = (n66 & 1) != 0;
+						store64(p10, (uint64_t)n69);
+						store64(p10 + 8, n70);
+						store64(p10 + 16, (uint64_t)n71);
+						store64(p10 + 24, n72);
+						store64(p10 + 32, ((n68 & 1) != 0) ? n491 : 0);
+						n547 = tp_render_push_number(p20, (byte *)tp_static_283, 6, n544);
+						if ((n547 & 1) != 0)
 							goto L50;
-						n553 = load64(p21 + 8);
-						if (load64(p21 + 16) == n553) {
-							bool b554 = tp_std_alloc_vec_Vec_grow_amortized_6(p21, 1);
-							if (!b554)
+						n548 = load64(p20 + 8);
+						if (load64(p20 + 16) == n548) {
+							bool b549 = tp_std_alloc_vec_Vec_grow_amortized_6(p20, 1);
+							if (!b549)
 								goto L50;
-							n555 = load64(p21 + 8);
+							n550 = load64(p20 + 8);
 						} else {
-							n555 = n553;
+							n550 = n548;
 						}
-						store8(inside(loadptr(p21), n555), 10);
-						store64(p21 + 8, n555 + 1);
-						if (b551) {
-							uint8_t n556 = tp_render_push_work(p21, load64(p22 + 248), load64(p22 + 256), load64(p22 + 16) - load64(p22 + 264));
-							if ((n556 & 1) != 0)
+						store8(inside(loadptr(p20), n550), 10);
+						store64(p20 + 8, n550 + 1);
+						if (b546) {
+							uint8_t n551 = tp_render_push_work(p20, load64(p21 + 248), load64(p21 + 256), load64(p21 + 16) - load64(p21 + 264));
+							if ((n551 & 1) != 0)
 								goto L50;
 						}
-						switch (MOSTLY_0(load8(p22))) {
+						switch (MOSTLY_0(load8(p21))) {
 						case 0: {
-							n557 = 1;
+							n552 = 1;
 							break;
 						}
 						case 1: {
-							n557 = 4;
+							n552 = 4;
 							break;
 						}
 						case 2: {
-							n557 = 2;
+							n552 = 2;
 							break;
 						}
 						default: {
 							UNREACHABLE();
 						}
 						}
-						n558 = tp_render_push_lists(p21, p22 + 40, n557, p10);
-						if ((n558 & 1) != 0)
+						n553 = tp_render_push_lists(p20, p21 + 40, n552, p10);
+						if ((n553 & 1) != 0)
 							goto L51;
-						n550 = load64(p21 + 8);
+						n545 = load64(p20 + 8);
 L49:
 						{
-							byte *p559 = loadptr(p21);
-							uint64_t n560 = 0;
-							while (n560 < n550) {
-								uint64_t n561 = n550 - n560;
-								uint64_t n562 = os_write(1, at(p559, n560), n561);
-								if ((int64_t)n562 < (int64_t)0) {
+							byte *p554 = loadptr(p20);
+							uint64_t n555 = 0;
+							while (n555 < n545) {
+								uint64_t n556 = n545 - n555;
+								uint64_t n557 = os_write(1, at(p554, n555), n556);
+								if ((int64_t)n557 < (int64_t)0) {
 									tp_error_last_error(p8);
 									store8(p3 + 1, 1);
-									n563 = 3;
+									n558 = 3;
 									goto L52;
 								}
-								uint64_t n564 = umin64(n562, n561);
-								if (n564 == 0) {
+								uint64_t n559 = umin64(n557, n556);
+								if (n559 == 0) {
 									store8(p3 + 1, 1);
-									n563 = 3;
+									n558 = 3;
 									goto L52;
 								}
-								n560 = n560 + n564;
+								n555 = n555 + n559;
 							}
-							if (load64(p21 + 8) != 0)
-								store64(p21 + 8, 0);
-							n492 = n492 + 1;
+							if (load64(p20 + 8) != 0)
+								store64(p20 + 8, 0);
+							n487 = n487 + 1;
 						}
 					}
 				}
-				if (n488 == 1)
+				if (n483 == 1)
 					goto L53;
-				if (n487 == 0)
+				if (n482 == 0)
 					goto L54;
-				n486 = n486 + 1;
+				n481 = n481 + 1;
 			}
-			if (load64u(p23 + 24) != 0)
-				rattle_dealloc(loadptru(p23 + 8));
-			if (load64u(p23 + 48) != 0)
-				rattle_dealloc(loadptru(p23 + 32));
-			if (load64u(p23 + 72) != 0)
-				rattle_dealloc(loadptru(p23 + 56));
-			p565 = loadptru(p22 + 80);
-			n566 = load64u(p22 + 96);
-			p567 = loadptru(p22 + 208);
-			n568 = load64u(p22 + 224);
-			p569 = loadptru(p22 + 1328);
-			n570 = load64u(p22 + 1344);
-			p571 = loadptru(p22 + 1360);
-			n572 = load64u(p22 + 1376);
-			if (load64u(p22 + 56) != 0)
-				rattle_dealloc(loadptru(p22 + 40));
-			if (n566 != 0)
-				rattle_dealloc(p565);
-			if (n568 != 0)
-				rattle_dealloc(p567);
-			if (n570 != 0)
-				rattle_dealloc(p569);
-			if (n572 != 0)
-				rattle_dealloc(p571);
-			if (load64u(p22 + 1400) != 0)
-				rattle_dealloc(loadptru(p22 + 1384));
-			if (load64u(p22 + 1424) != 0)
-				rattle_dealloc(loadptru(p22 + 1408));
-			if (load64u(p21 + 16) != 0)
-				rattle_dealloc(loadptru(p21));
-			rattle_dealloc(p484);
-			n482 = 2;
-			n483 = 0;
+			if (load64u(p22 + 24) != 0)
+				rattle_dealloc(loadptru(p22 + 8));
+			if (load64u(p22 + 48) != 0)
+				rattle_dealloc(loadptru(p22 + 32));
+			if (load64u(p22 + 72) != 0)
+				rattle_dealloc(loadptru(p22 + 56));
+			p560 = loadptru(p21 + 80);
+			n561 = load64u(p21 + 96);
+			p562 = loadptru(p21 + 208);
+			n563 = load64u(p21 + 224);
+			p564 = loadptru(p21 + 1328);
+			n565 = load64u(p21 + 1344);
+			p566 = loadptru(p21 + 1360);
+			n567 = load64u(p21 + 1376);
+			if (load64u(p21 + 56) != 0)
+				rattle_dealloc(loadptru(p21 + 40));
+			if (n561 != 0)
+				rattle_dealloc(p560);
+			if (n563 != 0)
+				rattle_dealloc(p562);
+			if (n565 != 0)
+				rattle_dealloc(p564);
+			if (n567 != 0)
+				rattle_dealloc(p566);
+			if (load64u(p21 + 1400) != 0)
+				rattle_dealloc(loadptru(p21 + 1384));
+			if (load64u(p21 + 1424) != 0)
+				rattle_dealloc(loadptru(p21 + 1408));
+			if (load64u(p20 + 16) != 0)
+				rattle_dealloc(loadptru(p20));
+			rattle_dealloc(p479);
+			n477 = 2;
+			n478 = 0;
 			goto L55;
 L44: ;
 L41:
 			{
-				if (load64(p21 + 8) != 0)
-					store64(p21 + 8, 0);
-				n547 = 0;
+				if (load64(p20 + 8) != 0)
+					store64(p20 + 8, 0);
+				n542 = 0;
 				goto L48;
 			}
 L50: ;
 L51:
 			{
-				uint64_t n573 = load64(p21 + 8);
-				if (n573 > n548) {
-					store64(p21 + 8, n548);
-					n547 = n548;
+				uint64_t n568 = load64(p20 + 8);
+				if (n568 > n543) {
+					store64(p20 + 8, n543);
+					n542 = n543;
 				} else {
-					n547 = n573;
+					n542 = n568;
 				}
 			}
 L48:
 			{
-				byte *p574 = loadptr(p21);
-				uint64_t n575 = 0;
+				byte *p569 = loadptr(p20);
+				uint64_t n570 = 0;
 				for (;;) {
-					if (n575 >= n547) {
-						n563 = 2;
+					if (n570 >= n542) {
+						n558 = 2;
 						break;
 					}
-					uint64_t n576 = n547 - n575;
-					uint64_t n577 = os_write(1, at(p574, n575), n576);
-					if ((int64_t)n577 < (int64_t)0) {
+					uint64_t n571 = n542 - n570;
+					uint64_t n572 = os_write(1, at(p569, n570), n571);
+					if ((int64_t)n572 < (int64_t)0) {
 						tp_error_last_error(p9);
 						store8(p3 + 1, 1);
-						n563 = 3;
+						n558 = 3;
 						break;
 					}
-					uint64_t n578 = umin64(n577, n576);
-					if (n578 == 0) {
+					uint64_t n573 = umin64(n572, n571);
+					if (n573 == 0) {
 						store8(p3 + 1, 1);
-						n563 = 3;
+						n558 = 3;
 						break;
 					}
-					n575 = n575 + n578;
+					n570 = n570 + n573;
 				}
 			}
 L52:
 			{
-				if (load64u(p23 + 24) != 0)
-					rattle_dealloc(loadptru(p23 + 8));
-				if (load64u(p23 + 48) != 0)
-					rattle_dealloc(loadptru(p23 + 32));
-				if (load64u(p23 + 72) != 0)
-					rattle_dealloc(loadptru(p23 + 56));
-				byte *p579 = loadptru(p22 + 80);
-				uint64_t n580 = load64u(p22 + 96);
-				byte *p581 = loadptru(p22 + 208);
-				uint64_t n582 = load64u(p22 + 224);
-				byte *p583 = loadptru(p22 + 1328);
-				uint64_t n584 = load64u(p22 + 1344);
-				byte *p585 = loadptru(p22 + 1360);
-				uint64_t n586 = load64u(p22 + 1376);
-				if (load64u(p22 + 56) != 0)
-					rattle_dealloc(loadptru(p22 + 40));
-				if (n580 != 0)
-					rattle_dealloc(p579);
-				if (n582 != 0)
-					rattle_dealloc(p581);
-				if (n584 != 0)
-					rattle_dealloc(p583);
-				if (n586 != 0)
-					rattle_dealloc(p585);
-				if (load64u(p22 + 1400) != 0)
-					rattle_dealloc(loadptru(p22 + 1384));
-				if (load64u(p22 + 1424) != 0)
-					rattle_dealloc(loadptru(p22 + 1408));
-				if (load64u(p21 + 16) != 0)
-					rattle_dealloc(loadptru(p21));
-				rattle_dealloc(p484);
-				n482 = n563;
-				n483 = 0;
+				if (load64u(p22 + 24) != 0)
+					rattle_dealloc(loadptru(p22 + 8));
+				if (load64u(p22 + 48) != 0)
+					rattle_dealloc(loadptru(p22 + 32));
+				if (load64u(p22 + 72) != 0)
+					rattle_dealloc(loadptru(p22 + 56));
+				byte *p574 = loadptru(p21 + 80);
+				uint64_t n575 = load64u(p21 + 96);
+				byte *p576 = loadptru(p21 + 208);
+				uint64_t n577 = load64u(p21 + 224);
+				byte *p578 = loadptru(p21 + 1328);
+				uint64_t n579 = load64u(p21 + 1344);
+				byte *p580 = loadptru(p21 + 1360);
+				uint64_t n581 = load64u(p21 + 1376);
+				if (load64u(p21 + 56) != 0)
+					rattle_dealloc(loadptru(p21 + 40));
+				if (n575 != 0)
+					rattle_dealloc(p574);
+				if (n577 != 0)
+					rattle_dealloc(p576);
+				if (n579 != 0)
+					rattle_dealloc(p578);
+				if (n581 != 0)
+					rattle_dealloc(p580);
+				if (load64u(p21 + 1400) != 0)
+					rattle_dealloc(loadptru(p21 + 1384));
+				if (load64u(p21 + 1424) != 0)
+					rattle_dealloc(loadptru(p21 + 1408));
+				if (load64u(p20 + 16) != 0)
+					rattle_dealloc(loadptru(p20));
+				rattle_dealloc(p479);
+				n477 = n558;
+				n478 = 0;
 				goto L55;
 			}
 L54:
 			{
-				uint64_t n587;
-				uint8_t n588, n589;
-				bool b590;
+				uint64_t n582;
+				uint8_t n583, n584;
+				bool b585;
 				memset(p7, 0, 24);
-				tp_Cutter_end(p7, p23, p4);
+				tp_Cutter_end(p7, p22, p4);
 				if (load8(p7) == 0) {
 					if (load8(p7 + 8) == 1) {
-						n587 = load64u(p7 + 16);
-						n588 = 1;
-						n589 = 1;
-						b590 = true;
+						n582 = load64u(p7 + 16);
+						n583 = 1;
+						n584 = 1;
+						b585 = true;
 					} else {
-						uint64_t n601;
-						if (load64(p21 + 8) != 0)
-							store64(p21 + 8, 0);
-						uint64_t n591 = load64(p22 + 16);
-						uint64_t n592 = load64(p22 + 64);
-						uint64_t n593 = load64(p22 + 32);
-						byte *p594 = loadptr(p22 + 80);
-						uint64_t n595 = (uint64_t)load32(at(p594, n593 << 3) + 4);
-						bool b596 = n593 != n595;
-						uint64_t n597 = load64(p22 + 104);
-						uint64_t n598 = b596 ? (n595 - n597) : 0;
-						uint64_t n599 = 0;
-						bool b600 = b596;
+						uint64_t n596;
+						if (load64(p20 + 8) != 0)
+							store64(p20 + 8, 0);
+						uint64_t n586 = load64(p21 + 16);
+						uint64_t n587 = load64(p21 + 64);
+						uint64_t n588 = load64(p21 + 32);
+						byte *p589 = loadptr(p21 + 80);
+						uint64_t n590 = (uint64_t)load32(at(p589, n588 << 3) + 4);
+						bool b591 = n588 != n590;
+						uint64_t n592 = load64(p21 + 104);
+						uint64_t n593 = b591 ? (n590 - n592) : 0;
+						uint64_t n594 = 0;
+						bool b595 = b591;
 						for (;;) {
-							if (n599 == n592) {
-								n601 = n592;
+							if (n594 == n587) {
+								n596 = n587;
 								break;
 							}
-							if (!b600) {
-								n601 = n599;
+							if (!b595) {
+								n596 = n594;
 								break;
 							}
-							uint64_t n602 = (uint64_t)load32(at(p594, (n597 + n598) << 3) + 4);
-							n598 = usub_sat64(n602, n597);
-							n599 = n599 + 1;
-							b600 = n597 <= n602;
+							uint64_t n597 = (uint64_t)load32(at(p589, (n592 + n593) << 3) + 4);
+							n593 = usub_sat64(n597, n592);
+							n594 = n594 + 1;
+							b595 = n592 <= n597;
 						}
-						uint8_t n603 = tp_text_push_end(p21, n591, n592 - n601);
-						if ((n603 & 1) != 0) {
-							n587 = 0;
-							n588 = 2;
-							n589 = 1;
-							b590 = true;
+						uint8_t n598 = tp_text_push_end(p20, n586, n587 - n596);
+						if ((n598 & 1) != 0) {
+							n582 = 0;
+							n583 = 2;
+							n584 = 1;
+							b585 = true;
 						} else {
-							byte *p604 = loadptr(p21);
-							uint64_t n605 = load64(p21 + 8);
-							uint64_t n606 = 0;
-							while (n606 < n605) {
-								uint64_t n607 = n605 - n606;
-								uint64_t n608 = os_write(1, at(p604, n606), n607);
-								if ((int64_t)n608 < (int64_t)0) {
+							byte *p599 = loadptr(p20);
+							uint64_t n600 = load64(p20 + 8);
+							uint64_t n601 = 0;
+							while (n601 < n600) {
+								uint64_t n602 = n600 - n601;
+								uint64_t n603 = os_write(1, at(p599, n601), n602);
+								if ((int64_t)n603 < (int64_t)0) {
 									tp_error_last_error(p6);
 									goto L56;
 								}
-								uint64_t n609 = umin64(n608, n607);
-								if (n609 == 0)
+								uint64_t n604 = umin64(n603, n602);
+								if (n604 == 0)
 									goto L56;
-								n606 = n606 + n609;
+								n601 = n601 + n604;
 							}
-							n587 = 0;
-							n588 = 0;
-							n589 = (uint8_t)(load8(p23 + 88) ^ 1);
-							b590 = false;
+							n582 = 0;
+							n583 = 0;
+							n584 = (uint8_t)(load8(p22 + 88) ^ 1);
+							b585 = false;
 							goto L57;
 L56:
 							{
 								store8(p3 + 1, 1);
-								n587 = 0;
-								n588 = 3;
-								n589 = 1;
-								b590 = true;
+								n582 = 0;
+								n583 = 3;
+								n584 = 1;
+								b585 = true;
 							}
 						}
 					}
 				} else {
-					n587 = 0;
-					n588 = 2;
-					n589 = 1;
-					b590 = true;
+					n582 = 0;
+					n583 = 2;
+					n584 = 1;
+					b585 = true;
 				}
 L57:
 				{
-					if (load64u(p23 + 24) != 0)
-						rattle_dealloc(loadptru(p23 + 8));
-					if (load64u(p23 + 48) != 0)
-						rattle_dealloc(loadptru(p23 + 32));
-					if (load64u(p23 + 72) != 0)
-						rattle_dealloc(loadptru(p23 + 56));
-					byte *p610 = loadptru(p22 + 80);
-					uint64_t n611 = load64u(p22 + 96);
-					byte *p612 = loadptru(p22 + 208);
-					uint64_t n613 = load64u(p22 + 224);
-					byte *p614 = loadptru(p22 + 1328);
-					uint64_t n615 = load64u(p22 + 1344);
-					byte *p616 = loadptru(p22 + 1360);
-					uint64_t n617 = load64u(p22 + 1376);
-					if (load64u(p22 + 56) != 0)
-						rattle_dealloc(loadptru(p22 + 40));
-					if (n611 != 0)
-						rattle_dealloc(p610);
-					if (n613 != 0)
-						rattle_dealloc(p612);
-					if (n615 != 0)
-						rattle_dealloc(p614);
-					if (n617 != 0)
-						rattle_dealloc(p616);
-					if (load64u(p22 + 1400) != 0)
-						rattle_dealloc(loadptru(p22 + 1384));
-					if (load64u(p22 + 1424) != 0)
-						rattle_dealloc(loadptru(p22 + 1408));
-					if (load64u(p21 + 16) != 0)
-						rattle_dealloc(loadptru(p21));
-					rattle_dealloc(p484);
-					if (!b590)
-						return n589;
-					n618 = n587;
-					n619 = n588;
+					if (load64u(p22 + 24) != 0)
+						rattle_dealloc(loadptru(p22 + 8));
+					if (load64u(p22 + 48) != 0)
+						rattle_dealloc(loadptru(p22 + 32));
+					if (load64u(p22 + 72) != 0)
+						rattle_dealloc(loadptru(p22 + 56));
+					byte *p605 = loadptru(p21 + 80);
+					uint64_t n606 = load64u(p21 + 96);
+					byte *p607 = loadptru(p21 + 208);
+					uint64_t n608 = load64u(p21 + 224);
+					byte *p609 = loadptru(p21 + 1328);
+					uint64_t n610 = load64u(p21 + 1344);
+					byte *p611 = loadptru(p21 + 1360);
+					uint64_t n612 = load64u(p21 + 1376);
+					if (load64u(p21 + 56) != 0)
+						rattle_dealloc(loadptru(p21 + 40));
+					if (n606 != 0)
+						rattle_dealloc(p605);
+					if (n608 != 0)
+						rattle_dealloc(p607);
+					if (n610 != 0)
+						rattle_dealloc(p609);
+					if (n612 != 0)
+						rattle_dealloc(p611);
+					if (load64u(p21 + 1400) != 0)
+						rattle_dealloc(loadptru(p21 + 1384));
+					if (load64u(p21 + 1424) != 0)
+						rattle_dealloc(loadptru(p21 + 1408));
+					if (load64u(p20 + 16) != 0)
+						rattle_dealloc(loadptru(p20));
+					rattle_dealloc(p479);
+					if (!b585)
+						return n584;
+					n613 = n582;
+					n614 = n583;
 					goto L58;
 				}
 			}
 L53:
 			{
-				if (load64u(p23 + 24) != 0)
-					rattle_dealloc(loadptru(p23 + 8));
-				if (load64u(p23 + 48) != 0)
-					rattle_dealloc(loadptru(p23 + 32));
-				if (load64u(p23 + 72) != 0)
-					rattle_dealloc(loadptru(p23 + 56));
-				byte *p620 = loadptru(p22 + 80);
-				uint64_t n621 = load64u(p22 + 96);
-				byte *p622 = loadptru(p22 + 208);
-				uint64_t n623 = load64u(p22 + 224);
-				byte *p624 = loadptru(p22 + 1328);
-				uint64_t n625 = load64u(p22 + 1344);
-				byte *p626 = loadptru(p22 + 1360);
-				uint64_t n627 = load64u(p22 + 1376);
-				if (load64u(p22 + 56) != 0)
-					rattle_dealloc(loadptru(p22 + 40));
-				if (n621 != 0)
-					rattle_dealloc(p620);
-				if (n623 != 0)
-					rattle_dealloc(p622);
-				if (n625 != 0)
-					rattle_dealloc(p624);
-				if (n627 != 0)
-					rattle_dealloc(p626);
-				if (load64u(p22 + 1400) != 0)
-					rattle_dealloc(loadptru(p22 + 1384));
-				if (load64u(p22 + 1424) != 0)
-					rattle_dealloc(loadptru(p22 + 1408));
-				if (load64u(p21 + 16) != 0)
-					rattle_dealloc(loadptru(p21));
-				rattle_dealloc(p484);
-				n482 = 1;
-				n483 = n489;
+				if (load64u(p22 + 24) != 0)
+					rattle_dealloc(loadptru(p22 + 8));
+				if (load64u(p22 + 48) != 0)
+					rattle_dealloc(loadptru(p22 + 32));
+				if (load64u(p22 + 72) != 0)
+					rattle_dealloc(loadptru(p22 + 56));
+				byte *p615 = loadptru(p21 + 80);
+				uint64_t n616 = load64u(p21 + 96);
+				byte *p617 = loadptru(p21 + 208);
+				uint64_t n618 = load64u(p21 + 224);
+				byte *p619 = loadptru(p21 + 1328);
+				uint64_t n620 = load64u(p21 + 1344);
+				byte *p621 = loadptru(p21 + 1360);
+				uint64_t n622 = load64u(p21 + 1376);
+				if (load64u(p21 + 56) != 0)
+					rattle_dealloc(loadptru(p21 + 40));
+				if (n616 != 0)
+					rattle_dealloc(p615);
+				if (n618 != 0)
+					rattle_dealloc(p617);
+				if (n620 != 0)
+					rattle_dealloc(p619);
+				if (n622 != 0)
+					rattle_dealloc(p621);
+				if (load64u(p21 + 1400) != 0)
+					rattle_dealloc(loadptru(p21 + 1384));
+				if (load64u(p21 + 1424) != 0)
+					rattle_dealloc(loadptru(p21 + 1408));
+				if (load64u(p20 + 16) != 0)
+					rattle_dealloc(loadptru(p20));
+				rattle_dealloc(p479);
+				n477 = 1;
+				n478 = n484;
 				goto L55;
 			}
 L39:
 			{
 				tp_error_last_error(p14);
 				store8(p3, 1);
-				if (load64u(p23 + 24) != 0)
-					rattle_dealloc(loadptru(p23 + 8));
-				if (load64u(p23 + 48) != 0)
-					rattle_dealloc(loadptru(p23 + 32));
-				if (load64u(p23 + 72) != 0)
-					rattle_dealloc(loadptru(p23 + 56));
-				byte *p628 = loadptru(p22 + 80);
-				uint64_t n629 = load64u(p22 + 96);
-				byte *p630 = loadptru(p22 + 208);
-				uint64_t n631 = load64u(p22 + 224);
-				byte *p632 = loadptru(p22 + 1328);
-				uint64_t n633 = load64u(p22 + 1344);
-				byte *p634 = loadptru(p22 + 1360);
-				uint64_t n635 = load64u(p22 + 1376);
-				if (load64u(p22 + 56) != 0)
-					rattle_dealloc(loadptru(p22 + 40));
-				if (n629 != 0)
-					rattle_dealloc(p628);
-				if (n631 != 0)
-					rattle_dealloc(p630);
-				if (n633 != 0)
-					rattle_dealloc(p632);
-				if (n635 != 0)
-					rattle_dealloc(p634);
-				if (load64u(p22 + 1400) != 0)
-					rattle_dealloc(loadptru(p22 + 1384));
-				if (load64u(p22 + 1424) != 0)
-					rattle_dealloc(loadptru(p22 + 1408));
-				if (load64u(p21 + 16) != 0)
-					rattle_dealloc(loadptru(p21));
-				rattle_dealloc(p484);
-				n482 = 0;
-				n483 = 0;
+				if (load64u(p22 + 24) != 0)
+					rattle_dealloc(loadptru(p22 + 8));
+				if (load64u(p22 + 48) != 0)
+					rattle_dealloc(loadptru(p22 + 32));
+				if (load64u(p22 + 72) != 0)
+					rattle_dealloc(loadptru(p22 + 56));
+				byte *p623 = loadptru(p21 + 80);
+				uint64_t n624 = load64u(p21 + 96);
+				byte *p625 = loadptru(p21 + 208);
+				uint64_t n626 = load64u(p21 + 224);
+				byte *p627 = loadptru(p21 + 1328);
+				uint64_t n628 = load64u(p21 + 1344);
+				byte *p629 = loadptru(p21 + 1360);
+				uint64_t n630 = load64u(p21 + 1376);
+				if (load64u(p21 + 56) != 0)
+					rattle_dealloc(loadptru(p21 + 40));
+				if (n624 != 0)
+					rattle_dealloc(p623);
+				if (n626 != 0)
+					rattle_dealloc(p625);
+				if (n628 != 0)
+					rattle_dealloc(p627);
+				if (n630 != 0)
+					rattle_dealloc(p629);
+				if (load64u(p21 + 1400) != 0)
+					rattle_dealloc(loadptru(p21 + 1384));
+				if (load64u(p21 + 1424) != 0)
+					rattle_dealloc(loadptru(p21 + 1408));
+				if (load64u(p20 + 16) != 0)
+					rattle_dealloc(loadptru(p20));
+				rattle_dealloc(p479);
+				n477 = 0;
+				n478 = 0;
 				goto L55;
 			}
 L38:
 			{
-				if (load64u(p23 + 24) != 0)
-					rattle_dealloc(loadptru(p23 + 8));
-				if (load64u(p23 + 48) != 0)
-					rattle_dealloc(loadptru(p23 + 32));
-				if (load64u(p23 + 72) != 0)
-					rattle_dealloc(loadptru(p23 + 56));
-				byte *p636 = loadptru(p22 + 80);
-				uint64_t n637 = load64u(p22 + 96);
-				byte *p638 = loadptru(p22 + 208);
-				uint64_t n639 = load64u(p22 + 224);
-				byte *p640 = loadptru(p22 + 1328);
-				uint64_t n641 = load64u(p22 + 1344);
-				byte *p642 = loadptru(p22 + 1360);
-				uint64_t n643 = load64u(p22 + 1376);
-				if (load64u(p22 + 56) != 0)
-					rattle_dealloc(loadptru(p22 + 40));
-				if (n637 != 0)
-					rattle_dealloc(p636);
-				if (n639 != 0)
-					rattle_dealloc(p638);
-				if (n641 != 0)
-					rattle_dealloc(p640);
-				if (n643 != 0)
-					rattle_dealloc(p642);
-				if (load64u(p22 + 1400) != 0)
-					rattle_dealloc(loadptru(p22 + 1384));
-				if (load64u(p22 + 1424) != 0)
-					rattle_dealloc(loadptru(p22 + 1408));
-				if (load64u(p21 + 16) != 0)
-					rattle_dealloc(loadptru(p21));
-				rattle_dealloc(p484);
-				n482 = 4;
-				n483 = 0;
+				if (load64u(p22 + 24) != 0)
+					rattle_dealloc(loadptru(p22 + 8));
+				if (load64u(p22 + 48) != 0)
+					rattle_dealloc(loadptru(p22 + 32));
+				if (load64u(p22 + 72) != 0)
+					rattle_dealloc(loadptru(p22 + 56));
+				byte *p631 = loadptru(p21 + 80);
+				uint64_t n632 = load64u(p21 + 96);
+				byte *p633 = loadptru(p21 + 208);
+				uint64_t n634 = load64u(p21 + 224);
+				byte *p635 = loadptru(p21 + 1328);
+				uint64_t n636 = load64u(p21 + 1344);
+				byte *p637 = loadptru(p21 + 1360);
+				uint64_t n638 = load64u(p21 + 1376);
+				if (load64u(p21 + 56) != 0)
+					rattle_dealloc(loadptru(p21 + 40));
+				if (n632 != 0)
+					rattle_dealloc(p631);
+				if (n634 != 0)
+					rattle_dealloc(p633);
+				if (n636 != 0)
+					rattle_dealloc(p635);
+				if (n638 != 0)
+					rattle_dealloc(p637);
+				if (load64u(p21 + 1400) != 0)
+					rattle_dealloc(loadptru(p21 + 1384));
+				if (load64u(p21 + 1424) != 0)
+					rattle_dealloc(loadptru(p21 + 1408));
+				if (load64u(p20 + 16) != 0)
+					rattle_dealloc(loadptru(p20));
+				rattle_dealloc(p479);
+				n477 = 4;
+				n478 = 0;
 			}
 		}
 L55:
 		{
-			n618 = n483;
-			n619 = n482;
+			n613 = n478;
+			n614 = n477;
 		}
 L58:
 		{
-			tp_timer_commands_error_report_report_2(n619, n618, p4);
+			tp_timer_commands_error_report_report_2(n614, n613, p4);
 			return 1;
 		}
 	}
@@ -73070,417 +73045,409 @@ static uint8_t tp_verbs_do_verb(byte *p1, byte *p2, byte *p3, byte *p4)
 	ALIGN(8) byte p11[48];
 	ALIGN(8) byte p12[48];
 	ALIGN(8) byte p13[88];
-	ALIGN(8) byte p14[16];
+	ALIGN(8) byte p14[40];
 	ALIGN(8) byte p15[16];
-	ALIGN(8) byte p16[16];
-	ALIGN(8) byte p17[288];
-	ALIGN(8) byte p18[1056];
-	ALIGN(8) byte p19[24];
-	ALIGN(8) byte p20[1552];
-	ALIGN(8) byte p21[96];
-	ALIGN(8) byte p22[24];
-	ALIGN(8) byte p23[88];
-	ALIGN(8) byte p24[24];
+	ALIGN(8) byte p16[288];
+	ALIGN(8) byte p17[1056];
+	ALIGN(8) byte p18[24];
+	ALIGN(8) byte p19[1552];
+	ALIGN(8) byte p20[96];
+	ALIGN(8) byte p21[24];
+	ALIGN(8) byte p22[88];
+	ALIGN(8) byte p23[24];
+	ALIGN(8) byte p24[88];
 	ALIGN(8) byte p25[88];
-	ALIGN(8) byte p26[88];
-	ALIGN(8) byte p27[48];
-	ALIGN(8) byte p28[88];
+	ALIGN(8) byte p26[48];
+	ALIGN(8) byte p27[88];
+	ALIGN(8) byte p28[40];
 	ALIGN(8) byte p29[16];
-	ALIGN(8) byte p30[16];
-	ALIGN(8) byte p31[16];
-	ALIGN(8) byte p32[288];
-	ALIGN(8) byte p33[1056];
-	ALIGN(8) byte p34[24];
-	ALIGN(8) byte p35[1552];
-	ALIGN(8) byte p36[96];
+	ALIGN(8) byte p30[288];
+	ALIGN(8) byte p31[1056];
+	ALIGN(8) byte p32[24];
+	ALIGN(8) byte p33[1552];
+	ALIGN(8) byte p34[96];
+	ALIGN(8) byte p35[24];
+	ALIGN(8) byte p36[88];
 	ALIGN(8) byte p37[24];
 	ALIGN(8) byte p38[88];
-	ALIGN(8) byte p39[24];
-	ALIGN(8) byte p40[88];
+	ALIGN(8) byte p39[88];
+	ALIGN(8) byte p40[48];
 	ALIGN(8) byte p41[88];
-	ALIGN(8) byte p42[48];
-	ALIGN(8) byte p43[88];
-	ALIGN(8) byte p44[16];
-	ALIGN(8) byte p45[16];
-	ALIGN(8) byte p46[16];
-	ALIGN(8) byte p47[288];
-	ALIGN(8) byte p48[1056];
+	ALIGN(8) byte p42[40];
+	ALIGN(8) byte p43[16];
+	ALIGN(8) byte p44[288];
+	ALIGN(8) byte p45[1056];
+	ALIGN(8) byte p46[24];
+	ALIGN(8) byte p47[1552];
+	ALIGN(8) byte p48[96];
 	ALIGN(8) byte p49[24];
-	ALIGN(8) byte p50[1552];
-	ALIGN(8) byte p51[96];
+	ALIGN(8) byte p50[88];
+	ALIGN(8) byte p51[72];
 	ALIGN(8) byte p52[24];
-	ALIGN(8) byte p53[88];
-	ALIGN(8) byte p54[72];
-	ALIGN(8) byte p55[24];
-	ALIGN(8) byte p56[1504];
-	ALIGN(8) byte p57[24];
-	ALIGN(8) byte p58[16];
-	ALIGN(8) byte p59[16];
-	ALIGN(8) byte p60[16];
-	ALIGN(8) byte p61[288];
-	ALIGN(8) byte p62[1056];
-	ALIGN(8) byte p63[32];
-	uint8_t n64 = load8(p1 + 1);
-	uint8_t n65 = load8(p1 + 8);
-	uint8_t n66 = load8(p1 + 9);
-	uint8_t n67 = load8(p1 + 10);
-	uint8_t n68 = load8(p1 + 16);
-	uint64_t n69 = load64u(p1 + 24);
-	uint8_t n70 = load8(p1 + 32);
-	uint64_t n71 = load64u(p1 + 40);
-	uint8_t n72 = load8(p1 + 48);
-	uint64_t n73 = load64u(p1 + 56);
-	uint8_t n74 = load8(p1 + 64);
-	uint64_t n75 = load64u(p1 + 72);
-	uint64_t n76 = load64u(p2 + 16);
-	byte *p77 = loadptru(p2 + 40);
-	uint64_t n78 = load64u(p2 + 48);
-	uint64_t n79 = load64u(p2 + 56);
-	byte *p80 = loadptru(p2 + 80);
-	uint64_t n81 = load64u(p2 + 88);
-	uint64_t n82 = load64u(p2 + 96);
-	byte *p83 = loadptru(p2 + 1448);
-	uint64_t n84 = load64u(p2 + 1456);
-	uint64_t n85 = load64u(p2 + 1464);
-	uint64_t n86 = load64u(p2 + 1472);
+	ALIGN(8) byte p53[1504];
+	ALIGN(8) byte p54[24];
+	ALIGN(8) byte p55[40];
+	ALIGN(8) byte p56[16];
+	ALIGN(8) byte p57[288];
+	ALIGN(8) byte p58[1056];
+	ALIGN(8) byte p59[32];
+	uint8_t n60 = load8(p1 + 1);
+	uint8_t n61 = load8(p1 + 8);
+	uint8_t n62 = load8(p1 + 9);
+	uint8_t n63 = load8(p1 + 10);
+	uint8_t n64 = load8(p1 + 16);
+	uint64_t n65 = load64u(p1 + 24);
+	uint8_t n66 = load8(p1 + 32);
+	uint64_t n67 = load64u(p1 + 40);
+	uint8_t n68 = load8(p1 + 48);
+	uint64_t n69 = load64u(p1 + 56);
+	uint8_t n70 = load8(p1 + 64);
+	uint64_t n71 = load64u(p1 + 72);
+	byte *p72 = loadptru(p2 + 40);
+	uint64_t n73 = load64u(p2 + 48);
+	uint64_t n74 = load64u(p2 + 56);
+	byte *p75 = loadptru(p2 + 80);
+	uint64_t n76 = load64u(p2 + 88);
+	uint64_t n77 = load64u(p2 + 96);
+	byte *p78 = loadptru(p2 + 1448);
+	uint64_t n79 = load64u(p2 + 1456);
+	uint64_t n80 = load64u(p2 + 1464);
+	uint64_t n81 = load64u(p2 + 1472);
 	switch (MOSTLY_0(load8(p1))) {
 	case 0: {
-		uint8_t n248;
-		uint64_t n249;
-		memcpy(p58, p2, 16);
-		memcpy(p59, p2 + 24, 16);
-		memcpy(p60, p2 + 64, 16);
-		memcpy(p61, p2 + 104, 288);
-		memcpy(p62, p2 + 392, 1056);
-		memset(p63, 0, 32);
-		tp_input_read_script(p63, p3);
-		if (load8(p63) == 0) {
-			byte *p91;
-			uint8_t n217;
-			uint64_t n218;
-			byte *p87 = loadptru(p63 + 8);
-			uint64_t n88 = load64u(p63 + 16);
-			bool b89 = load64u(p63 + 24) == 0;
-			memset(p57, 0, 24);
-			memcpy(p56, p58, 16);
-			store64u(p56 + 16, n76);
-			memcpy(p56 + 24, p59, 16);
-			storeptr(p56 + 40, p77);
-			store64(p56 + 48, n78);
-			store64(p56 + 56, n79);
-			memcpy(p56 + 64, p60, 16);
-			storeptr(p56 + 80, p80);
-			store64(p56 + 88, n81);
-			store64(p56 + 96, n82);
-			memcpy(p56 + 104, p61, 288);
-			memcpy(p56 + 392, p62, 1056);
-			storeptr(p56 + 1448, p83);
-			store64(p56 + 1456, n84);
-			store64(p56 + 1464, n85);
-			store64(p56 + 1472, n86);
-			storeptru(p56 + 1480, p5);
-			memset(p56 + 1488, 0, 16);
-			uint64_t n90 = (n88 > UINT64_C(4611686018427387903)) ? UINT64_MAX : (n88 << 2);
-			if (n90 != 0) {
-				uint64_t n92, n94, n96;
-				byte *p93, *p95;
-				if ((int64_t)n90 < (int64_t)0) {
-					n92 = n85;
-					p93 = p83;
-					n94 = n82;
-					p95 = p80;
-					n96 = n79;
+		uint8_t n243;
+		uint64_t n244;
+		memcpy(p55, p2, 40);
+		memcpy(p56, p2 + 64, 16);
+		memcpy(p57, p2 + 104, 288);
+		memcpy(p58, p2 + 392, 1056);
+		memset(p59, 0, 32);
+		tp_input_read_script(p59, p3);
+		if (load8(p59) == 0) {
+			byte *p86;
+			uint8_t n212;
+			uint64_t n213;
+			byte *p82 = loadptru(p59 + 8);
+			uint64_t n83 = load64u(p59 + 16);
+			bool b84 = load64u(p59 + 24) == 0;
+			memset(p54, 0, 24);
+			memcpy(p53, p55, 40);
+			storeptr(p53 + 40, p72);
+			store64(p53 + 48, n73);
+			store64(p53 + 56, n74);
+			memcpy(p53 + 64, p56, 16);
+			storeptr(p53 + 80, p75);
+			store64(p53 + 88, n76);
+			store64(p53 + 96, n77);
+			memcpy(p53 + 104, p57, 288);
+			memcpy(p53 + 392, p58, 1056);
+			storeptr(p53 + 1448, p78);
+			store64(p53 + 1456, n79);
+			store64(p53 + 1464, n80);
+			store64(p53 + 1472, n81);
+			storeptru(p53 + 1480, p5);
+			memset(p53 + 1488, 0, 16);
+			uint64_t n85 = (n83 > UINT64_C(4611686018427387903)) ? UINT64_MAX : (n83 << 2);
+			if (n85 != 0) {
+				uint64_t n87, n89, n91;
+				byte *p88, *p90;
+				if ((int64_t)n85 < (int64_t)0) {
+					n87 = n80;
+					p88 = p78;
+					n89 = n77;
+					p90 = p75;
+					n91 = n74;
 				} else {
-					of_i64_i64 s97 = rattle_alloc(n90, 1);
-					if ((s97.f0 & 1) != 0) {
-						p91 = (byte *)(uintptr_t)s97.f1;
+					of_i64_i64 s92 = rattle_alloc(n85, 1);
+					if ((s92.f0 & 1) != 0) {
+						p86 = (byte *)(uintptr_t)s92.f1;
 						goto L1;
 					}
-					n92 = load64u(p56 + 1464);
-					p93 = loadptru(p56 + 1448);
-					n94 = load64u(p56 + 96);
-					p95 = loadptru(p56 + 80);
-					n96 = load64u(p56 + 56);
+					n87 = load64u(p53 + 1464);
+					p88 = loadptru(p53 + 1448);
+					n89 = load64u(p53 + 96);
+					p90 = loadptru(p53 + 80);
+					n91 = load64u(p53 + 56);
 				}
-				if (n96 != 0)
-					rattle_dealloc(loadptru(p56 + 40));
-				if (n94 != 0)
-					rattle_dealloc(p95);
-				if (n92 != 0)
-					rattle_dealloc(p93);
-				if (load64u(p56 + 1496) == 0)
+				if (n91 != 0)
+					rattle_dealloc(loadptru(p53 + 40));
+				if (n89 != 0)
+					rattle_dealloc(p90);
+				if (n87 != 0)
+					rattle_dealloc(p88);
+				if (load64u(p53 + 1496) == 0)
 					goto L2;
-				rattle_dealloc(loadptru(p56 + 1480));
+				rattle_dealloc(loadptru(p53 + 1480));
 				goto L2;
 			}
-			p91 = p5;
+			p86 = p5;
 L1:
 			{
-				bool b210;
-				uint64_t n211;
-				storeptru(p57, p91);
-				store64u(p57 + 8, 0);
-				store64u(p57 + 16, n90);
-				memset(p55 + 8, 0, 16);
-				storeptru(p55, p5);
-				uint64_t n98 = 0;
-				byte *p99 = p87;
-				uint64_t n100 = n88;
+				bool b205;
+				uint64_t n206;
+				storeptru(p54, p86);
+				store64u(p54 + 8, 0);
+				store64u(p54 + 16, n85);
+				memset(p52 + 8, 0, 16);
+				storeptru(p52, p5);
+				uint64_t n93 = 0;
+				byte *p94 = p82;
+				uint64_t n95 = n83;
 				for (;;) {
-					byte *p139, *p157, *p164, *p170, *p176, *p177, *p203;
-					uint64_t n140, n141, n142, n143, n144, n158, n159, n160, n161, n162, n165, n166, n167, n168, n171, n172, n173, n174, n178, n179, n180, n181, n204;
-					uint8_t n205;
-					if (n100 == 0)
+					byte *p134, *p152, *p159, *p165, *p171, *p172, *p198;
+					uint64_t n135, n136, n137, n138, n139, n153, n154, n155, n156, n157, n160, n161, n162, n163, n166, n167, n168, n169, n173, n174, n175, n176, n199;
+					uint8_t n200;
+					if (n95 == 0)
 						goto L3;
-					if (n100 < 6) {
-						if (n100 != 5)
+					if (n95 < 6) {
+						if (n95 != 5)
 							goto L4;
-						uint32_t n101 = ((((uint32_t)load8(p99 + 3) << 24) | ((uint32_t)load8(p99 + 2) << 16)) | ((uint32_t)load8(p99 + 1) << 8)) | (uint32_t)load8(p99);
-						if (n101 != 1886352499)
+						uint32_t n96 = ((((uint32_t)load8(p94 + 3) << 24) | ((uint32_t)load8(p94 + 2) << 16)) | ((uint32_t)load8(p94 + 1) << 8)) | (uint32_t)load8(p94);
+						if (n96 != 1886352499)
 							goto L5;
-						uint64_t n102 = 0;
-						bool b103 = false;
-						while (n102 != 1) {
-							n102 = 1;
-							b103 = (int)b103 | (int)(32 != load8(p99 + 4));
+						uint64_t n97 = 0;
+						bool b98 = false;
+						while (n97 != 1) {
+							n97 = 1;
+							b98 = (int)b98 | (int)(32 != load8(p94 + 4));
 						}
-						uint64_t n104 = 0;
-						bool b105 = false;
-						while (n104 != 1) {
-							n104 = 1;
-							b105 = (int)b105 | (int)(32 != load8(p99 + 4));
+						uint64_t n99 = 0;
+						bool b100 = false;
+						while (n99 != 1) {
+							n99 = 1;
+							b100 = (int)b100 | (int)(32 != load8(p94 + 4));
 						}
-						uint64_t n106 = 0;
-						bool b107 = false;
-						while (n106 != 1) {
-							n106 = 1;
-							b107 = (int)b107 | (int)(32 != load8(p99 + 4));
+						uint64_t n101 = 0;
+						bool b102 = false;
+						while (n101 != 1) {
+							n101 = 1;
+							b102 = (int)b102 | (int)(32 != load8(p94 + 4));
 						}
-						if ((int)((int)b103 | (int)b105) | (int)b107)
+						if ((int)((int)b98 | (int)b100) | (int)b102)
 							goto L5;
 					} else {
-						uint32_t n108 = ((((uint32_t)load8(p99 + 3) << 24) | ((uint32_t)load8(p99 + 2) << 16)) | ((uint32_t)load8(p99 + 1) << 8)) | (uint32_t)load8(p99);
-						switch (n108) {
+						uint32_t n103 = ((((uint32_t)load8(p94 + 3) << 24) | ((uint32_t)load8(p94 + 2) << 16)) | ((uint32_t)load8(p94 + 1) << 8)) | (uint32_t)load8(p94);
+						switch (n103) {
 						case 1918989427: {
-							uint64_t n118, n124, n130, n136;
-							uint64_t n109 = 0;
-							bool b110 = false;
-							while (n109 != 1) {
-								n109 = 1;
-								b110 = (int)b110 | (int)(116 != load8(p99 + 4));
+							uint64_t n113, n119, n125, n131;
+							uint64_t n104 = 0;
+							bool b105 = false;
+							while (n104 != 1) {
+								n104 = 1;
+								b105 = (int)b105 | (int)(116 != load8(p94 + 4));
 							}
-							uint64_t n111 = 0;
-							bool b112 = false;
-							while (n111 != 1) {
-								n111 = 1;
-								b112 = (int)b112 | (int)(32 != load8(p99 + 5));
+							uint64_t n106 = 0;
+							bool b107 = false;
+							while (n106 != 1) {
+								n106 = 1;
+								b107 = (int)b107 | (int)(32 != load8(p94 + 5));
 							}
-							uint64_t n113 = 0;
-							bool b114 = false;
-							while (n113 != 1) {
-								n113 = 1;
-								b114 = (int)b114 | (int)(32 != load8(p99 + 5));
+							uint64_t n108 = 0;
+							bool b109 = false;
+							while (n108 != 1) {
+								n108 = 1;
+								b109 = (int)b109 | (int)(32 != load8(p94 + 5));
 							}
-							if ((int)((int)b110 | (int)b112) | (int)b114)
+							if ((int)((int)b105 | (int)b107) | (int)b109)
 								goto L5;
-							uint64_t n115 = n100 - 6;
-							uint64_t n116 = 0;
+							uint64_t n110 = n95 - 6;
+							uint64_t n111 = 0;
+							uint64_t n112 = 0;
+							for (;;) {
+								if (n111 == n110) {
+									n113 = n110;
+									break;
+								}
+								uint8_t n114 = load8(at(p94 + 6, n111));
+								if ((uint8_t)(n114 - 48) >= 10) {
+									n113 = n111;
+									break;
+								}
+								n111 = n111 + 1;
+								n112 = (n112 * 10) + (uint64_t)(uint8_t)(n114 & 15);
+							}
+							switch (n113) {
+							case 0: {
+								goto L6;
+							}
+							case 1: {
+								if (n112 > UINT64_C(1152921504606846975))
+									goto L6;
+								break;
+							}
+							default: {
+								if (((int)(load8(p94 + 6) == 48) | (int)(n113 > 19)) || (n112 > UINT64_C(1152921504606846975)))
+									goto L6;
+								break;
+							}
+							}
+							byte *p115 = at(p94 + 6, n113);
+							if (n110 == n113)
+								goto L6;
+							if (load8(p115) != 32)
+								goto L6;
+							uint64_t n116 = n110 + (n113 ^ UINT64_MAX);
 							uint64_t n117 = 0;
+							uint64_t n118 = 0;
 							for (;;) {
-								if (n116 == n115) {
-									n118 = n115;
+								if (n117 == n116) {
+									n119 = n116;
 									break;
 								}
-								uint8_t n119 = load8(at(p99 + 6, n116));
-								if ((uint8_t)(n119 - 48) >= 10) {
-									n118 = n116;
+								uint8_t n120 = load8(at(p115 + 1, n117));
+								if ((uint8_t)(n120 - 48) >= 10) {
+									n119 = n117;
 									break;
 								}
-								n116 = n116 + 1;
-								n117 = (n117 * 10) + (uint64_t)(uint8_t)(n119 & 15);
+								n117 = n117 + 1;
+								n118 = (n118 * 10) + (uint64_t)(uint8_t)(n120 & 15);
 							}
-							switch (n118) {
+							switch (n119) {
 							case 0: {
 								goto L6;
 							}
 							case 1: {
-								if (n117 > UINT64_C(1152921504606846975))
+								if (n118 > UINT64_C(1152921504606846975))
 									goto L6;
 								break;
 							}
 							default: {
-								if (((int)(load8(p99 + 6) == 48) | (int)(n118 > 19)) || (n117 > UINT64_C(1152921504606846975)))
+								if (((int)(load8(p115 + 1) == 48) | (int)(n119 > 19)) || (n118 > UINT64_C(1152921504606846975)))
 									goto L6;
 								break;
 							}
 							}
-							byte *p120 = at(p99 + 6, n118);
-							if (n115 == n118)
+							byte *p121 = at(p115 + 1, n119);
+							if (n116 == n119)
 								goto L6;
-							if (load8(p120) != 32)
+							if (load8(p121) != 32)
 								goto L6;
-							uint64_t n121 = n115 + (n118 ^ UINT64_MAX);
-							uint64_t n122 = 0;
+							uint64_t n122 = n116 + (n119 ^ UINT64_MAX);
 							uint64_t n123 = 0;
+							uint64_t n124 = 0;
 							for (;;) {
-								if (n122 == n121) {
-									n124 = n121;
+								if (n123 == n122) {
+									n125 = n122;
 									break;
 								}
-								uint8_t n125 = load8(at(p120 + 1, n122));
-								if ((uint8_t)(n125 - 48) >= 10) {
-									n124 = n122;
+								uint8_t n126 = load8(at(p121 + 1, n123));
+								if ((uint8_t)(n126 - 48) >= 10) {
+									n125 = n123;
 									break;
 								}
-								n122 = n122 + 1;
-								n123 = (n123 * 10) + (uint64_t)(uint8_t)(n125 & 15);
+								n123 = n123 + 1;
+								n124 = (n124 * 10) + (uint64_t)(uint8_t)(n126 & 15);
 							}
-							switch (n124) {
+							switch (n125) {
 							case 0: {
 								goto L6;
 							}
 							case 1: {
-								if (n123 > UINT64_C(1152921504606846975))
+								if (n124 > UINT64_C(1152921504606846975))
 									goto L6;
 								break;
 							}
 							default: {
-								if (((int)(load8(p120 + 1) == 48) | (int)(n124 > 19)) || (n123 > UINT64_C(1152921504606846975)))
+								if (((int)(load8(p121 + 1) == 48) | (int)(n125 > 19)) || (n124 > UINT64_C(1152921504606846975)))
 									goto L6;
 								break;
 							}
 							}
-							byte *p126 = at(p120 + 1, n124);
-							if (n121 == n124)
+							byte *p127 = at(p121 + 1, n125);
+							if (n122 == n125)
 								goto L6;
-							if (load8(p126) != 32)
+							if (load8(p127) != 32)
 								goto L6;
-							uint64_t n127 = n121 + (n124 ^ UINT64_MAX);
-							uint64_t n128 = 0;
+							uint64_t n128 = n122 + (n125 ^ UINT64_MAX);
 							uint64_t n129 = 0;
+							uint64_t n130 = 0;
 							for (;;) {
-								if (n128 == n127) {
-									n130 = n127;
+								if (n129 == n128) {
+									n131 = n128;
 									break;
 								}
-								uint8_t n131 = load8(at(p126 + 1, n128));
-								if ((uint8_t)(n131 - 48) >= 10) {
-									n130 = n128;
+								uint8_t n132 = load8(at(p127 + 1, n129));
+								if ((uint8_t)(n132 - 48) >= 10) {
+									n131 = n129;
 									break;
 								}
-								n128 = n128 + 1;
-								n129 = (n129 * 10) + (uint64_t)(uint8_t)(n131 & 15);
+								n129 = n129 + 1;
+								n130 = (n130 * 10) + (uint64_t)(uint8_t)(n132 & 15);
 							}
-							switch (n130) {
+							switch (n131) {
 							case 0: {
 								goto L6;
 							}
 							case 1: {
-								if (n129 > UINT64_C(1152921504606846975))
+								if (n130 > UINT64_C(1152921504606846975))
 									goto L6;
 								break;
 							}
 							default: {
-								if (((int)(load8(p126 + 1) == 48) | (int)(n130 > 19)) || (n129 > UINT64_C(1152921504606846975)))
+								if (((int)(load8(p127 + 1) == 48) | (int)(n131 > 19)) || (n130 > UINT64_C(1152921504606846975)))
 									goto L6;
 								break;
 							}
 							}
-							byte *p132 = at(p126 + 1, n130);
-							if (n127 == n130)
+							byte *p133 = at(p127 + 1, n131);
+							if (n128 == n131)
 								goto L6;
-							if (load8(p132) != 32)
+							if (load8(p133) != 10)
 								goto L6;
-							uint64_t n133 = n127 + (n130 ^ UINT64_MAX);
-							uint64_t n134 = 0;
-							uint64_t n135 = 0;
-							for (;;) {
-								if (n134 == n133) {
-									n136 = n133;
-									break;
-								}
-								uint8_t n137 = load8(at(p132 + 1, n134));
-								if ((uint8_t)(n137 - 48) >= 10) {
-									n136 = n134;
-									break;
-								}
-								n134 = n134 + 1;
-								n135 = (n135 * 10) + (uint64_t)(uint8_t)(n137 & 15);
-							}
-							switch (n136) {
-							case 0: {
-								goto L6;
-							}
-							case 1: {
-								if (n135 > UINT64_C(1152921504606846975))
-									goto L6;
-								break;
-							}
-							default: {
-								if (((int)(load8(p132 + 1) == 48) | (int)(n136 > 19)) || (n135 > UINT64_C(1152921504606846975)))
-									goto L6;
-								break;
-							}
-							}
-							byte *p138 = at(p132 + 1, n136);
-							if (n133 == n136)
-								goto L6;
-							if (load8(p138) != 10)
-								goto L6;
-							p139 = p138 + 1;
-							n140 = n133 + (n136 ^ UINT64_MAX);
-							n141 = n117;
-							n142 = n123;
-							n143 = n129;
-							n144 = n135;
+							p134 = p133 + 1;
+							n135 = n128 + (n131 ^ UINT64_MAX);
+							n136 = n112;
+							n137 = n118;
+							n138 = n124;
+							n139 = n130;
 							goto L7;
 						}
 						case 1886352499: {
-							uint64_t n145 = 0;
-							bool b146 = false;
-							while (n145 != 1) {
-								n145 = 1;
-								b146 = (int)b146 | (int)(32 != load8(p99 + 4));
+							uint64_t n140 = 0;
+							bool b141 = false;
+							while (n140 != 1) {
+								n140 = 1;
+								b141 = (int)b141 | (int)(32 != load8(p94 + 4));
 							}
-							uint64_t n147 = 0;
-							bool b148 = false;
-							while (n147 != 1) {
-								n147 = 1;
-								b148 = (int)b148 | (int)(32 != load8(p99 + 4));
+							uint64_t n142 = 0;
+							bool b143 = false;
+							while (n142 != 1) {
+								n142 = 1;
+								b143 = (int)b143 | (int)(32 != load8(p94 + 4));
 							}
-							uint64_t n149 = 0;
-							bool b150 = false;
-							while (n149 != 1) {
-								n149 = 1;
-								b150 = (int)b150 | (int)(32 != load8(p99 + 4));
+							uint64_t n144 = 0;
+							bool b145 = false;
+							while (n144 != 1) {
+								n144 = 1;
+								b145 = (int)b145 | (int)(32 != load8(p94 + 4));
 							}
-							if ((int)((int)b146 | (int)b148) | (int)b150)
+							if ((int)((int)b141 | (int)b143) | (int)b145)
 								goto L5;
 							break;
 						}
 						case 1936682083: {
-							uint64_t n151 = 0;
-							bool b152 = false;
-							while (n151 != 1) {
-								n151 = 1;
-								b152 = (int)b152 | (int)(101 != load8(p99 + 4));
+							uint64_t n146 = 0;
+							bool b147 = false;
+							while (n146 != 1) {
+								n146 = 1;
+								b147 = (int)b147 | (int)(101 != load8(p94 + 4));
 							}
-							uint64_t n153 = 0;
-							bool b154 = false;
-							while (n153 != 1) {
-								n153 = 1;
-								b154 = (int)b154 | (int)(10 != load8(p99 + 5));
+							uint64_t n148 = 0;
+							bool b149 = false;
+							while (n148 != 1) {
+								n148 = 1;
+								b149 = (int)b149 | (int)(10 != load8(p94 + 5));
 							}
-							uint64_t n155 = 0;
-							bool b156 = false;
-							while (n155 != 1) {
-								n155 = 1;
-								b156 = (int)b156 | (int)(10 != load8(p99 + 5));
+							uint64_t n150 = 0;
+							bool b151 = false;
+							while (n150 != 1) {
+								n150 = 1;
+								b151 = (int)b151 | (int)(10 != load8(p94 + 5));
 							}
-							if ((int)((int)b152 | (int)b154) | (int)b156)
+							if ((int)((int)b147 | (int)b149) | (int)b151)
 								goto L5;
-							p157 = p99 + 6;
-							n158 = n100 - 6;
+							p152 = p94 + 6;
+							n153 = n95 - 6;
 							goto L8;
 						}
 						default: {
@@ -73488,228 +73455,228 @@ L1:
 						}
 						}
 					}
-					n159 = n100 - 5;
-					n160 = 0;
+					n154 = n95 - 5;
+					n155 = 0;
+					n156 = 0;
+					for (;;) {
+						if (n155 == n154) {
+							n157 = n154;
+							break;
+						}
+						uint8_t n158 = load8(at(p94 + 5, n155));
+						if ((uint8_t)(n158 - 48) >= 10) {
+							n157 = n155;
+							break;
+						}
+						n155 = n155 + 1;
+						n156 = (n156 * 10) + (uint64_t)(uint8_t)(n158 & 15);
+					}
+					switch (n157) {
+					case 0: {
+						goto L6;
+					}
+					case 1: {
+						if (n156 > UINT64_C(1152921504606846975))
+							goto L6;
+						break;
+					}
+					default: {
+						if (((int)(load8(p94 + 5) == 48) | (int)(n157 > 19)) || (n156 > UINT64_C(1152921504606846975)))
+							goto L6;
+						break;
+					}
+					}
+					p159 = at(p94 + 5, n157);
+					if (n154 == n157)
+						goto L6;
+					if (load8(p159) != 32)
+						goto L6;
+					n160 = n154 + (n157 ^ UINT64_MAX);
 					n161 = 0;
+					n162 = 0;
 					for (;;) {
-						if (n160 == n159) {
-							n162 = n159;
+						if (n161 == n160) {
+							n163 = n160;
 							break;
 						}
-						uint8_t n163 = load8(at(p99 + 5, n160));
-						if ((uint8_t)(n163 - 48) >= 10) {
-							n162 = n160;
+						uint8_t n164 = load8(at(p159 + 1, n161));
+						if ((uint8_t)(n164 - 48) >= 10) {
+							n163 = n161;
 							break;
 						}
-						n160 = n160 + 1;
-						n161 = (n161 * 10) + (uint64_t)(uint8_t)(n163 & 15);
+						n161 = n161 + 1;
+						n162 = (n162 * 10) + (uint64_t)(uint8_t)(n164 & 15);
 					}
-					switch (n162) {
+					switch (n163) {
 					case 0: {
 						goto L6;
 					}
 					case 1: {
-						if (n161 > UINT64_C(1152921504606846975))
+						if (n162 > UINT64_C(1152921504606846975))
 							goto L6;
 						break;
 					}
 					default: {
-						if (((int)(load8(p99 + 5) == 48) | (int)(n162 > 19)) || (n161 > UINT64_C(1152921504606846975)))
+						if (((int)(load8(p159 + 1) == 48) | (int)(n163 > 19)) || (n162 > UINT64_C(1152921504606846975)))
 							goto L6;
 						break;
 					}
 					}
-					p164 = at(p99 + 5, n162);
-					if (n159 == n162)
+					p165 = at(p159 + 1, n163);
+					if (n160 == n163)
 						goto L6;
-					if (load8(p164) != 32)
+					if (load8(p165) != 32)
 						goto L6;
-					n165 = n159 + (n162 ^ UINT64_MAX);
-					n166 = 0;
+					n166 = n160 + (n163 ^ UINT64_MAX);
 					n167 = 0;
+					n168 = 0;
 					for (;;) {
-						if (n166 == n165) {
-							n168 = n165;
+						if (n167 == n166) {
+							n169 = n166;
 							break;
 						}
-						uint8_t n169 = load8(at(p164 + 1, n166));
-						if ((uint8_t)(n169 - 48) >= 10) {
-							n168 = n166;
+						uint8_t n170 = load8(at(p165 + 1, n167));
+						if ((uint8_t)(n170 - 48) >= 10) {
+							n169 = n167;
 							break;
 						}
-						n166 = n166 + 1;
-						n167 = (n167 * 10) + (uint64_t)(uint8_t)(n169 & 15);
+						n167 = n167 + 1;
+						n168 = (n168 * 10) + (uint64_t)(uint8_t)(n170 & 15);
 					}
-					switch (n168) {
+					switch (n169) {
 					case 0: {
 						goto L6;
 					}
 					case 1: {
-						if (n167 > UINT64_C(1152921504606846975))
+						if (n168 > UINT64_C(1152921504606846975))
 							goto L6;
 						break;
 					}
 					default: {
-						if (((int)(load8(p164 + 1) == 48) | (int)(n168 > 19)) || (n167 > UINT64_C(1152921504606846975)))
+						if (((int)(load8(p165 + 1) == 48) | (int)(n169 > 19)) || (n168 > UINT64_C(1152921504606846975)))
 							goto L6;
 						break;
 					}
 					}
-					p170 = at(p164 + 1, n168);
-					if (n165 == n168)
+					p171 = at(p165 + 1, n169);
+					if (n166 == n169)
 						goto L6;
-					if (load8(p170) != 32)
+					if (load8(p171) != 10)
 						goto L6;
-					n171 = n165 + (n168 ^ UINT64_MAX);
-					n172 = 0;
-					n173 = 0;
-					for (;;) {
-						if (n172 == n171) {
-							n174 = n171;
-							break;
-						}
-						uint8_t n175 = load8(at(p170 + 1, n172));
-						if ((uint8_t)(n175 - 48) >= 10) {
-							n174 = n172;
-							break;
-						}
-						n172 = n172 + 1;
-						n173 = (n173 * 10) + (uint64_t)(uint8_t)(n175 & 15);
-					}
-					switch (n174) {
-					case 0: {
-						goto L6;
-					}
-					case 1: {
-						if (n173 > UINT64_C(1152921504606846975))
-							goto L6;
-						break;
-					}
-					default: {
-						if (((int)(load8(p170 + 1) == 48) | (int)(n174 > 19)) || (n173 > UINT64_C(1152921504606846975)))
-							goto L6;
-						break;
-					}
-					}
-					p176 = at(p170 + 1, n174);
-					if (n171 == n174)
-						goto L6;
-					if (load8(p176) != 10)
-						goto L6;
-					p177 = p176 + 1;
-					n178 = n171 + (n174 ^ UINT64_MAX);
-					n179 = n161;
-					n180 = n167;
-					n181 = n173;
+					p172 = p171 + 1;
+					n173 = n166 + (n169 ^ UINT64_MAX);
+					n174 = n156;
+					n175 = n162;
+					n176 = n168;
 					goto L9;
 L5:
 					{
-						uint8_t n189;
-						uint64_t n190, n191, n192, n193, n194, n195, n197, n198, n200;
-						byte *p196;
-						bool b199, b201;
-						memset(p54, 0, 72);
-						uint32_t n182 = ((((uint32_t)load8(p99 + 3) << 24) | ((uint32_t)load8(p99 + 2) << 16)) | ((uint32_t)load8(p99 + 1) << 8)) | (uint32_t)load8(p99);
-						if (n182 == 1801677172) {
-							if (n100 == 4)
+						uint8_t n184;
+						uint64_t n185, n186, n187, n188, n189, n190, n192, n193, n195;
+						byte *p191;
+						bool b194, b196;
+						memset(p51, 0, 72);
+						uint32_t n177 = ((((uint32_t)load8(p94 + 3) << 24) | ((uint32_t)load8(p94 + 2) << 16)) | ((uint32_t)load8(p94 + 1) << 8)) | (uint32_t)load8(p94);
+						if (n177 == 1801677172) {
+							if (n95 == 4)
 								goto L4;
-							uint64_t n183 = 0;
-							bool b184 = false;
-							while (n183 != 1) {
-								n183 = 1;
-								b184 = (int)b184 | (int)(32 != load8(p99 + 4));
+							uint64_t n178 = 0;
+							bool b179 = false;
+							while (n178 != 1) {
+								n178 = 1;
+								b179 = (int)b179 | (int)(32 != load8(p94 + 4));
 							}
-							uint64_t n185 = 0;
-							bool b186 = false;
-							while (n185 != 1) {
-								n185 = 1;
-								b186 = (int)b186 | (int)(32 != load8(p99 + 4));
+							uint64_t n180 = 0;
+							bool b181 = false;
+							while (n180 != 1) {
+								n180 = 1;
+								b181 = (int)b181 | (int)(32 != load8(p94 + 4));
 							}
-							uint64_t n187 = 0;
-							bool b188 = false;
-							while (n187 != 1) {
-								n187 = 1;
-								b188 = (int)b188 | (int)(32 != load8(p99 + 4));
+							uint64_t n182 = 0;
+							bool b183 = false;
+							while (n182 != 1) {
+								n182 = 1;
+								b183 = (int)b183 | (int)(32 != load8(p94 + 4));
 							}
-							if (!((int)((int)b184 | (int)b186) | (int)b188)) {
-								tp_lines_read_tick(p54, p99 + 5, n100 - 5);
-								n189 = load8(p54);
-								n190 = load64u(p54 + 8);
-								n191 = load64u(p54 + 16);
-								n192 = load64u(p54 + 24);
-								n193 = load64u(p54 + 32);
-								n194 = load64u(p54 + 40);
-								n195 = load64u(p54 + 48);
-								p196 = loadptru(p54 + 56);
-								n197 = load64u(p54 + 64);
+							if (!((int)((int)b179 | (int)b181) | (int)b183)) {
+								tp_lines_read_tick(p51, p94 + 5, n95 - 5);
+								n184 = load8(p51);
+								n185 = load64u(p51 + 8);
+								n186 = load64u(p51 + 16);
+								n187 = load64u(p51 + 24);
+								n188 = load64u(p51 + 32);
+								n189 = load64u(p51 + 40);
+								n190 = load64u(p51 + 48);
+								p191 = loadptru(p51 + 56);
+								n192 = load64u(p51 + 64);
 								goto L10;
 							}
 						}
-						if (!((int)(n100 > 7) & (int)(n182 == 1953719666)))
+						if (!((int)(n95 > 7) & (int)(n177 == 1953719666)))
 							goto L4;
-						n198 = 0;
-						b199 = false;
-						while (n198 != 4) {
-							b199 = (int)b199 | (int)(load8(at((byte *)tp_static_220 + 4, n198)) != load8(at(p99 + 4, n198)));
-							n198 = n198 + 1;
+						n193 = 0;
+						b194 = false;
+						while (n193 != 4) {
+							b194 = (int)b194 | (int)(load8(at((byte *)tp_static_220 + 4, n193)) != load8(at(p94 + 4, n193)));
+							n193 = n193 + 1;
 						}
-						n200 = 0;
-						b201 = false;
-						while (n200 != 4) {
-							b201 = (int)b201 | (int)(load8(at((byte *)tp_static_220 + 4, n200)) != load8(at(p99 + 4, n200)));
-							n200 = n200 + 1;
+						n195 = 0;
+						b196 = false;
+						while (n195 != 4) {
+							b196 = (int)b196 | (int)(load8(at((byte *)tp_static_220 + 4, n195)) != load8(at(p94 + 4, n195)));
+							n195 = n195 + 1;
 						}
-						if ((int)b199 | (int)b201)
+						if ((int)b194 | (int)b196)
 							goto L4;
-						tp_lines_read_restart(p54, p99 + 8, n100 - 8);
-						n189 = load8(p54);
-						n190 = load64u(p54 + 8);
-						n191 = load64u(p54 + 16);
-						n192 = load64u(p54 + 24);
-						n193 = load64u(p54 + 32);
-						n194 = load64u(p54 + 40);
-						n195 = load64u(p54 + 48);
-						p196 = loadptru(p54 + 56);
-						n197 = load64u(p54 + 64);
+						tp_lines_read_restart(p51, p94 + 8, n95 - 8);
+						n184 = load8(p51);
+						n185 = load64u(p51 + 8);
+						n186 = load64u(p51 + 16);
+						n187 = load64u(p51 + 24);
+						n188 = load64u(p51 + 32);
+						n189 = load64u(p51 + 40);
+						n190 = load64u(p51 + 48);
+						p191 = loadptru(p51 + 56);
+						n192 = load64u(p51 + 64);
 L10:
 						{
-							if (n189 != 1)
+							if (n184 != 1)
 								goto L6;
-							switch (MOSTLY_0((uint8_t)n190)) {
+							switch (MOSTLY_0((uint8_t)n185)) {
 							case 0: {
-								p139 = p196;
-								n140 = n197;
-								n141 = n191;
-								n142 = n192;
-								n143 = n193;
-								n144 = n194;
+								p134 = p191;
+								n135 = n192;
+								n136 = n186;
+								n137 = n187;
+								n138 = n188;
+								n139 = n189;
 								goto L7;
 							}
 							case 1: {
-								p177 = p196;
-								n178 = n197;
-								n179 = n191;
-								n180 = n192;
-								n181 = n193;
+								p172 = p191;
+								n173 = n192;
+								n174 = n186;
+								n175 = n187;
+								n176 = n188;
 								goto L9;
 							}
 							case 2: {
-								uint8_t n202 = tp_script_run_answer_restart(p56, n191, n192, n193, n194, n195, p57);
-								p203 = p196;
-								n204 = n197;
-								n205 = n202;
+								uint8_t n197 = tp_script_run_answer_restart(p53, n186, n187, n188, n189, n190, p54);
+								p198 = p191;
+								n199 = n192;
+								n200 = n197;
 								goto L11;
 							}
 							case 3: {
-								uint8_t n206 = tp_script_run_answer_ticks(p56, n191, p55, p57);
-								p203 = p196;
-								n204 = n197;
-								n205 = n206;
+								uint8_t n201 = tp_script_run_answer_ticks(p53, n186, p52, p54);
+								p198 = p191;
+								n199 = n192;
+								n200 = n201;
 								goto L11;
 							}
 							case 4: {
-								p157 = p196;
-								n158 = n197;
+								p152 = p191;
+								n153 = n192;
 								break;
 							}
 							default: {
@@ -73720,1268 +73687,1259 @@ L10:
 					}
 L8:
 					{
-						uint8_t n207 = tp_script_run_answer_close(p56, p55, p57);
-						p203 = p157;
-						n204 = n158;
-						n205 = n207;
+						uint8_t n202 = tp_script_run_answer_close(p53, p52, p54);
+						p198 = p152;
+						n199 = n153;
+						n200 = n202;
 						goto L11;
 					}
 L9:
 					{
-						uint8_t n208 = tp_script_run_answer_stop(p56, n179, n180, n181, p57);
-						p203 = p177;
-						n204 = n178;
-						n205 = n208;
+						uint8_t n203 = tp_script_run_answer_stop(p53, n174, n175, n176, p54);
+						p198 = p172;
+						n199 = n173;
+						n200 = n203;
 						goto L11;
 					}
 L7:
 					{
-						uint8_t n209 = tp_script_run_answer_start(p56, n141, n142, n143, n144, p57);
-						p203 = p139;
-						n204 = n140;
-						n205 = n209;
+						uint8_t n204 = tp_script_run_answer_start(p53, n136, n137, n138, n139, p54);
+						p198 = p134;
+						n199 = n135;
+						n200 = n204;
 					}
 L11:
 					{
-						if ((n205 & 1) != 0)
+						if ((n200 & 1) != 0)
 							break;
-						n98 = n98 + 1;
-						p99 = p203;
-						n100 = n204;
+						n93 = n93 + 1;
+						p94 = p198;
+						n95 = n199;
 					}
 				}
-				if (load64u(p55 + 16) == 0) {
-					b210 = true;
-					n211 = 0;
+				if (load64u(p52 + 16) == 0) {
+					b205 = true;
+					n206 = 0;
 					goto L12;
 				}
-				rattle_dealloc(loadptru(p55));
-				b210 = true;
-				n211 = 0;
+				rattle_dealloc(loadptru(p52));
+				b205 = true;
+				n206 = 0;
 				goto L12;
 L4: ;
 L6:
 				{
-					uint64_t n212 = n98 + 1;
-					if (load64u(p55 + 16) == 0) {
-						b210 = false;
-						n211 = n212;
+					uint64_t n207 = n93 + 1;
+					if (load64u(p52 + 16) == 0) {
+						b205 = false;
+						n206 = n207;
 					} else {
-						rattle_dealloc(loadptru(p55));
-						b210 = false;
-						n211 = n212;
+						rattle_dealloc(loadptru(p52));
+						b205 = false;
+						n206 = n207;
 					}
 				}
 L12:
 				{
-					if (load64u(p57 + 16) != 0)
-						rattle_dealloc(loadptru(p57));
-					byte *p213 = loadptru(p56 + 80);
-					uint64_t n214 = load64u(p56 + 96);
-					byte *p215 = loadptru(p56 + 1448);
-					uint64_t n216 = load64u(p56 + 1464);
-					if (load64u(p56 + 56) != 0)
-						rattle_dealloc(loadptru(p56 + 40));
-					if (n214 != 0)
-						rattle_dealloc(p213);
-					if (n216 != 0)
-						rattle_dealloc(p215);
-					if (load64u(p56 + 1496) != 0)
-						rattle_dealloc(loadptru(p56 + 1480));
-					if (b210)
+					if (load64u(p54 + 16) != 0)
+						rattle_dealloc(loadptru(p54));
+					byte *p208 = loadptru(p53 + 80);
+					uint64_t n209 = load64u(p53 + 96);
+					byte *p210 = loadptru(p53 + 1448);
+					uint64_t n211 = load64u(p53 + 1464);
+					if (load64u(p53 + 56) != 0)
+						rattle_dealloc(loadptru(p53 + 40));
+					if (n209 != 0)
+						rattle_dealloc(p208);
+					if (n211 != 0)
+						rattle_dealloc(p210);
+					if (load64u(p53 + 1496) != 0)
+						rattle_dealloc(loadptru(p53 + 1480));
+					if (b205)
 						goto L13;
-					n217 = 2;
-					n218 = n211;
+					n212 = 2;
+					n213 = n206;
 					goto L14;
 				}
 L3:
 				{
-					uint64_t n229;
-					if (load64u(p55 + 16) != 0)
-						rattle_dealloc(loadptru(p55));
-					uint64_t n219 = load64(p56 + 16);
-					uint64_t n220 = load64(p56 + 64);
-					uint64_t n221 = load64(p56 + 32);
-					byte *p222 = loadptr(p56 + 80);
-					uint64_t n223 = (uint64_t)load32(at(p222, n221 << 3) + 4);
-					bool b224 = n221 != n223;
-					uint64_t n225 = load64(p56 + 104);
-					uint64_t n226 = b224 ? (n223 - n225) : 0;
-					uint64_t n227 = 0;
-					bool b228 = b224;
+					uint64_t n224;
+					if (load64u(p52 + 16) != 0)
+						rattle_dealloc(loadptru(p52));
+					uint64_t n214 = load64(p53 + 16);
+					uint64_t n215 = load64(p53 + 64);
+					uint64_t n216 = load64(p53 + 32);
+					byte *p217 = loadptr(p53 + 80);
+					uint64_t n218 = (uint64_t)load32(at(p217, n216 << 3) + 4);
+					bool b219 = n216 != n218;
+					uint64_t n220 = load64(p53 + 104);
+					uint64_t n221 = b219 ? (n218 - n220) : 0;
+					uint64_t n222 = 0;
+					bool b223 = b219;
 					for (;;) {
-						if (n227 == n220) {
-							n229 = n220;
+						if (n222 == n215) {
+							n224 = n215;
 							break;
 						}
-						if (!b228) {
-							n229 = n227;
+						if (!b223) {
+							n224 = n222;
 							break;
 						}
-						uint64_t n230 = (uint64_t)load32(at(p222, (n225 + n226) << 3) + 4);
-						n226 = usub_sat64(n230, n225);
-						n227 = n227 + 1;
-						b228 = n225 <= n230;
+						uint64_t n225 = (uint64_t)load32(at(p217, (n220 + n221) << 3) + 4);
+						n221 = usub_sat64(n225, n220);
+						n222 = n222 + 1;
+						b223 = n220 <= n225;
 					}
-					uint8_t n231 = tp_text_push_end(p57, n219, n220 - n229);
-					if ((n231 & 1) == 0) {
-						uint64_t n236 = load64u(p57);
-						uint64_t n237 = load64u(p57 + 8);
-						uint64_t n238 = load64u(p57 + 16);
-						byte *p239 = loadptru(p56 + 80);
-						uint64_t n240 = load64u(p56 + 96);
-						byte *p241 = loadptru(p56 + 1448);
-						uint64_t n242 = load64u(p56 + 1464);
-						if (load64u(p56 + 56) != 0)
-							rattle_dealloc(loadptru(p56 + 40));
-						if (n240 != 0)
-							rattle_dealloc(p239);
-						if (n242 != 0)
-							rattle_dealloc(p241);
-						if (load64u(p56 + 1496) != 0)
-							rattle_dealloc(loadptru(p56 + 1480));
-						byte *p243 = (byte *)(uintptr_t)n236;
-						uint64_t n244 = 0;
-						while (n244 < n237) {
-							uint64_t n245 = n237 - n244;
-							uint64_t n246 = os_write(1, at(p243, n244), n245);
-							if ((int64_t)n246 < (int64_t)0) {
-								tp_error_last_error(p53);
+					uint8_t n226 = tp_text_push_end(p54, n214, n215 - n224);
+					if ((n226 & 1) == 0) {
+						uint64_t n231 = load64u(p54);
+						uint64_t n232 = load64u(p54 + 8);
+						uint64_t n233 = load64u(p54 + 16);
+						byte *p234 = loadptru(p53 + 80);
+						uint64_t n235 = load64u(p53 + 96);
+						byte *p236 = loadptru(p53 + 1448);
+						uint64_t n237 = load64u(p53 + 1464);
+						if (load64u(p53 + 56) != 0)
+							rattle_dealloc(loadptru(p53 + 40));
+						if (n235 != 0)
+							rattle_dealloc(p234);
+						if (n237 != 0)
+							rattle_dealloc(p236);
+						if (load64u(p53 + 1496) != 0)
+							rattle_dealloc(loadptru(p53 + 1480));
+						byte *p238 = (byte *)(uintptr_t)n231;
+						uint64_t n239 = 0;
+						while (n239 < n232) {
+							uint64_t n240 = n232 - n239;
+							uint64_t n241 = os_write(1, at(p238, n239), n240);
+							if ((int64_t)n241 < (int64_t)0) {
+								tp_error_last_error(p50);
 								goto L15;
 							}
-							uint64_t n247 = umin64(n246, n245);
-							if (n247 == 0)
+							uint64_t n242 = umin64(n241, n240);
+							if (n242 == 0)
 								goto L15;
-							n244 = n244 + n247;
+							n239 = n239 + n242;
 						}
-						if (n238 != 0)
-							rattle_dealloc(p243);
-						if (!b89)
-							rattle_dealloc(p87);
+						if (n233 != 0)
+							rattle_dealloc(p238);
+						if (!b84)
+							rattle_dealloc(p82);
 						return 0;
 L15:
 						{
 							store8(p3 + 1, 1);
-							if (n238 != 0)
-								rattle_dealloc(p243);
-							if (b89) {
-								n248 = 4;
-								n249 = n244;
+							if (n233 != 0)
+								rattle_dealloc(p238);
+							if (b84) {
+								n243 = 4;
+								n244 = n239;
 								goto L16;
 							}
-							rattle_dealloc(p87);
-							n248 = 4;
-							n249 = n244;
+							rattle_dealloc(p82);
+							n243 = 4;
+							n244 = n239;
 							goto L16;
 						}
 					}
-					if (load64u(p57 + 16) != 0)
-						rattle_dealloc(loadptru(p57));
-					byte *p232 = loadptru(p56 + 80);
-					uint64_t n233 = load64u(p56 + 96);
-					byte *p234 = loadptru(p56 + 1448);
-					uint64_t n235 = load64u(p56 + 1464);
-					if (load64u(p56 + 56) != 0)
-						rattle_dealloc(loadptru(p56 + 40));
-					if (n233 != 0)
-						rattle_dealloc(p232);
-					if (n235 != 0)
-						rattle_dealloc(p234);
-					if (load64u(p56 + 1496) != 0)
-						rattle_dealloc(loadptru(p56 + 1480));
+					if (load64u(p54 + 16) != 0)
+						rattle_dealloc(loadptru(p54));
+					byte *p227 = loadptru(p53 + 80);
+					uint64_t n228 = load64u(p53 + 96);
+					byte *p229 = loadptru(p53 + 1448);
+					uint64_t n230 = load64u(p53 + 1464);
+					if (load64u(p53 + 56) != 0)
+						rattle_dealloc(loadptru(p53 + 40));
+					if (n228 != 0)
+						rattle_dealloc(p227);
+					if (n230 != 0)
+						rattle_dealloc(p229);
+					if (load64u(p53 + 1496) != 0)
+						rattle_dealloc(loadptru(p53 + 1480));
 				}
 			}
 L2: ;
 L13:
 			{
-				n217 = 3;
-				n218 = 0;
+				n212 = 3;
+				n213 = 0;
 			}
 L14:
 			{
-				if (b89) {
-					n248 = n217;
-					n249 = n218;
+				if (b84) {
+					n243 = n212;
+					n244 = n213;
 				} else {
-					rattle_dealloc(p87);
-					n248 = n217;
-					n249 = n218;
+					rattle_dealloc(p82);
+					n243 = n212;
+					n244 = n213;
 				}
 			}
 		} else {
-			uint8_t n250;
-			switch (MOSTLY_0(load8(p63 + 1))) {
+			uint8_t n245;
+			switch (MOSTLY_0(load8(p59 + 1))) {
 			case 0: {
-				n250 = 0;
+				n245 = 0;
 				break;
 			}
 			case 1: {
-				n250 = 1;
+				n245 = 1;
 				break;
 			}
 			case 2: {
-				n250 = 3;
+				n245 = 3;
 				break;
 			}
 			default: {
 				UNREACHABLE();
 			}
 			}
-			if (n79 != 0)
-				rattle_dealloc(p77);
-			if (n82 != 0)
-				rattle_dealloc(p80);
-			if (n85 == 0) {
-				n248 = n250;
-				n249 = 0;
+			if (n74 != 0)
+				rattle_dealloc(p72);
+			if (n77 != 0)
+				rattle_dealloc(p75);
+			if (n80 == 0) {
+				n243 = n245;
+				n244 = 0;
 			} else {
-				rattle_dealloc(p83);
-				n248 = n250;
-				n249 = 0;
+				rattle_dealloc(p78);
+				n243 = n245;
+				n244 = 0;
 			}
 		}
 L16:
 		{
-			tp_timer_commands_error_report_report(n248, n249, p4);
+			tp_timer_commands_error_report_report(n243, n244, p4);
 			return 1;
 		}
 	}
 	case 1: {
-		uint8_t n349, n416;
-		uint64_t n350, n415;
+		uint8_t n344, n411;
+		uint64_t n345, n410;
 		if ((load8(p1 + 2) & 1) != 0) {
-			uint8_t n252, n329;
-			uint64_t n253, n328;
-			memcpy(p44, p2, 16);
-			memcpy(p45, p2 + 24, 16);
-			memcpy(p46, p2 + 64, 16);
-			memcpy(p47, p2 + 104, 288);
-			memcpy(p48, p2 + 392, 1056);
+			uint8_t n247, n324;
+			uint64_t n248, n323;
+			memcpy(p42, p2, 40);
+			memcpy(p43, p2 + 64, 16);
+			memcpy(p44, p2 + 104, 288);
+			memcpy(p45, p2 + 392, 1056);
+			memset(p46, 0, 24);
+			memset(p47, 0, 1552);
+			memset(p48, 0, 96);
 			memset(p49, 0, 24);
-			memset(p50, 0, 1552);
-			memset(p51, 0, 96);
-			memset(p52, 0, 24);
-			of_i64_i64 s251 = rattle_alloc(16384, 1);
-			if ((s251.f0 & 1) == 0) {
-				if (n79 != 0)
-					rattle_dealloc(p77);
-				if (n82 != 0)
-					rattle_dealloc(p80);
-				if (n85 == 0) {
-					n252 = 2;
-					n253 = 0;
+			of_i64_i64 s246 = rattle_alloc(16384, 1);
+			if ((s246.f0 & 1) == 0) {
+				if (n74 != 0)
+					rattle_dealloc(p72);
+				if (n77 != 0)
+					rattle_dealloc(p75);
+				if (n80 == 0) {
+					n247 = 2;
+					n248 = 0;
 				} else {
-					rattle_dealloc(p83);
-					n252 = 2;
-					n253 = 0;
+					rattle_dealloc(p78);
+					n247 = 2;
+					n248 = 0;
 				}
 			} else {
-				uint64_t n259, n270, n271, n282, n284, n286;
-				uint8_t n279;
-				byte *p281, *p283, *p285;
-				byte *p254 = (byte *)(uintptr_t)s251.f1;
-				uint64_t n255 = 0;
-				while (n255 != 16383) {
-					store8(inside(p254, n255), 0);
-					n255 = n255 + 1;
+				uint64_t n254, n265, n266, n277, n279, n281;
+				uint8_t n274;
+				byte *p276, *p278, *p280;
+				byte *p249 = (byte *)(uintptr_t)s246.f1;
+				uint64_t n250 = 0;
+				while (n250 != 16383) {
+					store8(inside(p249, n250), 0);
+					n250 = n250 + 1;
 				}
-				store8(p254 + 16383, 0);
-				storeptru(p49, p5);
-				memset(p49 + 8, 0, 16);
-				memcpy(p50, p44, 16);
-				store64u(p50 + 16, n76);
-				memcpy(p50 + 24, p45, 16);
-				storeptru(p50 + 40, p77);
-				store64u(p50 + 48, n78);
-				store64u(p50 + 56, n79);
-				memcpy(p50 + 64, p46, 16);
-				storeptru(p50 + 80, p80);
-				store64u(p50 + 88, n81);
-				store64u(p50 + 96, n82);
-				memcpy(p50 + 104, p47, 288);
-				memcpy(p50 + 392, p48, 1056);
-				storeptru(p50 + 1448, p83);
-				store64u(p50 + 1456, n84);
-				store64u(p50 + 1464, n85);
-				store64u(p50 + 1472, n86);
-				storeptru(p50 + 1480, p5);
-				memset(p50 + 1488, 0, 16);
-				storeptru(p50 + 1504, p5);
-				memset(p50 + 1512, 0, 16);
-				storeptru(p50 + 1528, p5);
-				memset(p50 + 1536, 0, 16);
-				store8(p51, n64);
-				memset(p51 + 1, 0, 7);
-				storeptru(p51 + 8, p5);
-				memset(p51 + 16, 0, 16);
-				storeptru(p51 + 32, p5);
-				memset(p51 + 40, 0, 16);
-				storeptru(p51 + 56, p5);
-				memset(p51 + 64, 0, 16);
-				store64u(p51 + 80, 1);
-				store8(p51 + 88, 1);
-				memset(p51 + 89, 0, 7);
-				uint64_t n256 = 0;
+				store8(p249 + 16383, 0);
+				storeptru(p46, p5);
+				memset(p46 + 8, 0, 16);
+				memcpy(p47, p42, 40);
+				storeptru(p47 + 40, p72);
+				store64u(p47 + 48, n73);
+				store64u(p47 + 56, n74);
+				memcpy(p47 + 64, p43, 16);
+				storeptru(p47 + 80, p75);
+				store64u(p47 + 88, n76);
+				store64u(p47 + 96, n77);
+				memcpy(p47 + 104, p44, 288);
+				memcpy(p47 + 392, p45, 1056);
+				storeptru(p47 + 1448, p78);
+				store64u(p47 + 1456, n79);
+				store64u(p47 + 1464, n80);
+				store64u(p47 + 1472, n81);
+				storeptru(p47 + 1480, p5);
+				memset(p47 + 1488, 0, 16);
+				storeptru(p47 + 1504, p5);
+				memset(p47 + 1512, 0, 16);
+				storeptru(p47 + 1528, p5);
+				memset(p47 + 1536, 0, 16);
+				store8(p48, n60);
+				memset(p48 + 1, 0, 7);
+				storeptru(p48 + 8, p5);
+				memset(p48 + 16, 0, 16);
+				storeptru(p48 + 32, p5);
+				memset(p48 + 40, 0, 16);
+				storeptru(p48 + 56, p5);
+				memset(p48 + 64, 0, 16);
+				store64u(p48 + 80, 1);
+				store8(p48 + 88, 1);
+				memset(p48 + 89, 0, 7);
+				uint64_t n251 = 0;
 				for (;;) {
-					if (n256 == UINT64_MAX)
+					if (n251 == UINT64_MAX)
 						goto L17;
-					uint64_t n257 = os_read(0, p254, 16384);
-					if ((int64_t)n257 < (int64_t)0)
+					uint64_t n252 = os_read(0, p249, 16384);
+					if ((int64_t)n252 < (int64_t)0)
 						goto L18;
-					tp_Cutter_take_in(p52, p51, p254, umin64(n257, 16384), p4);
-					if (load8(p52) != 0)
+					tp_Cutter_take_in(p49, p48, p249, umin64(n252, 16384), p4);
+					if (load8(p49) != 0)
 						break;
-					uint8_t n258 = load8(p52 + 8);
-					n259 = load64u(p52 + 16);
-					byte *p260 = loadptr(p51 + 8);
-					uint64_t n261 = load64(p51 + 16);
-					if (load64(p49 + 8) != 0)
-						store64(p49 + 8, 0);
-					uint64_t n262 = 0;
-					while (n262 != n261) {
-						byte *p263 = at(p260, n262 * 48);
-						uint64_t n264 = load64u(p263 + 8);
-						uint64_t n265 = load64u(p263 + 16);
-						uint64_t n266 = load64u(p263 + 24);
-						uint64_t n267 = load64u(p263 + 32);
-						uint64_t n268 = load64u(p263 + 40);
-						store64u(p42, (uint64_t)load8(p263));
-						store64(p42 + 8, n264);
-						store64(p42 + 16, n265);
-						store64(p42 + 24, n266);
-						store64(p42 + 32, n267);
-						store64(p42 + 40, n268);
-						uint8_t n269 = tp_Session_play_one(p50, p42, p49);
-						if ((n269 & 1) != 0) {
-							n270 = load64(p49 + 8);
+					uint8_t n253 = load8(p49 + 8);
+					n254 = load64u(p49 + 16);
+					byte *p255 = loadptr(p48 + 8);
+					uint64_t n256 = load64(p48 + 16);
+					if (load64(p46 + 8) != 0)
+						store64(p46 + 8, 0);
+					uint64_t n257 = 0;
+					while (n257 != n256) {
+						byte *p258 = at(p255, n257 * 48);
+						uint64_t n259 = load64u(p258 + 8);
+						uint64_t n260 = load64u(p258 + 16);
+						uint64_t n261 = load64u(p258 + 24);
+						uint64_t n262 = load64u(p258 + 32);
+						uint64_t n263 = load64u(p258 + 40);
+						store64u(p40, (uint64_t)load8(p258));
+						store64(p40 + 8, n259);
+						store64(p40 + 16, n260);
+						store64(p40 + 24, n261);
+						store64(p40 + 32, n262);
+						store64(p40 + 40, n263);
+						uint8_t n264 = tp_Session_play_one(p47, p40, p46);
+						if ((n264 & 1) != 0) {
+							n265 = load64(p46 + 8);
 							goto L19;
 						}
-						n271 = load64(p49 + 8);
-						of_i8_i64 s272 = tp_SmoothWheelWheel_quiet_until(p50);
-						uint8_t n273 = tp_render_push_wakeup(p49, s272.f0, s272.f1);
-						if ((n273 & 1) != 0)
+						n266 = load64(p46 + 8);
+						of_i8_i64 s267 = tp_SmoothWheelWheel_quiet_until(p47);
+						uint8_t n268 = tp_render_push_wakeup(p46, s267.f0, s267.f1);
+						if ((n268 & 1) != 0)
 							goto L20;
-						byte *p274 = loadptr(p49);
-						uint64_t n275 = load64(p49 + 8);
-						uint64_t n276 = 0;
-						while (n276 < n275) {
-							uint64_t n277 = n275 - n276;
-							uint64_t n278 = os_write(1, at(p274, n276), n277);
-							if ((int64_t)n278 < (int64_t)0) {
-								tp_error_last_error(p40);
+						byte *p269 = loadptr(p46);
+						uint64_t n270 = load64(p46 + 8);
+						uint64_t n271 = 0;
+						while (n271 < n270) {
+							uint64_t n272 = n270 - n271;
+							uint64_t n273 = os_write(1, at(p269, n271), n272);
+							if ((int64_t)n273 < (int64_t)0) {
+								tp_error_last_error(p38);
 								store8(p3 + 1, 1);
-								n279 = 3;
+								n274 = 3;
 								goto L21;
 							}
-							uint64_t n280 = umin64(n278, n277);
-							if (n280 == 0) {
+							uint64_t n275 = umin64(n273, n272);
+							if (n275 == 0) {
 								store8(p3 + 1, 1);
-								n279 = 3;
+								n274 = 3;
 								goto L21;
 							}
-							n276 = n276 + n280;
+							n271 = n271 + n275;
 						}
-						if (load64(p49 + 8) != 0)
-							store64(p49 + 8, 0);
-						n262 = n262 + 1;
+						if (load64(p46 + 8) != 0)
+							store64(p46 + 8, 0);
+						n257 = n257 + 1;
 					}
-					if (n258 == 1)
+					if (n253 == 1)
 						goto L22;
-					if (n257 == 0)
+					if (n252 == 0)
 						goto L23;
-					n256 = n256 + 1;
+					n251 = n251 + 1;
 				}
-				if (load64u(p51 + 24) != 0)
-					rattle_dealloc(loadptru(p51 + 8));
-				if (load64u(p51 + 48) != 0)
-					rattle_dealloc(loadptru(p51 + 32));
-				if (load64u(p51 + 72) != 0)
-					rattle_dealloc(loadptru(p51 + 56));
-				p281 = loadptru(p50 + 80);
-				n282 = load64u(p50 + 96);
-				p283 = loadptru(p50 + 1448);
-				n284 = load64u(p50 + 1464);
-				p285 = loadptru(p50 + 1480);
-				n286 = load64u(p50 + 1496);
-				if (load64u(p50 + 56) != 0)
-					rattle_dealloc(loadptru(p50 + 40));
-				if (n282 != 0)
-					rattle_dealloc(p281);
-				if (n284 != 0)
-					rattle_dealloc(p283);
-				if (n286 != 0)
-					rattle_dealloc(p285);
-				if (load64u(p50 + 1520) != 0)
-					rattle_dealloc(loadptru(p50 + 1504));
-				if (load64u(p50 + 1544) != 0)
-					rattle_dealloc(loadptru(p50 + 1528));
-				if (load64u(p49 + 16) != 0)
-					rattle_dealloc(loadptru(p49));
-				rattle_dealloc(p254);
-				n252 = 2;
-				n253 = 0;
+				if (load64u(p48 + 24) != 0)
+					rattle_dealloc(loadptru(p48 + 8));
+				if (load64u(p48 + 48) != 0)
+					rattle_dealloc(loadptru(p48 + 32));
+				if (load64u(p48 + 72) != 0)
+					rattle_dealloc(loadptru(p48 + 56));
+				p276 = loadptru(p47 + 80);
+				n277 = load64u(p47 + 96);
+				p278 = loadptru(p47 + 1448);
+				n279 = load64u(p47 + 1464);
+				p280 = loadptru(p47 + 1480);
+				n281 = load64u(p47 + 1496);
+				if (load64u(p47 + 56) != 0)
+					rattle_dealloc(loadptru(p47 + 40));
+				if (n277 != 0)
+					rattle_dealloc(p276);
+				if (n279 != 0)
+					rattle_dealloc(p278);
+				if (n281 != 0)
+					rattle_dealloc(p280);
+				if (load64u(p47 + 1520) != 0)
+					rattle_dealloc(loadptru(p47 + 1504));
+				if (load64u(p47 + 1544) != 0)
+					rattle_dealloc(loadptru(p47 + 1528));
+				if (load64u(p46 + 16) != 0)
+					rattle_dealloc(loadptru(p46));
+				rattle_dealloc(p249);
+				n247 = 2;
+				n248 = 0;
 				goto L24;
 L20:
 				{
-					uint64_t n287 = load64(p49 + 8);
-					if (n287 > n271) {
-						store64(p49 + 8, n271);
-						n270 = n271;
+					uint64_t n282 = load64(p46 + 8);
+					if (n282 > n266) {
+						store64(p46 + 8, n266);
+						n265 = n266;
 					} else {
-						n270 = n287;
+						n265 = n282;
 					}
 				}
 L19:
 				{
-					byte *p288 = loadptr(p49);
-					uint64_t n289 = 0;
+					byte *p283 = loadptr(p46);
+					uint64_t n284 = 0;
 					for (;;) {
-						if (n289 >= n270) {
-							n279 = 2;
+						if (n284 >= n265) {
+							n274 = 2;
 							break;
 						}
-						uint64_t n290 = n270 - n289;
-						uint64_t n291 = os_write(1, at(p288, n289), n290);
-						if ((int64_t)n291 < (int64_t)0) {
-							tp_error_last_error(p41);
+						uint64_t n285 = n265 - n284;
+						uint64_t n286 = os_write(1, at(p283, n284), n285);
+						if ((int64_t)n286 < (int64_t)0) {
+							tp_error_last_error(p39);
 							store8(p3 + 1, 1);
-							n279 = 3;
+							n274 = 3;
 							break;
 						}
-						uint64_t n292 = umin64(n291, n290);
-						if (n292 == 0) {
+						uint64_t n287 = umin64(n286, n285);
+						if (n287 == 0) {
 							store8(p3 + 1, 1);
-							n279 = 3;
+							n274 = 3;
 							break;
 						}
-						n289 = n289 + n292;
+						n284 = n284 + n287;
 					}
 				}
 L21:
 				{
-					if (load64u(p51 + 24) != 0)
-						rattle_dealloc(loadptru(p51 + 8));
-					if (load64u(p51 + 48) != 0)
-						rattle_dealloc(loadptru(p51 + 32));
-					if (load64u(p51 + 72) != 0)
-						rattle_dealloc(loadptru(p51 + 56));
-					byte *p293 = loadptru(p50 + 80);
-					uint64_t n294 = load64u(p50 + 96);
-					byte *p295 = loadptru(p50 + 1448);
-					uint64_t n296 = load64u(p50 + 1464);
-					byte *p297 = loadptru(p50 + 1480);
-					uint64_t n298 = load64u(p50 + 1496);
-					if (load64u(p50 + 56) != 0)
-						rattle_dealloc(loadptru(p50 + 40));
-					if (n294 != 0)
-						rattle_dealloc(p293);
-					if (n296 != 0)
-						rattle_dealloc(p295);
-					if (n298 != 0)
-						rattle_dealloc(p297);
-					if (load64u(p50 + 1520) != 0)
-						rattle_dealloc(loadptru(p50 + 1504));
-					if (load64u(p50 + 1544) != 0)
-						rattle_dealloc(loadptru(p50 + 1528));
-					if (load64u(p49 + 16) != 0)
-						rattle_dealloc(loadptru(p49));
-					rattle_dealloc(p254);
-					n252 = n279;
-					n253 = 0;
+					if (load64u(p48 + 24) != 0)
+						rattle_dealloc(loadptru(p48 + 8));
+					if (load64u(p48 + 48) != 0)
+						rattle_dealloc(loadptru(p48 + 32));
+					if (load64u(p48 + 72) != 0)
+						rattle_dealloc(loadptru(p48 + 56));
+					byte *p288 = loadptru(p47 + 80);
+					uint64_t n289 = load64u(p47 + 96);
+					byte *p290 = loadptru(p47 + 1448);
+					uint64_t n291 = load64u(p47 + 1464);
+					byte *p292 = loadptru(p47 + 1480);
+					uint64_t n293 = load64u(p47 + 1496);
+					if (load64u(p47 + 56) != 0)
+						rattle_dealloc(loadptru(p47 + 40));
+					if (n289 != 0)
+						rattle_dealloc(p288);
+					if (n291 != 0)
+						rattle_dealloc(p290);
+					if (n293 != 0)
+						rattle_dealloc(p292);
+					if (load64u(p47 + 1520) != 0)
+						rattle_dealloc(loadptru(p47 + 1504));
+					if (load64u(p47 + 1544) != 0)
+						rattle_dealloc(loadptru(p47 + 1528));
+					if (load64u(p46 + 16) != 0)
+						rattle_dealloc(loadptru(p46));
+					rattle_dealloc(p249);
+					n247 = n274;
+					n248 = 0;
 					goto L24;
 				}
 L23:
 				{
-					uint64_t n299;
-					uint8_t n300, n301;
-					bool b302;
-					memset(p39, 0, 24);
-					tp_Cutter_end(p39, p51, p4);
-					if (load8(p39) == 0) {
-						if (load8(p39 + 8) == 1) {
-							n299 = load64u(p39 + 16);
-							n300 = 1;
-							n301 = 1;
-							b302 = true;
+					uint64_t n294;
+					uint8_t n295, n296;
+					bool b297;
+					memset(p37, 0, 24);
+					tp_Cutter_end(p37, p48, p4);
+					if (load8(p37) == 0) {
+						if (load8(p37 + 8) == 1) {
+							n294 = load64u(p37 + 16);
+							n295 = 1;
+							n296 = 1;
+							b297 = true;
 						} else {
-							uint64_t n313;
-							if (load64(p49 + 8) != 0)
-								store64(p49 + 8, 0);
-							uint64_t n303 = load64(p50 + 16);
-							uint64_t n304 = load64(p50 + 64);
-							uint64_t n305 = load64(p50 + 32);
-							byte *p306 = loadptr(p50 + 80);
-							uint64_t n307 = (uint64_t)load32(at(p306, n305 << 3) + 4);
-							bool b308 = n305 != n307;
-							uint64_t n309 = load64(p50 + 104);
-							uint64_t n310 = b308 ? (n307 - n309) : 0;
-							uint64_t n311 = 0;
-							bool b312 = b308;
+							uint64_t n308;
+							if (load64(p46 + 8) != 0)
+								store64(p46 + 8, 0);
+							uint64_t n298 = load64(p47 + 16);
+							uint64_t n299 = load64(p47 + 64);
+							uint64_t n300 = load64(p47 + 32);
+							byte *p301 = loadptr(p47 + 80);
+							uint64_t n302 = (uint64_t)load32(at(p301, n300 << 3) + 4);
+							bool b303 = n300 != n302;
+							uint64_t n304 = load64(p47 + 104);
+							uint64_t n305 = b303 ? (n302 - n304) : 0;
+							uint64_t n306 = 0;
+							bool b307 = b303;
 							for (;;) {
-								if (n311 == n304) {
-									n313 = n304;
+								if (n306 == n299) {
+									n308 = n299;
 									break;
 								}
-								if (!b312) {
-									n313 = n311;
+								if (!b307) {
+									n308 = n306;
 									break;
 								}
-								uint64_t n314 = (uint64_t)load32(at(p306, (n309 + n310) << 3) + 4);
-								n310 = usub_sat64(n314, n309);
-								n311 = n311 + 1;
-								b312 = n309 <= n314;
+								uint64_t n309 = (uint64_t)load32(at(p301, (n304 + n305) << 3) + 4);
+								n305 = usub_sat64(n309, n304);
+								n306 = n306 + 1;
+								b307 = n304 <= n309;
 							}
-							uint8_t n315 = tp_text_push_end(p49, n303, n304 - n313);
-							if ((n315 & 1) != 0) {
-								n299 = 0;
-								n300 = 2;
-								n301 = 1;
-								b302 = true;
+							uint8_t n310 = tp_text_push_end(p46, n298, n299 - n308);
+							if ((n310 & 1) != 0) {
+								n294 = 0;
+								n295 = 2;
+								n296 = 1;
+								b297 = true;
 							} else {
-								byte *p316 = loadptr(p49);
-								uint64_t n317 = load64(p49 + 8);
-								uint64_t n318 = 0;
-								while (n318 < n317) {
-									uint64_t n319 = n317 - n318;
-									uint64_t n320 = os_write(1, at(p316, n318), n319);
-									if ((int64_t)n320 < (int64_t)0) {
-										tp_error_last_error(p38);
+								byte *p311 = loadptr(p46);
+								uint64_t n312 = load64(p46 + 8);
+								uint64_t n313 = 0;
+								while (n313 < n312) {
+									uint64_t n314 = n312 - n313;
+									uint64_t n315 = os_write(1, at(p311, n313), n314);
+									if ((int64_t)n315 < (int64_t)0) {
+										tp_error_last_error(p36);
 										goto L25;
 									}
-									uint64_t n321 = umin64(n320, n319);
-									if (n321 == 0)
+									uint64_t n316 = umin64(n315, n314);
+									if (n316 == 0)
 										goto L25;
-									n318 = n318 + n321;
+									n313 = n313 + n316;
 								}
-								n299 = 0;
-								n300 = 0;
-								n301 = (uint8_t)(load8(p51 + 88) ^ 1);
-								b302 = false;
+								n294 = 0;
+								n295 = 0;
+								n296 = (uint8_t)(load8(p48 + 88) ^ 1);
+								b297 = false;
 								goto L26;
 L25:
 								{
 									store8(p3 + 1, 1);
-									n299 = 0;
-									n300 = 3;
-									n301 = 1;
-									b302 = true;
+									n294 = 0;
+									n295 = 3;
+									n296 = 1;
+									b297 = true;
 								}
 							}
 						}
 					} else {
-						n299 = 0;
-						n300 = 2;
-						n301 = 1;
-						b302 = true;
+						n294 = 0;
+						n295 = 2;
+						n296 = 1;
+						b297 = true;
 					}
 L26:
 					{
-						if (load64u(p51 + 24) != 0)
-							rattle_dealloc(loadptru(p51 + 8));
-						if (load64u(p51 + 48) != 0)
-							rattle_dealloc(loadptru(p51 + 32));
-						if (load64u(p51 + 72) != 0)
-							rattle_dealloc(loadptru(p51 + 56));
-						byte *p322 = loadptru(p50 + 80);
-						uint64_t n323 = load64u(p50 + 96);
-						byte *p324 = loadptru(p50 + 1448);
-						uint64_t n325 = load64u(p50 + 1464);
-						byte *p326 = loadptru(p50 + 1480);
-						uint64_t n327 = load64u(p50 + 1496);
-						if (load64u(p50 + 56) != 0)
-							rattle_dealloc(loadptru(p50 + 40));
-						if (n323 != 0)
-							rattle_dealloc(p322);
-						if (n325 != 0)
-							rattle_dealloc(p324);
-						if (n327 != 0)
-							rattle_dealloc(p326);
-						if (load64u(p50 + 1520) != 0)
-							rattle_dealloc(loadptru(p50 + 1504));
-						if (load64u(p50 + 1544) != 0)
-							rattle_dealloc(loadptru(p50 + 1528));
-						if (load64u(p49 + 16) != 0)
-							rattle_dealloc(loadptru(p49));
-						rattle_dealloc(p254);
-						if (!b302)
-							return n301;
-						n328 = n299;
-						n329 = n300;
+						if (load64u(p48 + 24) != 0)
+							rattle_dealloc(loadptru(p48 + 8));
+						if (load64u(p48 + 48) != 0)
+							rattle_dealloc(loadptru(p48 + 32));
+						if (load64u(p48 + 72) != 0)
+							rattle_dealloc(loadptru(p48 + 56));
+						byte *p317 = loadptru(p47 + 80);
+						uint64_t n318 = load64u(p47 + 96);
+						byte *p319 = loadptru(p47 + 1448);
+						uint64_t n320 = load64u(p47 + 1464);
+						byte *p321 = loadptru(p47 + 1480);
+						uint64_t n322 = load64u(p47 + 1496);
+						if (load64u(p47 + 56) != 0)
+							rattle_dealloc(loadptru(p47 + 40));
+						if (n318 != 0)
+							rattle_dealloc(p317);
+						if (n320 != 0)
+							rattle_dealloc(p319);
+						if (n322 != 0)
+							rattle_dealloc(p321);
+						if (load64u(p47 + 1520) != 0)
+							rattle_dealloc(loadptru(p47 + 1504));
+						if (load64u(p47 + 1544) != 0)
+							rattle_dealloc(loadptru(p47 + 1528));
+						if (load64u(p46 + 16) != 0)
+							rattle_dealloc(loadptru(p46));
+						rattle_dealloc(p249);
+						if (!b297)
+							return n296;
+						n323 = n294;
+						n324 = n295;
 						goto L27;
 					}
 				}
 L22:
 				{
-					if (load64u(p51 + 24) != 0)
-						rattle_dealloc(loadptru(p51 + 8));
-					if (load64u(p51 + 48) != 0)
-						rattle_dealloc(loadptru(p51 + 32));
-					if (load64u(p51 + 72) != 0)
-						rattle_dealloc(loadptru(p51 + 56));
-					byte *p330 = loadptru(p50 + 80);
-					uint64_t n331 = load64u(p50 + 96);
-					byte *p332 = loadptru(p50 + 1448);
-					uint64_t n333 = load64u(p50 + 1464);
-					byte *p334 = loadptru(p50 + 1480);
-					uint64_t n335 = load64u(p50 + 1496);
-					if (load64u(p50 + 56) != 0)
-						rattle_dealloc(loadptru(p50 + 40));
-					if (n331 != 0)
-						rattle_dealloc(p330);
-					if (n333 != 0)
-						rattle_dealloc(p332);
-					if (n335 != 0)
-						rattle_dealloc(p334);
-					if (load64u(p50 + 1520) != 0)
-						rattle_dealloc(loadptru(p50 + 1504));
-					if (load64u(p50 + 1544) != 0)
-						rattle_dealloc(loadptru(p50 + 1528));
-					if (load64u(p49 + 16) != 0)
-						rattle_dealloc(loadptru(p49));
-					rattle_dealloc(p254);
-					n252 = 1;
-					n253 = n259;
+					if (load64u(p48 + 24) != 0)
+						rattle_dealloc(loadptru(p48 + 8));
+					if (load64u(p48 + 48) != 0)
+						rattle_dealloc(loadptru(p48 + 32));
+					if (load64u(p48 + 72) != 0)
+						rattle_dealloc(loadptru(p48 + 56));
+					byte *p325 = loadptru(p47 + 80);
+					uint64_t n326 = load64u(p47 + 96);
+					byte *p327 = loadptru(p47 + 1448);
+					uint64_t n328 = load64u(p47 + 1464);
+					byte *p329 = loadptru(p47 + 1480);
+					uint64_t n330 = load64u(p47 + 1496);
+					if (load64u(p47 + 56) != 0)
+						rattle_dealloc(loadptru(p47 + 40));
+					if (n326 != 0)
+						rattle_dealloc(p325);
+					if (n328 != 0)
+						rattle_dealloc(p327);
+					if (n330 != 0)
+						rattle_dealloc(p329);
+					if (load64u(p47 + 1520) != 0)
+						rattle_dealloc(loadptru(p47 + 1504));
+					if (load64u(p47 + 1544) != 0)
+						rattle_dealloc(loadptru(p47 + 1528));
+					if (load64u(p46 + 16) != 0)
+						rattle_dealloc(loadptru(p46));
+					rattle_dealloc(p249);
+					n247 = 1;
+					n248 = n254;
 					goto L24;
 				}
 L18:
 				{
-					tp_error_last_error(p43);
+					tp_error_last_error(p41);
 					store8(p3, 1);
-					if (load64u(p51 + 24) != 0)
-						rattle_dealloc(loadptru(p51 + 8));
-					if (load64u(p51 + 48) != 0)
-						rattle_dealloc(loadptru(p51 + 32));
-					if (load64u(p51 + 72) != 0)
-						rattle_dealloc(loadptru(p51 + 56));
-					byte *p336 = loadptru(p50 + 80);
-					uint64_t n337 = load64u(p50 + 96);
-					byte *p338 = loadptru(p50 + 1448);
-					uint64_t n339 = load64u(p50 + 1464);
-					byte *p340 = loadptru(p50 + 1480);
-					uint64_t n341 = load64u(p50 + 1496);
-					if (load64u(p50 + 56) != 0)
-						rattle_dealloc(loadptru(p50 + 40));
-					if (n337 != 0)
-						rattle_dealloc(p336);
-					if (n339 != 0)
-						rattle_dealloc(p338);
-					if (n341 != 0)
-						rattle_dealloc(p340);
-					if (load64u(p50 + 1520) != 0)
-						rattle_dealloc(loadptru(p50 + 1504));
-					if (load64u(p50 + 1544) != 0)
-						rattle_dealloc(loadptru(p50 + 1528));
-					if (load64u(p49 + 16) != 0)
-						rattle_dealloc(loadptru(p49));
-					rattle_dealloc(p254);
-					n252 = 0;
-					n253 = 0;
+					if (load64u(p48 + 24) != 0)
+						rattle_dealloc(loadptru(p48 + 8));
+					if (load64u(p48 + 48) != 0)
+						rattle_dealloc(loadptru(p48 + 32));
+					if (load64u(p48 + 72) != 0)
+						rattle_dealloc(loadptru(p48 + 56));
+					byte *p331 = loadptru(p47 + 80);
+					uint64_t n332 = load64u(p47 + 96);
+					byte *p333 = loadptru(p47 + 1448);
+					uint64_t n334 = load64u(p47 + 1464);
+					byte *p335 = loadptru(p47 + 1480);
+					uint64_t n336 = load64u(p47 + 1496);
+					if (load64u(p47 + 56) != 0)
+						rattle_dealloc(loadptru(p47 + 40));
+					if (n332 != 0)
+						rattle_dealloc(p331);
+					if (n334 != 0)
+						rattle_dealloc(p333);
+					if (n336 != 0)
+						rattle_dealloc(p335);
+					if (load64u(p47 + 1520) != 0)
+						rattle_dealloc(loadptru(p47 + 1504));
+					if (load64u(p47 + 1544) != 0)
+						rattle_dealloc(loadptru(p47 + 1528));
+					if (load64u(p46 + 16) != 0)
+						rattle_dealloc(loadptru(p46));
+					rattle_dealloc(p249);
+					n247 = 0;
+					n248 = 0;
 					goto L24;
 				}
 L17:
 				{
-					if (load64u(p51 + 24) != 0)
-						rattle_dealloc(loadptru(p51 + 8));
-					if (load64u(p51 + 48) != 0)
-						rattle_dealloc(loadptru(p51 + 32));
-					if (load64u(p51 + 72) != 0)
-						rattle_dealloc(loadptru(p51 + 56));
-					byte *p342 = loadptru(p50 + 80);
-					uint64_t n343 = load64u(p50 + 96);
-					byte *p344 = loadptru(p50 + 1448);
-					uint64_t n345 = load64u(p50 + 1464);
-					byte *p346 = loadptru(p50 + 1480);
-					uint64_t n347 = load64u(p50 + 1496);
-					if (load64u(p50 + 56) != 0)
-						rattle_dealloc(loadptru(p50 + 40));
-					if (n343 != 0)
-						rattle_dealloc(p342);
-					if (n345 != 0)
-						rattle_dealloc(p344);
-					if (n347 != 0)
-						rattle_dealloc(p346);
-					if (load64u(p50 + 1520) != 0)
-						rattle_dealloc(loadptru(p50 + 1504));
-					if (load64u(p50 + 1544) != 0)
-						rattle_dealloc(loadptru(p50 + 1528));
-					if (load64u(p49 + 16) != 0)
-						rattle_dealloc(loadptru(p49));
-					rattle_dealloc(p254);
-					n252 = 4;
-					n253 = 0;
+					if (load64u(p48 + 24) != 0)
+						rattle_dealloc(loadptru(p48 + 8));
+					if (load64u(p48 + 48) != 0)
+						rattle_dealloc(loadptru(p48 + 32));
+					if (load64u(p48 + 72) != 0)
+						rattle_dealloc(loadptru(p48 + 56));
+					byte *p337 = loadptru(p47 + 80);
+					uint64_t n338 = load64u(p47 + 96);
+					byte *p339 = loadptru(p47 + 1448);
+					uint64_t n340 = load64u(p47 + 1464);
+					byte *p341 = loadptru(p47 + 1480);
+					uint64_t n342 = load64u(p47 + 1496);
+					if (load64u(p47 + 56) != 0)
+						rattle_dealloc(loadptru(p47 + 40));
+					if (n338 != 0)
+						rattle_dealloc(p337);
+					if (n340 != 0)
+						rattle_dealloc(p339);
+					if (n342 != 0)
+						rattle_dealloc(p341);
+					if (load64u(p47 + 1520) != 0)
+						rattle_dealloc(loadptru(p47 + 1504));
+					if (load64u(p47 + 1544) != 0)
+						rattle_dealloc(loadptru(p47 + 1528));
+					if (load64u(p46 + 16) != 0)
+						rattle_dealloc(loadptru(p46));
+					rattle_dealloc(p249);
+					n247 = 4;
+					n248 = 0;
 				}
 			}
 L24:
 			{
-				n328 = n253;
-				n329 = n252;
+				n323 = n248;
+				n324 = n247;
 			}
 L27:
 			{
-				tp_timer_commands_error_report_report_2(n329, n328, p4);
+				tp_timer_commands_error_report_report_2(n324, n323, p4);
 				return 1;
 			}
 		}
-		memcpy(p29, p2, 16);
-		memcpy(p30, p2 + 24, 16);
-		memcpy(p31, p2 + 64, 16);
-		memcpy(p32, p2 + 104, 288);
-		memcpy(p33, p2 + 392, 1056);
-		memset(p34, 0, 24);
-		memset(p35, 0, 1552);
-		memset(p36, 0, 96);
-		memset(p37, 0, 24);
-		of_i64_i64 s348 = rattle_alloc(16384, 1);
-		if ((s348.f0 & 1) == 0) {
-			if (n79 != 0)
-				rattle_dealloc(p77);
-			if (n82 != 0)
-				rattle_dealloc(p80);
-			if (n85 == 0) {
-				n349 = 2;
-				n350 = 0;
+		memcpy(p28, p2, 40);
+		memcpy(p29, p2 + 64, 16);
+		memcpy(p30, p2 + 104, 288);
+		memcpy(p31, p2 + 392, 1056);
+		memset(p32, 0, 24);
+		memset(p33, 0, 1552);
+		memset(p34, 0, 96);
+		memset(p35, 0, 24);
+		of_i64_i64 s343 = rattle_alloc(16384, 1);
+		if ((s343.f0 & 1) == 0) {
+			if (n74 != 0)
+				rattle_dealloc(p72);
+			if (n77 != 0)
+				rattle_dealloc(p75);
+			if (n80 == 0) {
+				n344 = 2;
+				n345 = 0;
 			} else {
-				rattle_dealloc(p83);
-				n349 = 2;
-				n350 = 0;
+				rattle_dealloc(p78);
+				n344 = 2;
+				n345 = 0;
 			}
 		} else {
-			uint64_t n356, n375, n377, n379;
-			uint8_t n372;
-			byte *p374, *p376, *p378;
-			byte *p351 = (byte *)(uintptr_t)s348.f1;
-			uint64_t n352 = 0;
-			while (n352 != 16383) {
-				store8(inside(p351, n352), 0);
-				n352 = n352 + 1;
+			uint64_t n351, n370, n372, n374;
+			uint8_t n367;
+			byte *p369, *p371, *p373;
+			byte *p346 = (byte *)(uintptr_t)s343.f1;
+			uint64_t n347 = 0;
+			while (n347 != 16383) {
+				store8(inside(p346, n347), 0);
+				n347 = n347 + 1;
 			}
-			store8(p351 + 16383, 0);
-			storeptru(p34, p5);
-			memset(p34 + 8, 0, 16);
-			memcpy(p35, p29, 16);
-			store64u(p35 + 16, n76);
-			memcpy(p35 + 24, p30, 16);
-			storeptru(p35 + 40, p77);
-			store64u(p35 + 48, n78);
-			store64u(p35 + 56, n79);
-			memcpy(p35 + 64, p31, 16);
-			storeptru(p35 + 80, p80);
-			store64u(p35 + 88, n81);
-			store64u(p35 + 96, n82);
-			memcpy(p35 + 104, p32, 288);
-			memcpy(p35 + 392, p33, 1056);
-			storeptru(p35 + 1448, p83);
-			store64u(p35 + 1456, n84);
-			store64u(p35 + 1464, n85);
-			store64u(p35 + 1472, n86);
-			storeptru(p35 + 1480, p5);
-			memset(p35 + 1488, 0, 16);
-			storeptru(p35 + 1504, p5);
-			memset(p35 + 1512, 0, 16);
-			storeptru(p35 + 1528, p5);
-			memset(p35 + 1536, 0, 16);
-			store8(p36, n64);
-			memset(p36 + 1, 0, 7);
-			storeptru(p36 + 8, p5);
-			memset(p36 + 16, 0, 16);
-			storeptru(p36 + 32, p5);
-			memset(p36 + 40, 0, 16);
-			storeptru(p36 + 56, p5);
-			memset(p36 + 64, 0, 16);
-			store64u(p36 + 80, 1);
-			store8(p36 + 88, 1);
-			memset(p36 + 89, 0, 7);
-			uint64_t n353 = 0;
+			store8(p346 + 16383, 0);
+			storeptru(p32, p5);
+			memset(p32 + 8, 0, 16);
+			memcpy(p33, p28, 40);
+			storeptru(p33 + 40, p72);
+			store64u(p33 + 48, n73);
+			store64u(p33 + 56, n74);
+			memcpy(p33 + 64, p29, 16);
+			storeptru(p33 + 80, p75);
+			store64u(p33 + 88, n76);
+			store64u(p33 + 96, n77);
+			memcpy(p33 + 104, p30, 288);
+			memcpy(p33 + 392, p31, 1056);
+			storeptru(p33 + 1448, p78);
+			store64u(p33 + 1456, n79);
+			store64u(p33 + 1464, n80);
+			store64u(p33 + 1472, n81);
+			storeptru(p33 + 1480, p5);
+			memset(p33 + 1488, 0, 16);
+			storeptru(p33 + 1504, p5);
+			memset(p33 + 1512, 0, 16);
+			storeptru(p33 + 1528, p5);
+			memset(p33 + 1536, 0, 16);
+			store8(p34, n60);
+			memset(p34 + 1, 0, 7);
+			storeptru(p34 + 8, p5);
+			memset(p34 + 16, 0, 16);
+			storeptru(p34 + 32, p5);
+			memset(p34 + 40, 0, 16);
+			storeptru(p34 + 56, p5);
+			memset(p34 + 64, 0, 16);
+			store64u(p34 + 80, 1);
+			store8(p34 + 88, 1);
+			memset(p34 + 89, 0, 7);
+			uint64_t n348 = 0;
 			for (;;) {
-				if (n353 == UINT64_MAX)
+				if (n348 == UINT64_MAX)
 					goto L28;
-				uint64_t n354 = os_read(0, p351, 16384);
-				if ((int64_t)n354 < (int64_t)0)
+				uint64_t n349 = os_read(0, p346, 16384);
+				if ((int64_t)n349 < (int64_t)0)
 					goto L29;
-				tp_Cutter_take_in(p37, p36, p351, umin64(n354, 16384), p4);
-				if (load8(p37) != 0)
+				tp_Cutter_take_in(p35, p34, p346, umin64(n349, 16384), p4);
+				if (load8(p35) != 0)
 					break;
-				uint8_t n355 = load8(p37 + 8);
-				n356 = load64u(p37 + 16);
-				byte *p357 = loadptr(p36 + 8);
-				uint64_t n358 = load64(p36 + 16);
-				if (load64(p34 + 8) != 0)
-					store64(p34 + 8, 0);
-				uint64_t n359 = 0;
-				while (n359 != n358) {
-					byte *p360 = at(p357, n359 * 48);
-					uint64_t n361 = load64u(p360 + 8);
-					uint64_t n362 = load64u(p360 + 16);
-					uint64_t n363 = load64u(p360 + 24);
-					uint64_t n364 = load64u(p360 + 32);
-					uint64_t n365 = load64u(p360 + 40);
-					store64u(p27, (uint64_t)load8(p360));
-					store64(p27 + 8, n361);
-					store64(p27 + 16, n362);
-					store64(p27 + 24, n363);
-					store64(p27 + 32, n364);
-					store64(p27 + 40, n365);
-					uint8_t n366 = tp_Session_play_one(p35, p27, p34);
-					if ((n366 & 1) != 0)
+				uint8_t n350 = load8(p35 + 8);
+				n351 = load64u(p35 + 16);
+				byte *p352 = loadptr(p34 + 8);
+				uint64_t n353 = load64(p34 + 16);
+				if (load64(p32 + 8) != 0)
+					store64(p32 + 8, 0);
+				uint64_t n354 = 0;
+				while (n354 != n353) {
+					byte *p355 = at(p352, n354 * 48);
+					uint64_t n356 = load64u(p355 + 8);
+					uint64_t n357 = load64u(p355 + 16);
+					uint64_t n358 = load64u(p355 + 24);
+					uint64_t n359 = load64u(p355 + 32);
+					uint64_t n360 = load64u(p355 + 40);
+					store64u(p26, (uint64_t)load8(p355));
+					store64(p26 + 8, n356);
+					store64(p26 + 16, n357);
+					store64(p26 + 24, n358);
+					store64(p26 + 32, n359);
+					store64(p26 + 40, n360);
+					uint8_t n361 = tp_Session_play_one(p33, p26, p32);
+					if ((n361 & 1) != 0)
 						goto L30;
-					n359 = n359 + 1;
+					n354 = n354 + 1;
 				}
-				byte *p367 = loadptr(p34);
-				uint64_t n368 = load64(p34 + 8);
-				uint64_t n369 = 0;
-				while (n369 < n368) {
-					uint64_t n370 = n368 - n369;
-					uint64_t n371 = os_write(1, at(p367, n369), n370);
-					if ((int64_t)n371 < (int64_t)0) {
-						tp_error_last_error(p25);
+				byte *p362 = loadptr(p32);
+				uint64_t n363 = load64(p32 + 8);
+				uint64_t n364 = 0;
+				while (n364 < n363) {
+					uint64_t n365 = n363 - n364;
+					uint64_t n366 = os_write(1, at(p362, n364), n365);
+					if ((int64_t)n366 < (int64_t)0) {
+						tp_error_last_error(p24);
 						store8(p3 + 1, 1);
-						n372 = 3;
+						n367 = 3;
 						goto L31;
 					}
-					uint64_t n373 = umin64(n371, n370);
-					if (n373 == 0) {
+					uint64_t n368 = umin64(n366, n365);
+					if (n368 == 0) {
 						store8(p3 + 1, 1);
-						n372 = 3;
+						n367 = 3;
 						goto L31;
 					}
-					n369 = n369 + n373;
+					n364 = n364 + n368;
 				}
-				if (n355 == 1)
+				if (n350 == 1)
 					goto L32;
-				if (n354 == 0)
+				if (n349 == 0)
 					goto L33;
-				n353 = n353 + 1;
+				n348 = n348 + 1;
 			}
-			if (load64u(p36 + 24) != 0)
-				rattle_dealloc(loadptru(p36 + 8));
-			if (load64u(p36 + 48) != 0)
-				rattle_dealloc(loadptru(p36 + 32));
-			if (load64u(p36 + 72) != 0)
-				rattle_dealloc(loadptru(p36 + 56));
-			p374 = loadptru(p35 + 80);
-			n375 = load64u(p35 + 96);
-			p376 = loadptru(p35 + 1448);
-			n377 = load64u(p35 + 1464);
-			p378 = loadptru(p35 + 1480);
-			n379 = load64u(p35 + 1496);
-			if (load64u(p35 + 56) != 0)
-				rattle_dealloc(loadptru(p35 + 40));
-			if (n375 != 0)
-				rattle_dealloc(p374);
-			if (n377 != 0)
-				rattle_dealloc(p376);
-			if (n379 != 0)
-				rattle_dealloc(p378);
-			if (load64u(p35 + 1520) != 0)
-				rattle_dealloc(loadptru(p35 + 1504));
-			if (load64u(p35 + 1544) != 0)
-				rattle_dealloc(loadptru(p35 + 1528));
-			if (load64u(p34 + 16) != 0)
-				rattle_dealloc(loadptru(p34));
-			rattle_dealloc(p351);
-			n349 = 2;
-			n350 = 0;
+			if (load64u(p34 + 24) != 0)
+				rattle_dealloc(loadptru(p34 + 8));
+			if (load64u(p34 + 48) != 0)
+				rattle_dealloc(loadptru(p34 + 32));
+			if (load64u(p34 + 72) != 0)
+				rattle_dealloc(loadptru(p34 + 56));
+			p369 = loadptru(p33 + 80);
+			n370 = load64u(p33 + 96);
+			p371 = loadptru(p33 + 1448);
+			n372 = load64u(p33 + 1464);
+			p373 = loadptru(p33 + 1480);
+			n374 = load64u(p33 + 1496);
+			if (load64u(p33 + 56) != 0)
+				rattle_dealloc(loadptru(p33 + 40));
+			if (n370 != 0)
+				rattle_dealloc(p369);
+			if (n372 != 0)
+				rattle_dealloc(p371);
+			if (n374 != 0)
+				rattle_dealloc(p373);
+			if (load64u(p33 + 1520) != 0)
+				rattle_dealloc(loadptru(p33 + 1504));
+			if (load64u(p33 + 1544) != 0)
+				rattle_dealloc(loadptru(p33 + 1528));
+			if (load64u(p32 + 16) != 0)
+				rattle_dealloc(loadptru(p32));
+			rattle_dealloc(p346);
+			n344 = 2;
+			n345 = 0;
 			goto L34;
 L30:
 			{
-				byte *p380 = loadptr(p34);
-				uint64_t n381 = load64(p34 + 8);
-				uint64_t n382 = 0;
+				byte *p375 = loadptr(p32);
+				uint64_t n376 = load64(p32 + 8);
+				uint64_t n377 = 0;
 				for (;;) {
-					if (n382 >= n381) {
-						n372 = 2;
+					if (n377 >= n376) {
+						n367 = 2;
 						goto L31;
 					}
-					uint64_t n383 = n381 - n382;
-					uint64_t n384 = os_write(1, at(p380, n382), n383);
-					if ((int64_t)n384 < (int64_t)0) {
-						tp_error_last_error(p26);
+					uint64_t n378 = n376 - n377;
+					uint64_t n379 = os_write(1, at(p375, n377), n378);
+					if ((int64_t)n379 < (int64_t)0) {
+						tp_error_last_error(p25);
 						store8(p3 + 1, 1);
-						n372 = 3;
+						n367 = 3;
 						goto L31;
 					}
-					uint64_t n385 = umin64(n384, n383);
-					if (n385 == 0) {
+					uint64_t n380 = umin64(n379, n378);
+					if (n380 == 0) {
 						store8(p3 + 1, 1);
-						n372 = 3;
+						n367 = 3;
 						goto L31;
 					}
-					n382 = n382 + n385;
+					n377 = n377 + n380;
 				}
 			}
 L33:
 			{
-				uint64_t n386;
-				uint8_t n387, n388;
-				bool b389;
-				memset(p24, 0, 24);
-				tp_Cutter_end(p24, p36, p4);
-				if (load8(p24) == 0) {
-					if (load8(p24 + 8) == 1) {
-						n386 = load64u(p24 + 16);
-						n387 = 1;
-						n388 = 1;
-						b389 = true;
+				uint64_t n381;
+				uint8_t n382, n383;
+				bool b384;
+				memset(p23, 0, 24);
+				tp_Cutter_end(p23, p34, p4);
+				if (load8(p23) == 0) {
+					if (load8(p23 + 8) == 1) {
+						n381 = load64u(p23 + 16);
+						n382 = 1;
+						n383 = 1;
+						b384 = true;
 					} else {
-						uint64_t n400;
-						if (load64(p34 + 8) != 0)
-							store64(p34 + 8, 0);
-						uint64_t n390 = load64(p35 + 16);
-						uint64_t n391 = load64(p35 + 64);
-						uint64_t n392 = load64(p35 + 32);
-						byte *p393 = loadptr(p35 + 80);
-						uint64_t n394 = (uint64_t)load32(at(p393, n392 << 3) + 4);
-						bool b395 = n392 != n394;
-						uint64_t n396 = load64(p35 + 104);
-						uint64_t n397 = b395 ? (n394 - n396) : 0;
-						uint64_t n398 = 0;
-						bool b399 = b395;
+						uint64_t n395;
+						if (load64(p32 + 8) != 0)
+							store64(p32 + 8, 0);
+						uint64_t n385 = load64(p33 + 16);
+						uint64_t n386 = load64(p33 + 64);
+						uint64_t n387 = load64(p33 + 32);
+						byte *p388 = loadptr(p33 + 80);
+						uint64_t n389 = (uint64_t)load32(at(p388, n387 << 3) + 4);
+						bool b390 = n387 != n389;
+						uint64_t n391 = load64(p33 + 104);
+						uint64_t n392 = b390 ? (n389 - n391) : 0;
+						uint64_t n393 = 0;
+						bool b394 = b390;
 						for (;;) {
-							if (n398 == n391) {
-								n400 = n391;
+							if (n393 == n386) {
+								n395 = n386;
 								break;
 							}
-							if (!b399) {
-								n400 = n398;
+							if (!b394) {
+								n395 = n393;
 								break;
 							}
-							uint64_t n401 = (uint64_t)load32(at(p393, (n396 + n397) << 3) + 4);
-							n397 = usub_sat64(n401, n396);
-							n398 = n398 + 1;
-							b399 = n396 <= n401;
+							uint64_t n396 = (uint64_t)load32(at(p388, (n391 + n392) << 3) + 4);
+							n392 = usub_sat64(n396, n391);
+							n393 = n393 + 1;
+							b394 = n391 <= n396;
 						}
-						uint8_t n402 = tp_text_push_end(p34, n390, n391 - n400);
-						if ((n402 & 1) != 0) {
-							n386 = 0;
-							n387 = 2;
-							n388 = 1;
-							b389 = true;
+						uint8_t n397 = tp_text_push_end(p32, n385, n386 - n395);
+						if ((n397 & 1) != 0) {
+							n381 = 0;
+							n382 = 2;
+							n383 = 1;
+							b384 = true;
 						} else {
-							byte *p403 = loadptr(p34);
-							uint64_t n404 = load64(p34 + 8);
-							uint64_t n405 = 0;
-							while (n405 < n404) {
-								uint64_t n406 = n404 - n405;
-								uint64_t n407 = os_write(1, at(p403, n405), n406);
-								if ((int64_t)n407 < (int64_t)0) {
-									tp_error_last_error(p23);
+							byte *p398 = loadptr(p32);
+							uint64_t n399 = load64(p32 + 8);
+							uint64_t n400 = 0;
+							while (n400 < n399) {
+								uint64_t n401 = n399 - n400;
+								uint64_t n402 = os_write(1, at(p398, n400), n401);
+								if ((int64_t)n402 < (int64_t)0) {
+									tp_error_last_error(p22);
 									goto L35;
 								}
-								uint64_t n408 = umin64(n407, n406);
-								if (n408 == 0)
+								uint64_t n403 = umin64(n402, n401);
+								if (n403 == 0)
 									goto L35;
-								n405 = n405 + n408;
+								n400 = n400 + n403;
 							}
-							n386 = 0;
-							n387 = 0;
-							n388 = (uint8_t)(load8(p36 + 88) ^ 1);
-							b389 = false;
+							n381 = 0;
+							n382 = 0;
+							n383 = (uint8_t)(load8(p34 + 88) ^ 1);
+							b384 = false;
 							goto L36;
 L35:
 							{
 								store8(p3 + 1, 1);
-								n386 = 0;
-								n387 = 3;
-								n388 = 1;
-								b389 = true;
+								n381 = 0;
+								n382 = 3;
+								n383 = 1;
+								b384 = true;
 							}
 						}
 					}
 				} else {
-					n386 = 0;
-					n387 = 2;
-					n388 = 1;
-					b389 = true;
+					n381 = 0;
+					n382 = 2;
+					n383 = 1;
+					b384 = true;
 				}
 L36:
 				{
-					if (load64u(p36 + 24) != 0)
-						rattle_dealloc(loadptru(p36 + 8));
-					if (load64u(p36 + 48) != 0)
-						rattle_dealloc(loadptru(p36 + 32));
-					if (load64u(p36 + 72) != 0)
-						rattle_dealloc(loadptru(p36 + 56));
-					byte *p409 = loadptru(p35 + 80);
-					uint64_t n410 = load64u(p35 + 96);
-					byte *p411 = loadptru(p35 + 1448);
-					uint64_t n412 = load64u(p35 + 1464);
-					byte *p413 = loadptru(p35 + 1480);
-					uint64_t n414 = load64u(p35 + 1496);
-					if (load64u(p35 + 56) != 0)
-						rattle_dealloc(loadptru(p35 + 40));
-					if (n410 != 0)
-						rattle_dealloc(p409);
-					if (n412 != 0)
-						rattle_dealloc(p411);
-					if (n414 != 0)
-						rattle_dealloc(p413);
-					if (load64u(p35 + 1520) != 0)
-						rattle_dealloc(loadptru(p35 + 1504));
-					if (load64u(p35 + 1544) != 0)
-						rattle_dealloc(loadptru(p35 + 1528));
-					if (load64u(p34 + 16) != 0)
-						rattle_dealloc(loadptru(p34));
-					rattle_dealloc(p351);
-					if (!b389)
-						return n388;
-					n415 = n386;
-					n416 = n387;
+					if (load64u(p34 + 24) != 0)
+						rattle_dealloc(loadptru(p34 + 8));
+					if (load64u(p34 + 48) != 0)
+						rattle_dealloc(loadptru(p34 + 32));
+					if (load64u(p34 + 72) != 0)
+						rattle_dealloc(loadptru(p34 + 56));
+					byte *p404 = loadptru(p33 + 80);
+					uint64_t n405 = load64u(p33 + 96);
+					byte *p406 = loadptru(p33 + 1448);
+					uint64_t n407 = load64u(p33 + 1464);
+					byte *p408 = loadptru(p33 + 1480);
+					uint64_t n409 = load64u(p33 + 1496);
+					if (load64u(p33 + 56) != 0)
+						rattle_dealloc(loadptru(p33 + 40));
+					if (n405 != 0)
+						rattle_dealloc(p404);
+					if (n407 != 0)
+						rattle_dealloc(p406);
+					if (n409 != 0)
+						rattle_dealloc(p408);
+					if (load64u(p33 + 1520) != 0)
+						rattle_dealloc(loadptru(p33 + 1504));
+					if (load64u(p33 + 1544) != 0)
+						rattle_dealloc(loadptru(p33 + 1528));
+					if (load64u(p32 + 16) != 0)
+						rattle_dealloc(loadptru(p32));
+					rattle_dealloc(p346);
+					if (!b384)
+						return n383;
+					n410 = n381;
+					n411 = n382;
 					goto L37;
 				}
 			}
 L32:
 			{
-				if (load64u(p36 + 24) != 0)
-					rattle_dealloc(loadptru(p36 + 8));
-				if (load64u(p36 + 48) != 0)
-					rattle_dealloc(loadptru(p36 + 32));
-				if (load64u(p36 + 72) != 0)
-					rattle_dealloc(loadptru(p36 + 56));
-				byte *p417 = loadptru(p35 + 80);
-				uint64_t n418 = load64u(p35 + 96);
-				byte *p419 = loadptru(p35 + 1448);
-				uint64_t n420 = load64u(p35 + 1464);
-				byte *p421 = loadptru(p35 + 1480);
-				uint64_t n422 = load64u(p35 + 1496);
-				if (load64u(p35 + 56) != 0)
-					rattle_dealloc(loadptru(p35 + 40));
-				if (n418 != 0)
-					rattle_dealloc(p417);
-				if (n420 != 0)
-					rattle_dealloc(p419);
-				if (n422 != 0)
-					rattle_dealloc(p421);
-				if (load64u(p35 + 1520) != 0)
-					rattle_dealloc(loadptru(p35 + 1504));
-				if (load64u(p35 + 1544) != 0)
-					rattle_dealloc(loadptru(p35 + 1528));
-				if (load64u(p34 + 16) != 0)
-					rattle_dealloc(loadptru(p34));
-				rattle_dealloc(p351);
-				n349 = 1;
-				n350 = n356;
+				if (load64u(p34 + 24) != 0)
+					rattle_dealloc(loadptru(p34 + 8));
+				if (load64u(p34 + 48) != 0)
+					rattle_dealloc(loadptru(p34 + 32));
+				if (load64u(p34 + 72) != 0)
+					rattle_dealloc(loadptru(p34 + 56));
+				byte *p412 = loadptru(p33 + 80);
+				uint64_t n413 = load64u(p33 + 96);
+				byte *p414 = loadptru(p33 + 1448);
+				uint64_t n415 = load64u(p33 + 1464);
+				byte *p416 = loadptru(p33 + 1480);
+				uint64_t n417 = load64u(p33 + 1496);
+				if (load64u(p33 + 56) != 0)
+					rattle_dealloc(loadptru(p33 + 40));
+				if (n413 != 0)
+					rattle_dealloc(p412);
+				if (n415 != 0)
+					rattle_dealloc(p414);
+				if (n417 != 0)
+					rattle_dealloc(p416);
+				if (load64u(p33 + 1520) != 0)
+					rattle_dealloc(loadptru(p33 + 1504));
+				if (load64u(p33 + 1544) != 0)
+					rattle_dealloc(loadptru(p33 + 1528));
+				if (load64u(p32 + 16) != 0)
+					rattle_dealloc(loadptru(p32));
+				rattle_dealloc(p346);
+				n344 = 1;
+				n345 = n351;
 				goto L34;
 			}
 L31:
 			{
-				if (load64u(p36 + 24) != 0)
-					rattle_dealloc(loadptru(p36 + 8));
-				if (load64u(p36 + 48) != 0)
-					rattle_dealloc(loadptru(p36 + 32));
-				if (load64u(p36 + 72) != 0)
-					rattle_dealloc(loadptru(p36 + 56));
-				byte *p423 = loadptru(p35 + 80);
-				uint64_t n424 = load64u(p35 + 96);
-				byte *p425 = loadptru(p35 + 1448);
-				uint64_t n426 = load64u(p35 + 1464);
-				byte *p427 = loadptru(p35 + 1480);
-				uint64_t n428 = load64u(p35 + 1496);
-				if (load64u(p35 + 56) != 0)
-					rattle_dealloc(loadptru(p35 + 40));
-				if (n424 != 0)
-					rattle_dealloc(p423);
-				if (n426 != 0)
-					rattle_dealloc(p425);
-				if (n428 != 0)
-					rattle_dealloc(p427);
-				if (load64u(p35 + 1520) != 0)
-					rattle_dealloc(loadptru(p35 + 1504));
-				if (load64u(p35 + 1544) != 0)
-					rattle_dealloc(loadptru(p35 + 1528));
-				if (load64u(p34 + 16) != 0)
-					rattle_dealloc(loadptru(p34));
-				rattle_dealloc(p351);
-				n349 = n372;
-				n350 = 0;
+				if (load64u(p34 + 24) != 0)
+					rattle_dealloc(loadptru(p34 + 8));
+				if (load64u(p34 + 48) != 0)
+					rattle_dealloc(loadptru(p34 + 32));
+				if (load64u(p34 + 72) != 0)
+					rattle_dealloc(loadptru(p34 + 56));
+				byte *p418 = loadptru(p33 + 80);
+				uint64_t n419 = load64u(p33 + 96);
+				byte *p420 = loadptru(p33 + 1448);
+				uint64_t n421 = load64u(p33 + 1464);
+				byte *p422 = loadptru(p33 + 1480);
+				uint64_t n423 = load64u(p33 + 1496);
+				if (load64u(p33 + 56) != 0)
+					rattle_dealloc(loadptru(p33 + 40));
+				if (n419 != 0)
+					rattle_dealloc(p418);
+				if (n421 != 0)
+					rattle_dealloc(p420);
+				if (n423 != 0)
+					rattle_dealloc(p422);
+				if (load64u(p33 + 1520) != 0)
+					rattle_dealloc(loadptru(p33 + 1504));
+				if (load64u(p33 + 1544) != 0)
+					rattle_dealloc(loadptru(p33 + 1528));
+				if (load64u(p32 + 16) != 0)
+					rattle_dealloc(loadptru(p32));
+				rattle_dealloc(p346);
+				n344 = n367;
+				n345 = 0;
 				goto L34;
 			}
 L29:
 			{
-				tp_error_last_error(p28);
+				tp_error_last_error(p27);
 				store8(p3, 1);
-				if (load64u(p36 + 24) != 0)
-					rattle_dealloc(loadptru(p36 + 8));
-				if (load64u(p36 + 48) != 0)
-					rattle_dealloc(loadptru(p36 + 32));
-				if (load64u(p36 + 72) != 0)
-					rattle_dealloc(loadptru(p36 + 56));
-				byte *p429 = loadptru(p35 + 80);
-				uint64_t n430 = load64u(p35 + 96);
-				byte *p431 = loadptru(p35 + 1448);
-				uint64_t n432 = load64u(p35 + 1464);
-				byte *p433 = loadptru(p35 + 1480);
-				uint64_t n434 = load64u(p35 + 1496);
-				if (load64u(p35 + 56) != 0)
-					rattle_dealloc(loadptru(p35 + 40));
-				if (n430 != 0)
-					rattle_dealloc(p429);
-				if (n432 != 0)
-					rattle_dealloc(p431);
-				if (n434 != 0)
-					rattle_dealloc(p433);
-				if (load64u(p35 + 1520) != 0)
-					rattle_dealloc(loadptru(p35 + 1504));
-				if (load64u(p35 + 1544) != 0)
-					rattle_dealloc(loadptru(p35 + 1528));
-				if (load64u(p34 + 16) != 0)
-					rattle_dealloc(loadptru(p34));
-				rattle_dealloc(p351);
-				n349 = 0;
-				n350 = 0;
+				if (load64u(p34 + 24) != 0)
+					rattle_dealloc(loadptru(p34 + 8));
+				if (load64u(p34 + 48) != 0)
+					rattle_dealloc(loadptru(p34 + 32));
+				if (load64u(p34 + 72) != 0)
+					rattle_dealloc(loadptru(p34 + 56));
+				byte *p424 = loadptru(p33 + 80);
+				uint64_t n425 = load64u(p33 + 96);
+				byte *p426 = loadptru(p33 + 1448);
+				uint64_t n427 = load64u(p33 + 1464);
+				byte *p428 = loadptru(p33 + 1480);
+				uint64_t n429 = load64u(p33 + 1496);
+				if (load64u(p33 + 56) != 0)
+					rattle_dealloc(loadptru(p33 + 40));
+				if (n425 != 0)
+					rattle_dealloc(p424);
+				if (n427 != 0)
+					rattle_dealloc(p426);
+				if (n429 != 0)
+					rattle_dealloc(p428);
+				if (load64u(p33 + 1520) != 0)
+					rattle_dealloc(loadptru(p33 + 1504));
+				if (load64u(p33 + 1544) != 0)
+					rattle_dealloc(loadptru(p33 + 1528));
+				if (load64u(p32 + 16) != 0)
+					rattle_dealloc(loadptru(p32));
+				rattle_dealloc(p346);
+				n344 = 0;
+				n345 = 0;
 				goto L34;
 			}
 L28:
 			{
-				if (load64u(p36 + 24) != 0)
-					rattle_dealloc(loadptru(p36 + 8));
-				if (load64u(p36 + 48) != 0)
-					rattle_dealloc(loadptru(p36 + 32));
-				if (load64u(p36 + 72) != 0)
-					rattle_dealloc(loadptru(p36 + 56));
-				byte *p435 = loadptru(p35 + 80);
-				uint64_t n436 = load64u(p35 + 96);
-				byte *p437 = loadptru(p35 + 1448);
-				uint64_t n438 = load64u(p35 + 1464);
-				byte *p439 = loadptru(p35 + 1480);
-				uint64_t n440 = load64u(p35 + 1496);
-				if (load64u(p35 + 56) != 0)
-					rattle_dealloc(loadptru(p35 + 40));
-				if (n436 != 0)
-					rattle_dealloc(p435);
-				if (n438 != 0)
-					rattle_dealloc(p437);
-				if (n440 != 0)
-					rattle_dealloc(p439);
-				if (load64u(p35 + 1520) != 0)
-					rattle_dealloc(loadptru(p35 + 1504));
-				if (load64u(p35 + 1544) != 0)
-					rattle_dealloc(loadptru(p35 + 1528));
-				if (load64u(p34 + 16) != 0)
-					rattle_dealloc(loadptru(p34));
-				rattle_dealloc(p351);
-				n349 = 4;
-				n350 = 0;
+				if (load64u(p34 + 24) != 0)
+					rattle_dealloc(loadptru(p34 + 8));
+				if (load64u(p34 + 48) != 0)
+					rattle_dealloc(loadptru(p34 + 32));
+				if (load64u(p34 + 72) != 0)
+					rattle_dealloc(loadptru(p34 + 56));
+				byte *p430 = loadptru(p33 + 80);
+				uint64_t n431 = load64u(p33 + 96);
+				byte *p432 = loadptru(p33 + 1448);
+				uint64_t n433 = load64u(p33 + 1464);
+				byte *p434 = loadptru(p33 + 1480);
+				uint64_t n435 = load64u(p33 + 1496);
+				if (load64u(p33 + 56) != 0)
+					rattle_dealloc(loadptru(p33 + 40));
+				if (n431 != 0)
+					rattle_dealloc(p430);
+				if (n433 != 0)
+					rattle_dealloc(p432);
+				if (n435 != 0)
+					rattle_dealloc(p434);
+				if (load64u(p33 + 1520) != 0)
+					rattle_dealloc(loadptru(p33 + 1504));
+				if (load64u(p33 + 1544) != 0)
+					rattle_dealloc(loadptru(p33 + 1528));
+				if (load64u(p32 + 16) != 0)
+					rattle_dealloc(loadptru(p32));
+				rattle_dealloc(p346);
+				n344 = 4;
+				n345 = 0;
 			}
 		}
 L34:
 		{
-			n415 = n350;
-			n416 = n349;
+			n410 = n345;
+			n411 = n344;
 		}
 L37:
 		{
-			tp_timer_commands_error_report_report_2(n416, n415, p4);
+			tp_timer_commands_error_report_report_2(n411, n410, p4);
 			return 1;
 		}
 	}
 	case 2: {
-		uint8_t n442, n539;
-		uint64_t n443, n538;
-		memcpy(p14, p2, 16);
-		memcpy(p15, p2 + 24, 16);
-		memcpy(p16, p2 + 64, 16);
-		memcpy(p17, p2 + 104, 288);
-		memcpy(p18, p2 + 392, 1056);
-		memset(p19, 0, 24);
-		memset(p20, 0, 1552);
-		memset(p21, 0, 96);
-		memset(p22, 0, 24);
-		of_i64_i64 s441 = rattle_alloc(16384, 1);
-		if ((s441.f0 & 1) == 0) {
-			if (n79 != 0)
-				rattle_dealloc(p77);
-			if (n82 != 0)
-				rattle_dealloc(p80);
-			if (n85 == 0) {
-				n442 = 2;
-				n443 = 0;
+		uint8_t n437, n534;
+		uint64_t n438, n533;
+		memcpy(p14, p2, 40);
+		memcpy(p15, p2 + 64, 16);
+		memcpy(p16, p2 + 104, 288);
+		memcpy(p17, p2 + 392, 1056);
+		memset(p18, 0, 24);
+		memset(p19, 0, 1552);
+		memset(p20, 0, 96);
+		memset(p21, 0, 24);
+		of_i64_i64 s436 = rattle_alloc(16384, 1);
+		if ((s436.f0 & 1) == 0) {
+			if (n74 != 0)
+				rattle_dealloc(p72);
+			if (n77 != 0)
+				rattle_dealloc(p75);
+			if (n80 == 0) {
+				n437 = 2;
+				n438 = 0;
 			} else {
-				rattle_dealloc(p83);
-				n442 = 2;
-				n443 = 0;
+				rattle_dealloc(p78);
+				n437 = 2;
+				n438 = 0;
 			}
 		} else {
-			uint64_t n449, n469, n470, n492, n494, n496;
-			uint8_t n489;
-			byte *p491, *p493, *p495;
-			byte *p444 = (byte *)(uintptr_t)s441.f1;
-			uint64_t n445 = 0;
-			while (n445 != 16383) {
-				store8(inside(p444, n445), 0);
-				n445 = n445 + 1;
+			uint64_t n444, n464, n465, n487, n489, n491;
+			uint8_t n484;
+			byte *p486, *p488, *p490;
+			byte *p439 = (byte *)(uintptr_t)s436.f1;
+			uint64_t n440 = 0;
+			while (n440 != 16383) {
+				store8(inside(p439, n440), 0);
+				n440 = n440 + 1;
 			}
-			store8(p444 + 16383, 0);
-			storeptru(p19, p5);
-			memset(p19 + 8, 0, 16);
-			memcpy(p20, p14, 16);
-			store64u(p20 + 16, n76);
-			memcpy(p20 + 24, p15, 16);
-			storeptru(p20 + 40, p77);
-			store64u(p20 + 48, n78);
-			store64u(p20 + 56, n79);
-			memcpy(p20 + 64, p16, 16);
-			storeptru(p20 + 80, p80);
-			store64u(p20 + 88, n81);
-			store64u(p20 + 96, n82);
-			memcpy(p20 + 104, p17, 288);
-			memcpy(p20 + 392, p18, 1056);
-			storeptru(p20 + 1448, p83);
-			store64u(p20 + 1456, n84);
-			store64u(p20 + 1464, n85);
-			store64u(p20 + 1472, n86);
-			storeptru(p20 + 1480, p5);
-			memset(p20 + 1488, 0, 16);
-			storeptru(p20 + 1504, p5);
-			memset(p20 + 1512, 0, 16);
-			storeptru(p20 + 1528, p5);
-			memset(p20 + 1536, 0, 16);
-			store64(p21, 0);
-			storeptru(p21 + 8, p5);
-			memset(p21 + 16, 0, 16);
-			storeptru(p21 + 32, p5);
-			memset(p21 + 40, 0, 16);
-			storeptru(p21 + 56, p5);
-			memset(p21 + 64, 0, 16);
-			store64u(p21 + 80, 1);
-			store8(p21 + 88, 1);
-			memset(p21 + 89, 0, 7);
-			uint64_t n446 = 0;
+			store8(p439 + 16383, 0);
+			storeptru(p18, p5);
+			memset(p18 + 8, 0, 16);
+			memcpy(p19, p14, 40);
+			storeptru(p19 + 40, p72);
+			store64u(p19 + 48, n73);
+			store64u(p19 + 56, n74);
+			memcpy(p19 + 64, p15, 16);
+			storeptru(p19 + 80, p75);
+			store64u(p19 + 88, n76);
+			store64u(p19 + 96, n77);
+			memcpy(p19 + 104, p16, 288);
+			memcpy(p19 + 392, p17, 1056);
+			storeptru(p19 + 1448, p78);
+			store64u(p19 + 1456, n79);
+			store64u(p19 + 1464, n80);
+			store64u(p19 + 1472, n81);
+			storeptru(p19 + 1480, p5);
+			memset(p19 + 1488, 0, 16);
+			storeptru(p19 + 1504, p5);
+			memset(p19 + 1512, 0, 16);
+			storeptru(p19 + 1528, p5);
+			memset(p19 + 1536, 0, 16);
+			store64(p20, 0);
+			storeptru(p20 + 8, p5);
+			memset(p20 + 16, 0, 16);
+			storeptru(p20 + 32, p5);
+			memset(p20 + 40, 0, 16);
+			storeptru(p20 + 56, p5);
+			memset(p20 + 64, 0, 16);
+			store64u(p20 + 80, 1);
+			store8(p20 + 88, 1);
+			memset(p20 + 89, 0, 7);
+			uint64_t n441 = 0;
 			for (;;) {
-				if (n446 == UINT64_MAX)
+				if (n441 == UINT64_MAX)
 					goto L38;
-				uint64_t n447 = os_read(0, p444, 16384);
-				if ((int64_t)n447 < (int64_t)0)
+				uint64_t n442 = os_read(0, p439, 16384);
+				if ((int64_t)n442 < (int64_t)0)
 					goto L39;
-				tp_Cutter_take_in(p22, p21, p444, umin64(n447, 16384), p4);
-				if (load8(p22) != 0)
+				tp_Cutter_take_in(p21, p20, p439, umin64(n442, 16384), p4);
+				if (load8(p21) != 0)
 					break;
-				uint8_t n448 = load8(p22 + 8);
-				n449 = load64u(p22 + 16);
-				byte *p450 = loadptr(p21 + 8);
-				uint64_t n451 = load64(p21 + 16);
-				if (load64(p19 + 8) != 0)
-					store64(p19 + 8, 0);
-				uint64_t n452 = 0;
-				while (n452 != n451) {
-					byte *p453 = at(p450, n452 * 48);
-					uint8_t n454 = load8(p453);
-					uint64_t n455 = load64u(p453 + 8);
-					uint64_t n456 = load64(p20 + 408);
-					uint64_t n457 = load64u(p453 + 16);
-					uint64_t n458 = load64u(p453 + 24);
-					uint64_t n459 = load64u(p453 + 32);
-					uint64_t n460 = load64u(p453 + 40);
-					store64u(p12, (uint64_t)n454);
-					store64(p12 + 8, n455);
-					store64(p12 + 16, n457);
-					store64(p12 + 24, n458);
-					store64(p12 + 32, n459);
-					store64(p12 + 40, n460);
-					if ((n66 & 1) != 0) {
-						uint64_t n461;
-						switch (n454) {
+				uint8_t n443 = load8(p21 + 8);
+				n444 = load64u(p21 + 16);
+				byte *p445 = loadptr(p20 + 8);
+				uint64_t n446 = load64(p20 + 16);
+				if (load64(p18 + 8) != 0)
+					store64(p18 + 8, 0);
+				uint64_t n447 = 0;
+				while (n447 != n446) {
+					byte *p448 = at(p445, n447 * 48);
+					uint8_t n449 = load8(p448);
+					uint64_t n450 = load64u(p448 + 8);
+					uint64_t n451 = load64(p19 + 408);
+					uint64_t n452 = load64u(p448 + 16);
+					uint64_t n453 = load64u(p448 + 24);
+					uint64_t n454 = load64u(p448 + 32);
+					uint64_t n455 = load64u(p448 + 40);
+					store64u(p12, (uint64_t)n449);
+					store64(p12 + 8, n450);
+					store64(p12 + 16, n452);
+					store64(p12 + 24, n453);
+					store64(p12 + 32, n454);
+					store64(p12 + 40, n455);
+					if ((n62 & 1) != 0) {
+						uint64_t n456;
+						switch (n449) {
 						case 3: {
-							n461 = n455;
+							n456 = n450;
 							break;
 						}
 						case 0:
@@ -74994,472 +74952,472 @@ L37:
 							UNREACHABLE();
 						}
 						}
-						while (n461 != 0) {
-							uint64_t n466;
-							uint64_t n462 = load64(p20 + 16);
-							uint64_t n463 = load64(p20 + 8);
-							uint8_t n464 = load8(p20 + 1440);
-							of_i8_i64 s465 = tp_SmoothWheelWheel_quiet_until(p20);
-							if (s465.f0 == 1) {
-								if ((s465.f1 > n463) || ((n464 & 1) != 0)) {
-									n466 = n461;
+						while (n456 != 0) {
+							uint64_t n461;
+							uint64_t n457 = load64(p19 + 16);
+							uint64_t n458 = load64(p19 + 8);
+							uint8_t n459 = load8(p19 + 1440);
+							of_i8_i64 s460 = tp_SmoothWheelWheel_quiet_until(p19);
+							if (s460.f0 == 1) {
+								if ((s460.f1 > n458) || ((n459 & 1) != 0)) {
+									n461 = n456;
 								} else {
-									n466 = umin64(s465.f1 - n462, n461);
+									n461 = umin64(s460.f1 - n457, n456);
 								}
 							} else {
-								n466 = n461;
+								n461 = n456;
 							}
 							memset(p11 + 16, 0, 32);
 							store64u(p11, 3);
-							store64(p11 + 8, n466);
-							uint8_t n467 = tp_Session_play_one(p20, p11, p19);
-							if ((n467 & 1) != 0)
+							store64(p11 + 8, n461);
+							uint8_t n462 = tp_Session_play_one(p19, p11, p18);
+							if ((n462 & 1) != 0)
 								goto L41;
-							n461 = n461 - n466;
+							n456 = n456 - n461;
 						}
 						goto L42;
 					}
 L40:
 					{
-						uint8_t n468 = tp_Session_play_one(p20, p12, p19);
-						if ((n468 & 1) != 0) {
-							n469 = load64(p19 + 8);
+						uint8_t n463 = tp_Session_play_one(p19, p12, p18);
+						if ((n463 & 1) != 0) {
+							n464 = load64(p18 + 8);
 							goto L43;
 						}
 					}
 L42:
 					{
-						uint64_t n472, n475, n477;
-						bool b473;
-						uint8_t n474, n484;
-						n470 = load64(p19 + 8);
-						uint64_t n471 = load64(p20 + 16);
-						if (n72 == 1) {
-							if (n73 > n471) {
-								n472 = n470;
+						uint64_t n467, n470, n472;
+						bool b468;
+						uint8_t n469, n479;
+						n465 = load64(p18 + 8);
+						uint64_t n466 = load64(p19 + 16);
+						if (n68 == 1) {
+							if (n69 > n466) {
+								n467 = n465;
 								goto L44;
 							}
 						}
-						if (n74 == 1) {
-							if (n471 > n75) {
-								n472 = n470;
+						if (n70 == 1) {
+							if (n466 > n71) {
+								n467 = n465;
 								goto L44;
 							}
 						}
-						b473 = (n65 & 1) != 0;
-						store64(p10, (uint64_t)n68);
-						store64(p10 + 8, n69);
-						store64(p10 + 16, (uint64_t)n70);
-						store64(p10 + 24, n71);
-						store64(p10 + 32, ((n67 & 1) != 0) ? n456 : 0);
-						n474 = tp_render_push_number(p19, (byte *)tp_static_283, 6, n471);
-						if ((n474 & 1) != 0)
+						b468 = (n61 & 1) != 0;
+						store64(p10, (uint64_t)n64);
+						store64(p10 + 8, n65);
+						store64(p10 + 16, (uint64_t)n66);
+						store64(p10 + 24, n67);
+						store64(p10 + 32, ((n63 & 1) != 0) ? n451 : 0);
+						n469 = tp_render_push_number(p18, (byte *)tp_static_283, 6, n466);
+						if ((n469 & 1) != 0)
 							goto L45;
-						n475 = load64(p19 + 8);
-						if (load64(p19 + 16) == n475) {
-							bool b476 = tp_std_alloc_vec_Vec_grow_amortized_6(p19, 1);
-							if (!b476)
+						n470 = load64(p18 + 8);
+						if (load64(p18 + 16) == n470) {
+							bool b471 = tp_std_alloc_vec_Vec_grow_amortized_6(p18, 1);
+							if (!b471)
 								goto L45;
-							n477 = load64(p19 + 8);
+							n472 = load64(p18 + 8);
 						} else {
-							n477 = n475;
+							n472 = n470;
 						}
-						store8(inside(loadptr(p19), n477), 10);
-						store64(p19 + 8, n477 + 1);
-						if (b473) {
-							uint64_t n483;
-							uint64_t n478 = load64(p20 + 384);
-							uint8_t n479 = tp_render_push_number(p19, (byte *)tp_static_296, 9, load64(p20 + 376));
-							if ((n479 & 1) != 0)
+						store8(inside(loadptr(p18), n472), 10);
+						store64(p18 + 8, n472 + 1);
+						if (b468) {
+							uint64_t n478;
+							uint64_t n473 = load64(p19 + 384);
+							uint8_t n474 = tp_render_push_number(p18, (byte *)tp_static_296, 9, load64(p19 + 376));
+							if ((n474 & 1) != 0)
 								goto L45;
-							uint8_t n480 = tp_render_push_number(p19, (byte *)tp_static_297, 7, n478);
-							if ((n480 & 1) != 0)
+							uint8_t n475 = tp_render_push_number(p18, (byte *)tp_static_297, 7, n473);
+							if ((n475 & 1) != 0)
 								goto L45;
-							uint64_t n481 = load64(p19 + 8);
-							if (load64(p19 + 16) == n481) {
-								bool b482 = tp_std_alloc_vec_Vec_grow_amortized_6(p19, 1);
-								if (!b482)
+							uint64_t n476 = load64(p18 + 8);
+							if (load64(p18 + 16) == n476) {
+								bool b477 = tp_std_alloc_vec_Vec_grow_amortized_6(p18, 1);
+								if (!b477)
 									goto L45;
-								n483 = load64(p19 + 8);
+								n478 = load64(p18 + 8);
 							} else {
-								n483 = n481;
+								n478 = n476;
 							}
-							store8(inside(loadptr(p19), n483), 10);
-							store64(p19 + 8, n483 + 1);
+							store8(inside(loadptr(p18), n478), 10);
+							store64(p18 + 8, n478 + 1);
 						}
-						n484 = tp_render_push_lists(p19, p20 + 40, 3, p10);
-						if ((n484 & 1) != 0)
+						n479 = tp_render_push_lists(p18, p19 + 40, 3, p10);
+						if ((n479 & 1) != 0)
 							goto L46;
-						n472 = load64(p19 + 8);
+						n467 = load64(p18 + 8);
 L44:
 						{
-							byte *p485 = loadptr(p19);
-							uint64_t n486 = 0;
-							while (n486 < n472) {
-								uint64_t n487 = n472 - n486;
-								uint64_t n488 = os_write(1, at(p485, n486), n487);
-								if ((int64_t)n488 < (int64_t)0) {
+							byte *p480 = loadptr(p18);
+							uint64_t n481 = 0;
+							while (n481 < n467) {
+								uint64_t n482 = n467 - n481;
+								uint64_t n483 = os_write(1, at(p480, n481), n482);
+								if ((int64_t)n483 < (int64_t)0) {
 									tp_error_last_error(p8);
 									store8(p3 + 1, 1);
-									n489 = 3;
+									n484 = 3;
 									goto L47;
 								}
-								uint64_t n490 = umin64(n488, n487);
-								if (n490 == 0) {
+								uint64_t n485 = umin64(n483, n482);
+								if (n485 == 0) {
 									store8(p3 + 1, 1);
-									n489 = 3;
+									n484 = 3;
 									goto L47;
 								}
-								n486 = n486 + n490;
+								n481 = n481 + n485;
 							}
-							if (load64(p19 + 8) != 0)
-								store64(p19 + 8, 0);
-							n452 = n452 + 1;
+							if (load64(p18 + 8) != 0)
+								store64(p18 + 8, 0);
+							n447 = n447 + 1;
 						}
 					}
 				}
-				if (n448 == 1)
+				if (n443 == 1)
 					goto L48;
-				if (n447 == 0)
+				if (n442 == 0)
 					goto L49;
-				n446 = n446 + 1;
+				n441 = n441 + 1;
 			}
-			if (load64u(p21 + 24) != 0)
-				rattle_dealloc(loadptru(p21 + 8));
-			if (load64u(p21 + 48) != 0)
-				rattle_dealloc(loadptru(p21 + 32));
-			if (load64u(p21 + 72) != 0)
-				rattle_dealloc(loadptru(p21 + 56));
-			p491 = loadptru(p20 + 80);
-			n492 = load64u(p20 + 96);
-			p493 = loadptru(p20 + 1448);
-			n494 = load64u(p20 + 1464);
-			p495 = loadptru(p20 + 1480);
-			n496 = load64u(p20 + 1496);
-			if (load64u(p20 + 56) != 0)
-				rattle_dealloc(loadptru(p20 + 40));
-			if (n492 != 0)
-				rattle_dealloc(p491);
-			if (n494 != 0)
-				rattle_dealloc(p493);
-			if (n496 != 0)
-				rattle_dealloc(p495);
-			if (load64u(p20 + 1520) != 0)
-				rattle_dealloc(loadptru(p20 + 1504));
-			if (load64u(p20 + 1544) != 0)
-				rattle_dealloc(loadptru(p20 + 1528));
-			if (load64u(p19 + 16) != 0)
-				rattle_dealloc(loadptru(p19));
-			rattle_dealloc(p444);
-			n442 = 2;
-			n443 = 0;
+			if (load64u(p20 + 24) != 0)
+				rattle_dealloc(loadptru(p20 + 8));
+			if (load64u(p20 + 48) != 0)
+				rattle_dealloc(loadptru(p20 + 32));
+			if (load64u(p20 + 72) != 0)
+				rattle_dealloc(loadptru(p20 + 56));
+			p486 = loadptru(p19 + 80);
+			n487 = load64u(p19 + 96);
+			p488 = loadptru(p19 + 1448);
+			n489 = load64u(p19 + 1464);
+			p490 = loadptru(p19 + 1480);
+			n491 = load64u(p19 + 1496);
+			if (load64u(p19 + 56) != 0)
+				rattle_dealloc(loadptru(p19 + 40));
+			if (n487 != 0)
+				rattle_dealloc(p486);
+			if (n489 != 0)
+				rattle_dealloc(p488);
+			if (n491 != 0)
+				rattle_dealloc(p490);
+			if (load64u(p19 + 1520) != 0)
+				rattle_dealloc(loadptru(p19 + 1504));
+			if (load64u(p19 + 1544) != 0)
+				rattle_dealloc(loadptru(p19 + 1528));
+			if (load64u(p18 + 16) != 0)
+				rattle_dealloc(loadptru(p18));
+			rattle_dealloc(p439);
+			n437 = 2;
+			n438 = 0;
 			goto L50;
 L41:
 			{
-				if (load64(p19 + 8) != 0)
-					store64(p19 + 8, 0);
-				n469 = 0;
+				if (load64(p18 + 8) != 0)
+					store64(p18 + 8, 0);
+				n464 = 0;
 				goto L43;
 			}
 L45: ;
 L46:
 			{
-				uint64_t n497 = load64(p19 + 8);
-				if (n497 > n470) {
-					store64(p19 + 8, n470);
-					n469 = n470;
+				uint64_t n492 = load64(p18 + 8);
+				if (n492 > n465) {
+					store64(p18 + 8, n465);
+					n464 = n465;
 				} else {
-					n469 = n497;
+					n464 = n492;
 				}
 			}
 L43:
 			{
-				byte *p498 = loadptr(p19);
-				uint64_t n499 = 0;
+				byte *p493 = loadptr(p18);
+				uint64_t n494 = 0;
 				for (;;) {
-					if (n499 >= n469) {
-						n489 = 2;
+					if (n494 >= n464) {
+						n484 = 2;
 						break;
 					}
-					uint64_t n500 = n469 - n499;
-					uint64_t n501 = os_write(1, at(p498, n499), n500);
-					if ((int64_t)n501 < (int64_t)0) {
+					uint64_t n495 = n464 - n494;
+					uint64_t n496 = os_write(1, at(p493, n494), n495);
+					if ((int64_t)n496 < (int64_t)0) {
 						tp_error_last_error(p9);
 						store8(p3 + 1, 1);
-						n489 = 3;
+						n484 = 3;
 						break;
 					}
-					uint64_t n502 = umin64(n501, n500);
-					if (n502 == 0) {
+					uint64_t n497 = umin64(n496, n495);
+					if (n497 == 0) {
 						store8(p3 + 1, 1);
-						n489 = 3;
+						n484 = 3;
 						break;
 					}
-					n499 = n499 + n502;
+					n494 = n494 + n497;
 				}
 			}
 L47:
 			{
-				if (load64u(p21 + 24) != 0)
-					rattle_dealloc(loadptru(p21 + 8));
-				if (load64u(p21 + 48) != 0)
-					rattle_dealloc(loadptru(p21 + 32));
-				if (load64u(p21 + 72) != 0)
-					rattle_dealloc(loadptru(p21 + 56));
-				byte *p503 = loadptru(p20 + 80);
-				uint64_t n504 = load64u(p20 + 96);
-				byte *p505 = loadptru(p20 + 1448);
-				uint64_t n506 = load64u(p20 + 1464);
-				byte *p507 = loadptru(p20 + 1480);
-				uint64_t n508 = load64u(p20 + 1496);
-				if (load64u(p20 + 56) != 0)
-					rattle_dealloc(loadptru(p20 + 40));
-				if (n504 != 0)
-					rattle_dealloc(p503);
-				if (n506 != 0)
-					rattle_dealloc(p505);
-				if (n508 != 0)
-					rattle_dealloc(p507);
-				if (load64u(p20 + 1520) != 0)
-					rattle_dealloc(loadptru(p20 + 1504));
-				if (load64u(p20 + 1544) != 0)
-					rattle_dealloc(loadptru(p20 + 1528));
-				if (load64u(p19 + 16) != 0)
-					rattle_dealloc(loadptru(p19));
-				rattle_dealloc(p444);
-				n442 = n489;
-				n443 = 0;
+				if (load64u(p20 + 24) != 0)
+					rattle_dealloc(loadptru(p20 + 8));
+				if (load64u(p20 + 48) != 0)
+					rattle_dealloc(loadptru(p20 + 32));
+				if (load64u(p20 + 72) != 0)
+					rattle_dealloc(loadptru(p20 + 56));
+				byte *p498 = loadptru(p19 + 80);
+				uint64_t n499 = load64u(p19 + 96);
+				byte *p500 = loadptru(p19 + 1448);
+				uint64_t n501 = load64u(p19 + 1464);
+				byte *p502 = loadptru(p19 + 1480);
+				uint64_t n503 = load64u(p19 + 1496);
+				if (load64u(p19 + 56) != 0)
+					rattle_dealloc(loadptru(p19 + 40));
+				if (n499 != 0)
+					rattle_dealloc(p498);
+				if (n501 != 0)
+					rattle_dealloc(p500);
+				if (n503 != 0)
+					rattle_dealloc(p502);
+				if (load64u(p19 + 1520) != 0)
+					rattle_dealloc(loadptru(p19 + 1504));
+				if (load64u(p19 + 1544) != 0)
+					rattle_dealloc(loadptru(p19 + 1528));
+				if (load64u(p18 + 16) != 0)
+					rattle_dealloc(loadptru(p18));
+				rattle_dealloc(p439);
+				n437 = n484;
+				n438 = 0;
 				goto L50;
 			}
 L49:
 			{
-				uint64_t n509;
-				uint8_t n510, n511;
-				bool b512;
+				uint64_t n504;
+				uint8_t n505, n506;
+				bool b507;
 				memset(p7, 0, 24);
-				tp_Cutter_end(p7, p21, p4);
+				tp_Cutter_end(p7, p20, p4);
 				if (load8(p7) == 0) {
 					if (load8(p7 + 8) == 1) {
-						n509 = load64u(p7 + 16);
-						n510 = 1;
-						n511 = 1;
-						b512 = true;
+						n504 = load64u(p7 + 16);
+						n505 = 1;
+						n506 = 1;
+						b507 = true;
 					} else {
-						uint64_t n523;
-						if (load64(p19 + 8) != 0)
-							store64(p19 + 8, 0);
-						uint64_t n513 = load64(p20 + 16);
-						uint64_t n514 = load64(p20 + 64);
-						uint64_t n515 = load64(p20 + 32);
-						byte *p516 = loadptr(p20 + 80);
-						uint64_t n517 = (uint64_t)load32(at(p516, n515 << 3) + 4);
-						bool b518 = n515 != n517;
-						uint64_t n519 = load64(p20 + 104);
-						uint64_t n520 = b518 ? (n517 - n519) : 0;
-						uint64_t n521 = 0;
-						bool b522 = b518;
+						uint64_t n518;
+						if (load64(p18 + 8) != 0)
+							store64(p18 + 8, 0);
+						uint64_t n508 = load64(p19 + 16);
+						uint64_t n509 = load64(p19 + 64);
+						uint64_t n510 = load64(p19 + 32);
+						byte *p511 = loadptr(p19 + 80);
+						uint64_t n512 = (uint64_t)load32(at(p511, n510 << 3) + 4);
+						bool b513 = n510 != n512;
+						uint64_t n514 = load64(p19 + 104);
+						uint64_t n515 = b513 ? (n512 - n514) : 0;
+						uint64_t n516 = 0;
+						bool b517 = b513;
 						for (;;) {
-							if (n521 == n514) {
-								n523 = n514;
+							if (n516 == n509) {
+								n518 = n509;
 								break;
 							}
-							if (!b522) {
-								n523 = n521;
+							if (!b517) {
+								n518 = n516;
 								break;
 							}
-							uint64_t n524 = (uint64_t)load32(at(p516, (n519 + n520) << 3) + 4);
-							n520 = usub_sat64(n524, n519);
-							n521 = n521 + 1;
-							b522 = n519 <= n524;
+							uint64_t n519 = (uint64_t)load32(at(p511, (n514 + n515) << 3) + 4);
+							n515 = usub_sat64(n519, n514);
+							n516 = n516 + 1;
+							b517 = n514 <= n519;
 						}
-						uint8_t n525 = tp_text_push_end(p19, n513, n514 - n523);
-						if ((n525 & 1) != 0) {
-							n509 = 0;
-							n510 = 2;
-							n511 = 1;
-							b512 = true;
+						uint8_t n520 = tp_text_push_end(p18, n508, n509 - n518);
+						if ((n520 & 1) != 0) {
+							n504 = 0;
+							n505 = 2;
+							n506 = 1;
+							b507 = true;
 						} else {
-							byte *p526 = loadptr(p19);
-							uint64_t n527 = load64(p19 + 8);
-							uint64_t n528 = 0;
-							while (n528 < n527) {
-								uint64_t n529 = n527 - n528;
-								uint64_t n530 = os_write(1, at(p526, n528), n529);
-								if ((int64_t)n530 < (int64_t)0) {
+							byte *p521 = loadptr(p18);
+							uint64_t n522 = load64(p18 + 8);
+							uint64_t n523 = 0;
+							while (n523 < n522) {
+								uint64_t n524 = n522 - n523;
+								uint64_t n525 = os_write(1, at(p521, n523), n524);
+								if ((int64_t)n525 < (int64_t)0) {
 									tp_error_last_error(p6);
 									goto L51;
 								}
-								uint64_t n531 = umin64(n530, n529);
-								if (n531 == 0)
+								uint64_t n526 = umin64(n525, n524);
+								if (n526 == 0)
 									goto L51;
-								n528 = n528 + n531;
+								n523 = n523 + n526;
 							}
-							n509 = 0;
-							n510 = 0;
-							n511 = (uint8_t)(load8(p21 + 88) ^ 1);
-							b512 = false;
+							n504 = 0;
+							n505 = 0;
+							n506 = (uint8_t)(load8(p20 + 88) ^ 1);
+							b507 = false;
 							goto L52;
 L51:
 							{
 								store8(p3 + 1, 1);
-								n509 = 0;
-								n510 = 3;
-								n511 = 1;
-								b512 = true;
+								n504 = 0;
+								n505 = 3;
+								n506 = 1;
+								b507 = true;
 							}
 						}
 					}
 				} else {
-					n509 = 0;
-					n510 = 2;
-					n511 = 1;
-					b512 = true;
+					n504 = 0;
+					n505 = 2;
+					n506 = 1;
+					b507 = true;
 				}
 L52:
 				{
-					if (load64u(p21 + 24) != 0)
-						rattle_dealloc(loadptru(p21 + 8));
-					if (load64u(p21 + 48) != 0)
-						rattle_dealloc(loadptru(p21 + 32));
-					if (load64u(p21 + 72) != 0)
-						rattle_dealloc(loadptru(p21 + 56));
-					byte *p532 = loadptru(p20 + 80);
-					uint64_t n533 = load64u(p20 + 96);
-					byte *p534 = loadptru(p20 + 1448);
-					uint64_t n535 = load64u(p20 + 1464);
-					byte *p536 = loadptru(p20 + 1480);
-					uint64_t n537 = load64u(p20 + 1496);
-					if (load64u(p20 + 56) != 0)
-						rattle_dealloc(loadptru(p20 + 40));
-					if (n533 != 0)
-						rattle_dealloc(p532);
-					if (n535 != 0)
-						rattle_dealloc(p534);
-					if (n537 != 0)
-						rattle_dealloc(p536);
-					if (load64u(p20 + 1520) != 0)
-						rattle_dealloc(loadptru(p20 + 1504));
-					if (load64u(p20 + 1544) != 0)
-						rattle_dealloc(loadptru(p20 + 1528));
-					if (load64u(p19 + 16) != 0)
-						rattle_dealloc(loadptru(p19));
-					rattle_dealloc(p444);
-					if (!b512)
-						return n511;
-					n538 = n509;
-					n539 = n510;
+					if (load64u(p20 + 24) != 0)
+						rattle_dealloc(loadptru(p20 + 8));
+					if (load64u(p20 + 48) != 0)
+						rattle_dealloc(loadptru(p20 + 32));
+					if (load64u(p20 + 72) != 0)
+						rattle_dealloc(loadptru(p20 + 56));
+					byte *p527 = loadptru(p19 + 80);
+					uint64_t n528 = load64u(p19 + 96);
+					byte *p529 = loadptru(p19 + 1448);
+					uint64_t n530 = load64u(p19 + 1464);
+					byte *p531 = loadptru(p19 + 1480);
+					uint64_t n532 = load64u(p19 + 1496);
+					if (load64u(p19 + 56) != 0)
+						rattle_dealloc(loadptru(p19 + 40));
+					if (n528 != 0)
+						rattle_dealloc(p527);
+					if (n530 != 0)
+						rattle_dealloc(p529);
+					if (n532 != 0)
+						rattle_dealloc(p531);
+					if (load64u(p19 + 1520) != 0)
+						rattle_dealloc(loadptru(p19 + 1504));
+					if (load64u(p19 + 1544) != 0)
+						rattle_dealloc(loadptru(p19 + 1528));
+					if (load64u(p18 + 16) != 0)
+						rattle_dealloc(loadptru(p18));
+					rattle_dealloc(p439);
+					if (!b507)
+						return n506;
+					n533 = n504;
+					n534 = n505;
 					goto L53;
 				}
 			}
 L48:
 			{
-				if (load64u(p21 + 24) != 0)
-					rattle_dealloc(loadptru(p21 + 8));
-				if (load64u(p21 + 48) != 0)
-					rattle_dealloc(loadptru(p21 + 32));
-				if (load64u(p21 + 72) != 0)
-					rattle_dealloc(loadptru(p21 + 56));
-				byte *p540 = loadptru(p20 + 80);
-				uint64_t n541 = load64u(p20 + 96);
-				byte *p542 = loadptru(p20 + 1448);
-				uint64_t n543 = load64u(p20 + 1464);
-				byte *p544 = loadptru(p20 + 1480);
-				uint64_t n545 = load64u(p20 + 1496);
-				if (load64u(p20 + 56) != 0)
-					rattle_dealloc(loadptru(p20 + 40));
-				if (n541 != 0)
-					rattle_dealloc(p540);
-				if (n543 != 0)
-					rattle_dealloc(p542);
-				if (n545 != 0)
-					rattle_dealloc(p544);
-				if (load64u(p20 + 1520) != 0)
-					rattle_dealloc(loadptru(p20 + 1504));
-				if (load64u(p20 + 1544) != 0)
-					rattle_dealloc(loadptru(p20 + 1528));
-				if (load64u(p19 + 16) != 0)
-					rattle_dealloc(loadptru(p19));
-				rattle_dealloc(p444);
-				n442 = 1;
-				n443 = n449;
+				if (load64u(p20 + 24) != 0)
+					rattle_dealloc(loadptru(p20 + 8));
+				if (load64u(p20 + 48) != 0)
+					rattle_dealloc(loadptru(p20 + 32));
+				if (load64u(p20 + 72) != 0)
+					rattle_dealloc(loadptru(p20 + 56));
+				byte *p535 = loadptru(p19 + 80);
+				uint64_t n536 = load64u(p19 + 96);
+				byte *p537 = loadptru(p19 + 1448);
+				uint64_t n538 = load64u(p19 + 1464);
+				byte *p539 = loadptru(p19 + 1480);
+				uint64_t n540 = load64u(p19 + 1496);
+				if (load64u(p19 + 56) != 0)
+					rattle_dealloc(loadptru(p19 + 40));
+				if (n536 != 0)
+					rattle_dealloc(p535);
+				if (n538 != 0)
+					rattle_dealloc(p537);
+				if (n540 != 0)
+					rattle_dealloc(p539);
+				if (load64u(p19 + 1520) != 0)
+					rattle_dealloc(loadptru(p19 + 1504));
+				if (load64u(p19 + 1544) != 0)
+					rattle_dealloc(loadptru(p19 + 1528));
+				if (load64u(p18 + 16) != 0)
+					rattle_dealloc(loadptru(p18));
+				rattle_dealloc(p439);
+				n437 = 1;
+				n438 = n444;
 				goto L50;
 			}
 L39:
 			{
 				tp_error_last_error(p13);
 				store8(p3, 1);
-				if (load64u(p21 + 24) != 0)
-					rattle_dealloc(loadptru(p21 + 8));
-				if (load64u(p21 + 48) != 0)
-					rattle_dealloc(loadptru(p21 + 32));
-				if (load64u(p21 + 72) != 0)
-					rattle_dealloc(loadptru(p21 + 56));
-				byte *p546 = loadptru(p20 + 80);
-				uint64_t n547 = load64u(p20 + 96);
-				byte *p548 = loadptru(p20 + 1448);
-				uint64_t n549 = load64u(p20 + 1464);
-				byte *p550 = loadptru(p20 + 1480);
-				uint64_t n551 = load64u(p20 + 1496);
-				if (load64u(p20 + 56) != 0)
-					rattle_dealloc(loadptru(p20 + 40));
-				if (n547 != 0)
-					rattle_dealloc(p546);
-				if (n549 != 0)
-					rattle_dealloc(p548);
-				if (n551 != 0)
-					rattle_dealloc(p550);
-				if (load64u(p20 + 1520) != 0)
-					rattle_dealloc(loadptru(p20 + 1504));
-				if (load64u(p20 + 1544) != 0)
-					rattle_dealloc(loadptru(p20 + 1528));
-				if (load64u(p19 + 16) != 0)
-					rattle_dealloc(loadptru(p19));
-				rattle_dealloc(p444);
-				n442 = 0;
-				n443 = 0;
+				if (load64u(p20 + 24) != 0)
+					rattle_dealloc(loadptru(p20 + 8));
+				if (load64u(p20 + 48) != 0)
+					rattle_dealloc(loadptru(p20 + 32));
+				if (load64u(p20 + 72) != 0)
+					rattle_dealloc(loadptru(p20 + 56));
+				byte *p541 = loadptru(p19 + 80);
+				uint64_t n542 = load64u(p19 + 96);
+				byte *p543 = loadptru(p19 + 1448);
+				uint64_t n544 = load64u(p19 + 1464);
+				byte *p545 = loadptru(p19 + 1480);
+				uint64_t n546 = load64u(p19 + 1496);
+				if (load64u(p19 + 56) != 0)
+					rattle_dealloc(loadptru(p19 + 40));
+				if (n542 != 0)
+					rattle_dealloc(p541);
+				if (n544 != 0)
+					rattle_dealloc(p543);
+				if (n546 != 0)
+					rattle_dealloc(p545);
+				if (load64u(p19 + 1520) != 0)
+					rattle_dealloc(loadptru(p19 + 1504));
+				if (load64u(p19 + 1544) != 0)
+					rattle_dealloc(loadptru(p19 + 1528));
+				if (load64u(p18 + 16) != 0)
+					rattle_dealloc(loadptru(p18));
+				rattle_dealloc(p439);
+				n437 = 0;
+				n438 = 0;
 				goto L50;
 			}
 L38:
 			{
-				if (load64u(p21 + 24) != 0)
-					rattle_dealloc(loadptru(p21 + 8));
-				if (load64u(p21 + 48) != 0)
-					rattle_dealloc(loadptru(p21 + 32));
-				if (load64u(p21 + 72) != 0)
-					rattle_dealloc(loadptru(p21 + 56));
-				byte *p552 = loadptru(p20 + 80);
-				uint64_t n553 = load64u(p20 + 96);
-				byte *p554 = loadptru(p20 + 1448);
-				uint64_t n555 = load64u(p20 + 1464);
-				byte *p556 = loadptru(p20 + 1480);
-				uint64_t n557 = load64u(p20 + 1496);
-				if (load64u(p20 + 56) != 0)
-					rattle_dealloc(loadptru(p20 + 40));
-				if (n553 != 0)
-					rattle_dealloc(p552);
-				if (n555 != 0)
-					rattle_dealloc(p554);
-				if (n557 != 0)
-					rattle_dealloc(p556);
-				if (load64u(p20 + 1520) != 0)
-					rattle_dealloc(loadptru(p20 + 1504));
-				if (load64u(p20 + 1544) != 0)
-					rattle_dealloc(loadptru(p20 + 1528));
-				if (load64u(p19 + 16) != 0)
-					rattle_dealloc(loadptru(p19));
-				rattle_dealloc(p444);
-				n442 = 4;
-				n443 = 0;
+				if (load64u(p20 + 24) != 0)
+					rattle_dealloc(loadptru(p20 + 8));
+				if (load64u(p20 + 48) != 0)
+					rattle_dealloc(loadptru(p20 + 32));
+				if (load64u(p20 + 72) != 0)
+					rattle_dealloc(loadptru(p20 + 56));
+				byte *p547 = loadptru(p19 + 80);
+				uint64_t n548 = load64u(p19 + 96);
+				byte *p549 = loadptru(p19 + 1448);
+				uint64_t n550 = load64u(p19 + 1464);
+				byte *p551 = loadptru(p19 + 1480);
+				uint64_t n552 = load64u(p19 + 1496);
+				if (load64u(p19 + 56) != 0)
+					rattle_dealloc(loadptru(p19 + 40));
+				if (n548 != 0)
+					rattle_dealloc(p547);
+				if (n550 != 0)
+					rattle_dealloc(p549);
+				if (n552 != 0)
+					rattle_dealloc(p551);
+				if (load64u(p19 + 1520) != 0)
+					rattle_dealloc(loadptru(p19 + 1504));
+				if (load64u(p19 + 1544) != 0)
+					rattle_dealloc(loadptru(p19 + 1528));
+				if (load64u(p18 + 16) != 0)
+					rattle_dealloc(loadptru(p18));
+				rattle_dealloc(p439);
+				n437 = 4;
+				n438 = 0;
 			}
 		}
 L50:
 		{
-			n538 = n443;
-			n539 = n442;
+			n533 = n438;
+			n534 = n437;
 		}
 L53:
 		{
-			tp_timer_commands_error_report_report_2(n539, n538, p4);
+			tp_timer_commands_error_report_report_2(n534, n533, p4);
 			return 1;
 		}
 	}
@@ -77765,9 +77723,9 @@ L2:
 	}
 L1:
 	{
-		byte *p431, *p447, *p449, *p451, *p453, *p455, *p458, *p461;
-		uint64_t n446, n448, n450, n452, n454, n456, n457, n459, n460, n462;
-		uint8_t n463;
+		byte *p419, *p434, *p436, *p438, *p440, *p442, *p445, *p448;
+		uint64_t n433, n435, n437, n439, n441, n443, n444, n446, n447, n449;
+		uint8_t n450;
 		memcpy(p195, p20, 16);
 		if (b375) {
 			uint64_t n388, n412;
@@ -78025,368 +77983,325 @@ L5:
 		store64(p18 + 1400, n374);
 		storeptr(p18 + 1408, p376);
 		memcpy(p18 + 1416, p197, 16);
-		uint64_t n418 = load64(p18 + 64);
-		uint64_t n419 = load64(p18 + 32);
-		byte *p420 = loadptr(p18 + 80);
-		uint64_t n421 = (uint64_t)load32(at(p420, n419 << 3) + 4);
-		bool b422 = n419 != n421;
-		uint64_t n423 = load64(p18 + 104);
-		byte *p424 = (byte *)(uintptr_t)n207;
-		byte *p425 = (byte *)(uintptr_t)n204;
-		uint64_t n426 = b422 ? (n421 - n423) : 0;
-		uint64_t n427 = 0;
-		bool b428 = b422;
-		while (n427 != n418) {
-			if (!b428)
-				break;
-			uint64_t n429 = (uint64_t)load32(at(p420, (n423 + n426) << 3) + 4);
-			n426 = usub_sat64(n429, n423);
-			n427 = n427 + 1;
-			b428 = n423 <= n429;
-		}
-		bool b430 = n201 == 0;
-		if (!b430) {
-			byte *p432, *p435, *p438, *p440, *p441;
-			uint64_t n433, n434, n436, n437, n439;
+		bool b418 = n201 == 0;
+		if (!b418) {
+			byte *p420, *p423, *p426, *p428;
+			uint64_t n421, n422, n424, n425, n427;
 			if (n201 > UINT64_C(576460752303423487)) {
-				p432 = p376;
-				n433 = n374;
-				n434 = n374;
-				p435 = p373;
-				n436 = n202;
-				n437 = n201;
-				p438 = p425;
-				n439 = n205;
-				p440 = p424;
-				p441 = p420;
+				p420 = p376;
+				n421 = n374;
+				n422 = n374;
+				p423 = p373;
+				n424 = n202;
+				n425 = n201;
+				p426 = (byte *)(uintptr_t)n204;
+				n427 = n205;
+				p428 = (byte *)(uintptr_t)n207;
 			} else {
-				of_i64_i64 s442 = rattle_alloc(n201 << 4, 8);
-				if ((s442.f0 & 1) != 0) {
-					byte *p443 = (byte *)(uintptr_t)s442.f1;
-					uint64_t n444 = n201 - 1;
-					uint64_t n445 = 0;
-					while (n445 != n444) {
-						memset(inside(p443, n445 << 4), 0, 16);
-						n445 = n445 + 1;
+				of_i64_i64 s429 = rattle_alloc(n201 << 4, 8);
+				if ((s429.f0 & 1) != 0) {
+					byte *p430 = (byte *)(uintptr_t)s429.f1;
+					uint64_t n431 = n201 - 1;
+					uint64_t n432 = 0;
+					while (n432 != n431) {
+						memset(inside(p430, n432 << 4), 0, 16);
+						n432 = n432 + 1;
 					}
-					memset(inside(p443, n444 << 4), 0, 16);
-					p431 = p443;
+					memset(inside(p430, n431 << 4), 0, 16);
+					p419 = p430;
 					goto L6;
 				}
-				p432 = loadptr(p18 + 1408);
-				n433 = load64(p18 + 1400);
-				n434 = load64(p18 + 1392);
-				p435 = loadptr(p18 + 1384);
-				n436 = load64(p18 + 1376);
-				n437 = load64(p18 + 1368);
-				p438 = loadptr(p18 + 1360);
-				n439 = load64(p18 + 1344);
-				p440 = loadptr(p18 + 1328);
-				p441 = loadptr(p18 + 80);
+				p420 = loadptr(p18 + 1408);
+				n421 = load64(p18 + 1400);
+				n422 = load64(p18 + 1392);
+				p423 = loadptr(p18 + 1384);
+				n424 = load64(p18 + 1376);
+				n425 = load64(p18 + 1368);
+				p426 = loadptr(p18 + 1360);
+				n427 = load64(p18 + 1344);
+				p428 = loadptr(p18 + 1328);
 			}
-			n446 = load64(p18);
-			p447 = loadptr(p18 + 40);
-			n448 = load64(p18 + 56);
-			p449 = p441;
-			n450 = load64(p18 + 96);
-			p451 = loadptr(p18 + 208);
-			n452 = load64(p18 + 224);
-			p453 = p440;
-			n454 = n439;
-			p455 = p438;
-			n456 = n437;
-			n457 = n436;
-			p458 = p435;
-			n459 = n434;
-			n460 = n433;
-			p461 = p432;
-			n462 = load64(p18 + 1424);
-			n463 = 2;
+			n433 = load64(p18);
+			p434 = loadptr(p18 + 40);
+			n435 = load64(p18 + 56);
+			p436 = loadptr(p18 + 80);
+			n437 = load64(p18 + 96);
+			p438 = loadptr(p18 + 208);
+			n439 = load64(p18 + 224);
+			p440 = p428;
+			n441 = n427;
+			p442 = p426;
+			n443 = n425;
+			n444 = n424;
+			p445 = p423;
+			n446 = n422;
+			n447 = n421;
+			p448 = p420;
+			n449 = load64(p18 + 1424);
+			n450 = 2;
 			goto L7;
 		}
-		p431 = p6;
+		p419 = p6;
 L6:
 		{
-			byte *p778, *p801, *p803, *p805, *p807, *p809, *p811, *p814, *p817;
-			uint64_t n780, n802, n804, n806, n808, n810, n812, n813, n815, n816, n818;
+			byte *p755, *p779, *p781, *p783, *p785, *p787, *p790, *p793;
+			uint64_t n757, n778, n780, n782, n784, n786, n788, n789, n791, n792, n794;
 			storeptru(p19, p6);
 			memset(p19 + 8, 0, 16);
-			uint64_t n464 = 0;
-			while (n464 < 10000000) {
-				byte *p467, *p486, *p488, *p493;
-				uint64_t n468, n469, n470, n472, n473, n474, n477, n479, n480, n485, n487, n489, n491, n492, n494, n496, n497, n498, n500, n502, n504, n779, n781, n792;
-				bool b471, b475, b490, b495, b499;
-				uint8_t n782;
-				uint64_t n465 = 0;
+			uint64_t n451 = 0;
+			while (n451 < 10000000) {
+				uint64_t n457, n477;
+				uint64_t n452 = 0;
 				for (;;) {
-					if (n465 == n201)
+					if (n452 == n201)
 						goto L8;
-					byte *p466 = at(p431, n465 << 4);
-					if (n5 > load64(p466))
+					byte *p453 = at(p419, n452 << 4);
+					if (n5 > load64(p453))
 						break;
-					if ((n5 << 1) > load64(p466 + 8))
+					if ((n5 << 1) > load64(p453 + 8))
 						break;
-					n465 = n465 + 1;
+					n452 = n452 + 1;
 				}
-				p467 = loadptr(p18 + 80);
-				if (n465 >= n201) {
-					p801 = p467;
-					goto L9;
-				}
-				n468 = load64(p18 + 64);
-				n469 = load64(p18 + 32);
-				n470 = (uint64_t)load32(at(p467, n469 << 3) + 4);
-				b471 = n469 != n470;
-				n472 = load64(p18 + 104);
-				n473 = b471 ? (n470 - n472) : 0;
-				n474 = 0;
-				b475 = b471;
-				while (n474 != n468) {
-					if (!b475)
-						break;
-					uint64_t n476 = (uint64_t)load32(at(p467, (n472 + n473) << 3) + 4);
-					n473 = usub_sat64(n476, n472);
-					n474 = n474 + 1;
-					b475 = n472 <= n476;
-				}
+				if (n452 >= n201)
+					goto L8;
 				if (load64(p19 + 8) != 0)
 					store64(p19 + 8, 0);
-				n477 = n201 << 1;
-				if (n477 >= load64(p19 + 16)) {
-					bool b478 = tp_std_alloc_vec_Vec_grow_amortized_8(p19, n477 | 1);
-					if (!b478)
-						goto L10;
+				uint64_t n454 = n201 << 1;
+				if (n454 >= load64(p19 + 16)) {
+					bool b455 = tp_std_alloc_vec_Vec_grow_amortized_8(p19, n454 | 1);
+					if (!b455)
+						goto L9;
 				}
-				n479 = 0;
+				uint64_t n456 = 0;
 				for (;;) {
-					if (n479 == n201) {
-						n480 = 0;
+					if (n456 == n201) {
+						n457 = 0;
 						break;
 					}
-					if (load64(at(p431, n479 << 4)) < n5) {
-						uint64_t n481 = load64(p19 + 8);
-						byte *p482 = inside(loadptr(p19), n481 << 4);
-						store64u(p482, 0);
-						store64u(p482 + 8, n479);
-						store64(p19 + 8, n481 + 1);
+					if (load64(at(p419, n456 << 4)) < n5) {
+						uint64_t n458 = load64(p19 + 8);
+						byte *p459 = inside(loadptr(p19), n458 << 4);
+						store64u(p459, 0);
+						store64u(p459 + 8, n456);
+						store64(p19 + 8, n458 + 1);
 					}
-					n479 = n479 + 1;
+					n456 = n456 + 1;
 				}
-				while (n480 != n201) {
-					uint64_t n483 = load64(p19 + 8);
-					byte *p484 = inside(loadptr(p19), n483 << 4);
-					store64u(p484, 4);
-					store64u(p484 + 8, n480);
-					store64(p19 + 8, n483 + 1);
-					n480 = n480 + 1;
+				while (n457 != n201) {
+					uint64_t n460 = load64(p19 + 8);
+					byte *p461 = inside(loadptr(p19), n460 << 4);
+					store64u(p461, 4);
+					store64u(p461 + 8, n457);
+					store64(p19 + 8, n460 + 1);
+					n457 = n457 + 1;
 				}
-				n485 = load64(p19 + 8);
-				p486 = inside(loadptr(p19), n485 << 4);
-				store64u(p486, 1);
-				store64u(p486 + 8, 0);
-				n487 = n485 + 1;
-				store64(p19 + 8, n487);
-				p488 = loadptr(p19);
+				uint64_t n462 = load64(p19 + 8);
+				byte *p463 = inside(loadptr(p19), n462 << 4);
+				store64u(p463, 1);
+				store64u(p463 + 8, 0);
+				uint64_t n464 = n462 + 1;
+				store64(p19 + 8, n464);
+				byte *p465 = loadptr(p19);
 				memset(p17, 0, 7);
-				n489 = n487 << 1;
-				b490 = (int64_t)n487 > (int64_t)UINT64_MAX;
-				n491 = load64(p18 + 64);
-				n492 = load64(p18 + 32);
-				p493 = loadptr(p18 + 80);
-				n494 = (uint64_t)load32(at(p493, n492 << 3) + 4);
-				b495 = n492 != n494;
-				n496 = load64(p18 + 104);
-				n497 = b495 ? (n494 - n496) : 0;
-				n498 = 0;
-				b499 = b495;
+				uint64_t n466 = n464 << 1;
+				bool b467 = (int64_t)n464 > (int64_t)UINT64_MAX;
+				uint64_t n468 = load64(p18 + 64);
+				uint64_t n469 = load64(p18 + 32);
+				byte *p470 = loadptr(p18 + 80);
+				uint64_t n471 = (uint64_t)load32(at(p470, n469 << 3) + 4);
+				bool b472 = n469 != n471;
+				uint64_t n473 = load64(p18 + 104);
+				uint64_t n474 = b472 ? (n471 - n473) : 0;
+				uint64_t n475 = 0;
+				bool b476 = b472;
 				for (;;) {
-					if (n498 == n491) {
-						n500 = n491;
+					if (n475 == n468) {
+						n477 = n468;
 						break;
 					}
-					if (!b499) {
-						n500 = n498;
+					if (!b476) {
+						n477 = n475;
 						break;
 					}
-					uint64_t n501 = (uint64_t)load32(at(p493, (n496 + n497) << 3) + 4);
-					n497 = usub_sat64(n501, n496);
-					n498 = n498 + 1;
-					b499 = n496 <= n501;
+					uint64_t n478 = (uint64_t)load32(at(p470, (n473 + n474) << 3) + 4);
+					n474 = usub_sat64(n478, n473);
+					n475 = n475 + 1;
+					b476 = n473 <= n478;
 				}
-				n502 = b490 ? uadd_sat64(n491 - n500, n489) : UINT64_MAX;
+				uint64_t n479 = b467 ? uadd_sat64(n468 - n477, n466) : UINT64_MAX;
 				memcpy(p15, p18 + 1408, 24);
 				storeptru(p18 + 1408, p6);
 				memset(p18 + 1416, 0, 16);
 				if (load64(p15 + 8) != 0)
 					store64(p15 + 8, 0);
-				if (n502 > load64(p15 + 16)) {
-					bool b503 = tp_std_alloc_vec_Vec_grow_amortized_7(p15, n502);
-					if (!b503)
-						goto L11;
+				if (n479 > load64(p15 + 16)) {
+					bool b480 = tp_std_alloc_vec_Vec_grow_amortized_7(p15, n479);
+					if (!b480)
+						goto L10;
 				}
 				memcpy(p17 + 7, p15, 24);
 				memcpy(p16, p17 + 7, 24);
-				n504 = 0;
-				while (n504 != n487) {
-					uint8_t n724, n725;
-					uint64_t n726, n727, n728, n729, n730, n731, n732;
-					byte *p505 = at(p488, n504 << 4);
-					uint8_t n506 = load8(p505);
-					uint64_t n507 = load64u(p505 + 8);
+				uint64_t n481 = 0;
+				while (n481 != n464) {
+					uint8_t n701, n702;
+					uint64_t n703, n704, n705, n706, n707, n708, n709;
+					byte *p482 = at(p465, n481 << 4);
+					uint8_t n483 = load8(p482);
+					uint64_t n484 = load64u(p482 + 8);
 					memset(p14, 0, 7);
-					switch (MOSTLY_0(n506)) {
+					switch (MOSTLY_0(n483)) {
 					case 0: {
-						uint64_t n513, n514, n515, n516, n517, n518, n519, n520, n521, n522, n523, n524, n525, n526, n527;
-						uint64_t n508 = n507 * 88;
-						byte *p509 = at(loadptr(p18 + 1384), n508);
-						byte *p510 = at(loadptr(p18 + 1360), n508);
-						uint64_t n511 = load64(p509 + 8);
-						uint64_t n512 = load64(p509 + 16);
-						if (load64(p18 + 272) > n507) {
-							n513 = load64(inside(p18 + 808, n507 << 3));
+						uint64_t n490, n491, n492, n493, n494, n495, n496, n497, n498, n499, n500, n501, n502, n503, n504;
+						uint64_t n485 = n484 * 88;
+						byte *p486 = at(loadptr(p18 + 1384), n485);
+						byte *p487 = at(loadptr(p18 + 1360), n485);
+						uint64_t n488 = load64(p486 + 8);
+						uint64_t n489 = load64(p486 + 16);
+						if (load64(p18 + 272) > n484) {
+							n490 = load64(inside(p18 + 808, n484 << 3));
 						} else {
-							n513 = 0;
+							n490 = 0;
 						}
-						if ((n511 - (n512 + n513)) < 2) {
-							n514 = 0;
-							n515 = 0;
-							n516 = 0;
-							n517 = 0;
-							n518 = 0;
-							n519 = 0;
-							n520 = 0;
-							n521 = 0;
-							n522 = 0;
-							n523 = 0;
-							n524 = 0;
-							n525 = 1;
-							n526 = 0;
-							n527 = 0;
+						if ((n488 - (n489 + n490)) < 2) {
+							n491 = 0;
+							n492 = 0;
+							n493 = 0;
+							n494 = 0;
+							n495 = 0;
+							n496 = 0;
+							n497 = 0;
+							n498 = 0;
+							n499 = 0;
+							n500 = 0;
+							n501 = 0;
+							n502 = 1;
+							n503 = 0;
+							n504 = 0;
 						} else {
-							uint64_t n528, n529, n530, n532, n533, n569, n570, n571, n572, n573, n574, n575;
-							uint8_t n531;
-							if (load8(p509 + 32) == 1) {
-								n528 = load64u(p509 + 56);
-								n529 = load64u(p509 + 64);
-								n530 = load64(p509 + 40);
-								n531 = load8(p509 + 48);
-								n532 = load64u(p509 + 72);
-								n533 = load64u(p509 + 80);
-							} else if ((load8(p510 + 80) & 1) != 0) {
-								uint64_t n534 = load64(p510 + 16);
-								uint64_t n535 = load64(p510 + 24);
-								uint64_t n536 = load64(p510 + 32);
-								uint64_t n537 = n534 << 1;
-								if (n536 == (n535 - ((n535 > n536) ? n537 : 0))) {
-									n514 = 0;
-									n515 = 0;
-									n516 = 0;
-									n517 = 0;
-									n518 = 0;
-									n519 = 0;
-									n520 = 0;
-									n521 = 0;
-									n522 = 0;
-									n523 = 0;
-									n524 = 0;
-									n525 = 0;
-									n526 = 0;
-									n527 = 0;
-									goto L12;
+							uint64_t n505, n506, n507, n509, n510, n546, n547, n548, n549, n550, n551, n552;
+							uint8_t n508;
+							if (load8(p486 + 32) == 1) {
+								n505 = load64u(p486 + 56);
+								n506 = load64u(p486 + 64);
+								n507 = load64(p486 + 40);
+								n508 = load8(p486 + 48);
+								n509 = load64u(p486 + 72);
+								n510 = load64u(p486 + 80);
+							} else if ((load8(p487 + 80) & 1) != 0) {
+								uint64_t n511 = load64(p487 + 16);
+								uint64_t n512 = load64(p487 + 24);
+								uint64_t n513 = load64(p487 + 32);
+								uint64_t n514 = n511 << 1;
+								if (n513 == (n512 - ((n512 > n513) ? n514 : 0))) {
+									n491 = 0;
+									n492 = 0;
+									n493 = 0;
+									n494 = 0;
+									n495 = 0;
+									n496 = 0;
+									n497 = 0;
+									n498 = 0;
+									n499 = 0;
+									n500 = 0;
+									n501 = 0;
+									n502 = 0;
+									n503 = 0;
+									n504 = 0;
+									goto L11;
 								}
-								uint64_t n538 = (n535 < (n537 - 1)) ? (n535 + 1) : 0;
-								byte *p539 = inside(loadptr(p510 + 8), (n535 - ((n535 < n534) ? 0 : n534)) * 48);
-								byte *p540 = loadptr(p510);
-								uint64_t n541 = load64u(p539);
-								uint8_t n542 = load8(p539 + 8);
-								uint64_t n543 = load64u(p539 + 16);
-								uint64_t n544 = load64u(p539 + 24);
-								uint64_t n545 = load64u(p539 + 32);
-								uint64_t n546 = load64u(p539 + 40);
+								uint64_t n515 = (n512 < (n514 - 1)) ? (n512 + 1) : 0;
+								byte *p516 = inside(loadptr(p487 + 8), (n512 - ((n512 < n511) ? 0 : n511)) * 48);
+								byte *p517 = loadptr(p487);
+								uint64_t n518 = load64u(p516);
+								uint8_t n519 = load8(p516 + 8);
+								uint64_t n520 = load64u(p516 + 16);
+								uint64_t n521 = load64u(p516 + 24);
+								uint64_t n522 = load64u(p516 + 32);
+								uint64_t n523 = load64u(p516 + 40);
 								BARRIER();
-								atomic_store64(p540, n538, ORDER_SEQ_CST);
+								atomic_store64(p517, n515, ORDER_SEQ_CST);
 								BARRIER();
-								store64(p510 + 24, n538);
-								n528 = n543;
-								n529 = n544;
-								n530 = n541;
-								n531 = n542;
-								n532 = n545;
-								n533 = n546;
+								store64(p487 + 24, n515);
+								n505 = n520;
+								n506 = n521;
+								n507 = n518;
+								n508 = n519;
+								n509 = n522;
+								n510 = n523;
 							} else {
-								uint64_t n556, n557, n558;
-								uint64_t n547 = load64(p510 + 16);
-								uint64_t n548 = load64(p510 + 24);
-								uint64_t n549 = load64(p510 + 32);
-								uint64_t n550 = n547 << 1;
-								if (n549 == (n548 - ((n548 > n549) ? n550 : 0))) {
-									byte *p551 = loadptr(p510) + 128;
+								uint64_t n533, n534, n535;
+								uint64_t n524 = load64(p487 + 16);
+								uint64_t n525 = load64(p487 + 24);
+								uint64_t n526 = load64(p487 + 32);
+								uint64_t n527 = n524 << 1;
+								if (n526 == (n525 - ((n525 > n526) ? n527 : 0))) {
+									byte *p528 = loadptr(p487) + 128;
 									BARRIER();
-									uint64_t n552 = atomic_load64(p551, ORDER_SEQ_CST);
+									uint64_t n529 = atomic_load64(p528, ORDER_SEQ_CST);
 									BARRIER();
-									store64(p510 + 32, n552);
-									uint64_t n553 = load64(p510 + 16);
-									uint64_t n554 = load64(p510 + 24);
-									uint64_t n555 = n553 << 1;
-									if (n552 == (n554 - ((n554 > n552) ? n555 : 0))) {
-										n514 = 0;
-										n515 = 0;
-										n516 = 0;
-										n517 = 0;
-										n518 = 0;
-										n519 = 0;
-										n520 = 0;
-										n521 = 0;
-										n522 = 0;
-										n523 = 0;
-										n524 = 0;
-										n525 = 0;
-										n526 = 0;
-										n527 = 0;
-										goto L12;
+									store64(p487 + 32, n529);
+									uint64_t n530 = load64(p487 + 16);
+									uint64_t n531 = load64(p487 + 24);
+									uint64_t n532 = n530 << 1;
+									if (n529 == (n531 - ((n531 > n529) ? n532 : 0))) {
+										n491 = 0;
+										n492 = 0;
+										n493 = 0;
+										n494 = 0;
+										n495 = 0;
+										n496 = 0;
+										n497 = 0;
+										n498 = 0;
+										n499 = 0;
+										n500 = 0;
+										n501 = 0;
+										n502 = 0;
+										n503 = 0;
+										n504 = 0;
+										goto L11;
 									}
-									n556 = n555;
-									n557 = n553;
-									n558 = n554;
+									n533 = n532;
+									n534 = n530;
+									n535 = n531;
 								} else {
-									n556 = n550;
-									n557 = n547;
-									n558 = n548;
+									n533 = n527;
+									n534 = n524;
+									n535 = n525;
 								}
-								uint64_t n559 = (n558 < (n556 - 1)) ? (n558 + 1) : 0;
-								byte *p560 = inside(loadptr(p510 + 8), (n558 - ((n558 < n557) ? 0 : n557)) * 48);
-								byte *p561 = loadptr(p510);
-								uint64_t n562 = load64u(p560);
-								uint8_t n563 = load8(p560 + 8);
-								uint64_t n564 = load64u(p560 + 16);
-								uint64_t n565 = load64u(p560 + 24);
-								uint64_t n566 = load64u(p560 + 32);
-								uint64_t n567 = load64u(p560 + 40);
+								uint64_t n536 = (n535 < (n533 - 1)) ? (n535 + 1) : 0;
+								byte *p537 = inside(loadptr(p487 + 8), (n535 - ((n535 < n534) ? 0 : n534)) * 48);
+								byte *p538 = loadptr(p487);
+								uint64_t n539 = load64u(p537);
+								uint8_t n540 = load8(p537 + 8);
+								uint64_t n541 = load64u(p537 + 16);
+								uint64_t n542 = load64u(p537 + 24);
+								uint64_t n543 = load64u(p537 + 32);
+								uint64_t n544 = load64u(p537 + 40);
 								BARRIER();
-								atomic_store64(p561, n559, ORDER_SEQ_CST);
+								atomic_store64(p538, n536, ORDER_SEQ_CST);
 								BARRIER();
-								store64(p510 + 24, n559);
-								n528 = n564;
-								n529 = n565;
-								n530 = n562;
-								n531 = n563;
-								n532 = n566;
-								n533 = n567;
+								store64(p487 + 24, n536);
+								n505 = n541;
+								n506 = n542;
+								n507 = n539;
+								n508 = n540;
+								n509 = n543;
+								n510 = n544;
 							}
-							uint64_t n568 = (uint64_t)n531;
-							switch (MOSTLY_0(n531)) {
+							uint64_t n545 = (uint64_t)n508;
+							switch (MOSTLY_0(n508)) {
 							case 0:
 							case 1: {
-								n569 = n529;
+								n546 = n506;
 								break;
 							}
 							case 3:
 							case 4: {
-								n569 = n533;
+								n546 = n510;
 								break;
 							}
 							case 2: {
-								n569 = 0;
+								n546 = 0;
 								break;
 							}
 							default: {
@@ -78394,138 +78309,138 @@ L6:
 							}
 							}
 							if ((load8(p18 + 1320) & 1) != 0) {
-								n570 = 0;
-								n571 = 1;
-								n572 = 0;
-								n573 = 0;
-								n574 = 0;
-								n575 = 0;
-							} else if (load64(p18 + 272) > n507) {
-								uint64_t n576 = n507 << 3;
-								byte *p577 = inside(p18 + 296, n576);
-								uint64_t n578 = load64(p577);
-								if (n530 < n578) {
-									n570 = n578;
-									n571 = 1;
-									n572 = 2;
-									n573 = 0;
-									n574 = 0;
-									n575 = 0;
-								} else if (n578 > UINT64_C(1152921504606846975)) {
-									n570 = 0;
-									n571 = 1;
-									n572 = 3;
-									n573 = 0;
-									n574 = 0;
-									n575 = 0;
-								} else if (n578 < n530) {
-									n570 = n578;
-									n571 = 1;
-									n572 = 4;
-									n573 = 0;
-									n574 = 0;
-									n575 = 0;
+								n547 = 0;
+								n548 = 1;
+								n549 = 0;
+								n550 = 0;
+								n551 = 0;
+								n552 = 0;
+							} else if (load64(p18 + 272) > n484) {
+								uint64_t n553 = n484 << 3;
+								byte *p554 = inside(p18 + 296, n553);
+								uint64_t n555 = load64(p554);
+								if (n507 < n555) {
+									n547 = n555;
+									n548 = 1;
+									n549 = 2;
+									n550 = 0;
+									n551 = 0;
+									n552 = 0;
+								} else if (n555 > UINT64_C(1152921504606846975)) {
+									n547 = 0;
+									n548 = 1;
+									n549 = 3;
+									n550 = 0;
+									n551 = 0;
+									n552 = 0;
+								} else if (n555 < n507) {
+									n547 = n555;
+									n548 = 1;
+									n549 = 4;
+									n550 = 0;
+									n551 = 0;
+									n552 = 0;
 								} else {
-									uint64_t n579, n580, n583, n584;
-									uint8_t n581, n582;
-									switch (MOSTLY_0(n531)) {
+									uint64_t n556, n557, n560, n561;
+									uint8_t n558, n559;
+									switch (MOSTLY_0(n508)) {
 									case 0: {
-										uint64_t n596;
-										if (n528 == 0) {
-											n579 = 0;
-											n580 = 0;
-											n581 = 3;
-											n582 = 0;
-											n583 = 0;
-											n584 = 0;
-											goto L13;
+										uint64_t n573;
+										if (n505 == 0) {
+											n556 = 0;
+											n557 = 0;
+											n558 = 3;
+											n559 = 0;
+											n560 = 0;
+											n561 = 0;
+											goto L12;
 										}
-										uint64_t n585 = load64(p18 + 16);
-										if ((load64(p18 + 8) - n585) < n528) {
-											n579 = 0;
-											n580 = 0;
-											n581 = 3;
-											n582 = 1;
-											n583 = 0;
-											n584 = 0;
-											goto L13;
+										uint64_t n562 = load64(p18 + 16);
+										if ((load64(p18 + 8) - n562) < n505) {
+											n556 = 0;
+											n557 = 0;
+											n558 = 3;
+											n559 = 1;
+											n560 = 0;
+											n561 = 0;
+											goto L12;
 										}
-										uint64_t n586 = load64(p18 + 288);
-										if (n586 > UINT64_C(1152921504606846975)) {
-											n579 = 0;
-											n580 = 0;
-											n581 = 3;
-											n582 = 2;
-											n583 = 0;
-											n584 = 0;
-											goto L13;
+										uint64_t n563 = load64(p18 + 288);
+										if (n563 > UINT64_C(1152921504606846975)) {
+											n556 = 0;
+											n557 = 0;
+											n558 = 3;
+											n559 = 2;
+											n560 = 0;
+											n561 = 0;
+											goto L12;
 										}
-										uint64_t n587 = load64(p18 + 64);
-										uint64_t n588 = load64(p18 + 32);
-										byte *p589 = loadptr(p18 + 80);
-										uint64_t n590 = (uint64_t)load32(at(p589, n588 << 3) + 4);
-										bool b591 = n588 != n590;
-										uint64_t n592 = load64(p18 + 104);
-										uint64_t n593 = b591 ? (n590 - n592) : 0;
-										uint64_t n594 = 0;
-										bool b595 = b591;
+										uint64_t n564 = load64(p18 + 64);
+										uint64_t n565 = load64(p18 + 32);
+										byte *p566 = loadptr(p18 + 80);
+										uint64_t n567 = (uint64_t)load32(at(p566, n565 << 3) + 4);
+										bool b568 = n565 != n567;
+										uint64_t n569 = load64(p18 + 104);
+										uint64_t n570 = b568 ? (n567 - n569) : 0;
+										uint64_t n571 = 0;
+										bool b572 = b568;
 										for (;;) {
-											if (n594 == n587) {
-												n596 = n587;
+											if (n571 == n564) {
+												n573 = n564;
 												break;
 											}
-											if (!b595) {
-												n596 = n594;
+											if (!b572) {
+												n573 = n571;
 												break;
 											}
-											uint64_t n597 = (uint64_t)load32(at(p589, (n592 + n593) << 3) + 4);
-											n593 = usub_sat64(n597, n592);
-											n594 = n594 + 1;
-											b595 = n592 <= n597;
+											uint64_t n574 = (uint64_t)load32(at(p566, (n569 + n570) << 3) + 4);
+											n570 = usub_sat64(n574, n569);
+											n571 = n571 + 1;
+											b572 = n569 <= n574;
 										}
-										if ((n587 - n596) != load64(p18 + 280)) {
-											uint64_t n602;
-											uint64_t n598 = n585 + n528;
-											uint8_t n599 = load8(p18);
-											bool b600 = n585 < n598;
-											if (b600) {
-												uint64_t n609, n610, n611;
-												switch (MOSTLY_0(n599)) {
+										if ((n564 - n573) != load64(p18 + 280)) {
+											uint64_t n579;
+											uint64_t n575 = n562 + n505;
+											uint8_t n576 = load8(p18);
+											bool b577 = n562 < n575;
+											if (b577) {
+												uint64_t n586, n587, n588;
+												switch (MOSTLY_0(n576)) {
 												case 0: {
-													uint32_t n601 = (((uint32_t)ctlz64(n585 ^ n598) ^ 63) * 43) >> 8;
-													if (n601 == 0) {
-														n602 = n598 & 63;
-														goto L14;
+													uint32_t n578 = (((uint32_t)ctlz64(n562 ^ n575) ^ 63) * 43) >> 8;
+													if (n578 == 0) {
+														n579 = n575 & 63;
+														goto L13;
 													}
-													n602 = ((n598 >> ((uint64_t)(n601 * 6) & 63)) & 63) | (uint64_t)(n601 << 6);
-													goto L14;
+													n579 = ((n575 >> ((uint64_t)(n578 * 6) & 63)) & 63) | (uint64_t)(n578 << 6);
+													goto L13;
 												}
 												case 1: {
-													uint32_t n603 = (uint32_t)n598;
-													uint32_t n604 = (uint32_t)n585;
-													uint32_t n605 = n603 / 60;
-													uint32_t n606 = n605 * 60;
-													if (n606 <= n604) {
-														n602 = (uint64_t)(n603 - n606);
-														goto L14;
+													uint32_t n580 = (uint32_t)n575;
+													uint32_t n581 = (uint32_t)n562;
+													uint32_t n582 = n580 / 60;
+													uint32_t n583 = n582 * 60;
+													if (n583 <= n581) {
+														n579 = (uint64_t)(n580 - n583);
+														goto L13;
 													}
-													uint32_t n607 = n603 / 3600;
-													if ((n607 * 3600) <= n604) {
-														n602 = (uint64_t)(((n607 * 4294967236u) + n605) + 60);
-														goto L14;
+													uint32_t n584 = n580 / 3600;
+													if ((n584 * 3600) <= n581) {
+														n579 = (uint64_t)(((n584 * 4294967236u) + n582) + 60);
+														goto L13;
 													}
-													uint32_t n608 = n603 / 86400;
-													if ((n608 * 86400) > n604) {
-														n602 = (uint64_t)(n608 + 144);
-														goto L14;
+													uint32_t n585 = n580 / 86400;
+													if ((n585 * 86400) > n581) {
+														n579 = (uint64_t)(n585 + 144);
+														goto L13;
 													}
-													n602 = (uint64_t)(((n608 * 4294967272u) + n607) + 120);
-													goto L14;
+													n579 = (uint64_t)(((n585 * 4294967272u) + n584) + 120);
+													goto L13;
 												}
 												case 2: {
-													n609 = n598;
-													n610 = n585;
-													n611 = 0;
+													n586 = n575;
+													n587 = n562;
+													n588 = 0;
 													break;
 												}
 												default: {
@@ -78533,136 +78448,136 @@ L6:
 												}
 												}
 												for (;;) {
-													uint64_t n612 = n610 >> 4;
-													uint64_t n613 = n609 >> 4;
-													if (n612 == n613)
+													uint64_t n589 = n587 >> 4;
+													uint64_t n590 = n586 >> 4;
+													if (n589 == n590)
 														break;
-													n609 = n613;
-													n610 = n612;
-													n611 = n611 + 16;
+													n586 = n590;
+													n587 = n589;
+													n588 = n588 + 16;
 												}
-												n602 = n611 | (n609 & 15);
+												n579 = n588 | (n586 & 15);
 											} else {
-												n602 = n588;
+												n579 = n565;
 											}
-L14:
+L13:
 											{
-												uint64_t n615, n616, n620;
-												uint64_t n614 = load64(p18 + 72);
-												if (n614 < load64(p18 + 120)) {
-													n615 = n587;
-													n616 = n614;
+												uint64_t n592, n593, n597;
+												uint64_t n591 = load64(p18 + 72);
+												if (n591 < load64(p18 + 120)) {
+													n592 = n564;
+													n593 = n591;
 												} else {
-													uint8_t n617 = tp_links_make_ready(p18 + 40, p18 + 80, n592, load64(p18 + 112));
-													if ((n617 & 1) != 0)
-														goto L15;
-													store64(p18 + 120, umin64(load64(p18 + 88) - n592, load64(p18 + 56)));
-													n615 = load64(p18 + 64);
-													n616 = load64(p18 + 72);
+													uint8_t n594 = tp_links_make_ready(p18 + 40, p18 + 80, n569, load64(p18 + 112));
+													if ((n594 & 1) != 0)
+														goto L14;
+													store64(p18 + 120, umin64(load64(p18 + 88) - n569, load64(p18 + 56)));
+													n592 = load64(p18 + 64);
+													n593 = load64(p18 + 72);
 												}
-												store64(p18 + 64, n615 + 1);
-												if (n616 == load64(p18 + 48)) {
-													byte *p618 = inside(loadptr(p18 + 40), n616 * 48);
-													store64u(p618, 1);
-													store64u(p618 + 8, n586);
-													store64u(p618 + 16, n507);
-													store64u(p618 + 24, n530);
-													store64u(p618 + 32, n598);
-													store64u(p618 + 40, n529);
-													uint64_t n619 = n616 + 1;
-													store64(p18 + 48, n619);
-													n620 = n619;
+												store64(p18 + 64, n592 + 1);
+												if (n593 == load64(p18 + 48)) {
+													byte *p595 = inside(loadptr(p18 + 40), n593 * 48);
+													store64u(p595, 1);
+													store64u(p595 + 8, n563);
+													store64u(p595 + 16, n484);
+													store64u(p595 + 24, n507);
+													store64u(p595 + 32, n575);
+													store64u(p595 + 40, n506);
+													uint64_t n596 = n593 + 1;
+													store64(p18 + 48, n596);
+													n597 = n596;
 												} else {
-													byte *p621 = at(loadptr(p18 + 40), n616 * 48);
-													uint8_t n622 = load8(p621);
-													uint64_t n623 = load64u(p621 + 8);
-													store64u(p621, 1);
-													store64u(p621 + 8, n586);
-													store64u(p621 + 16, n507);
-													store64u(p621 + 24, n530);
-													store64u(p621 + 32, n598);
-													store64u(p621 + 40, n529);
-													if (n622 != 0) {
+													byte *p598 = at(loadptr(p18 + 40), n593 * 48);
+													uint8_t n599 = load8(p598);
+													uint64_t n600 = load64u(p598 + 8);
+													store64u(p598, 1);
+													store64u(p598 + 8, n563);
+													store64u(p598 + 16, n484);
+													store64u(p598 + 24, n507);
+													store64u(p598 + 32, n575);
+													store64u(p598 + 40, n506);
+													if (n599 != 0) {
 														TRAP();
 														UNREACHABLE();
 													}
-													n620 = n623;
+													n597 = n600;
 												}
-												store64(p18 + 72, n620);
-												uint64_t n624 = load64(p18 + 104) + n616;
-												byte *p625 = loadptr(p18 + 80);
-												uint64_t n626 = n602 << 3;
-												byte *p627 = inside(p625, n626);
-												uint32_t n628 = load32(p627);
-												uint32_t n629 = (uint32_t)n624;
-												store32(inside(p625, (uint64_t)n628 << 3) + 4, n629);
-												byte *p630 = inside(p625, n624 << 3);
-												store32(p630, n628);
-												store32(p630 + 4, (uint32_t)n602);
-												store32(p627, n629);
-												store64(p18 + 24, n586);
-												if (b600) {
-													byte *p631 = inside(p18 + 128, (n602 >> 3) & 536870904);
-													store64(p631, load64(p631) | ((uint64_t)1 << (n602 & 63)));
+												store64(p18 + 72, n597);
+												uint64_t n601 = load64(p18 + 104) + n593;
+												byte *p602 = loadptr(p18 + 80);
+												uint64_t n603 = n579 << 3;
+												byte *p604 = inside(p602, n603);
+												uint32_t n605 = load32(p604);
+												uint32_t n606 = (uint32_t)n601;
+												store32(inside(p602, (uint64_t)n605 << 3) + 4, n606);
+												byte *p607 = inside(p602, n601 << 3);
+												store32(p607, n605);
+												store32(p607 + 4, (uint32_t)n579);
+												store32(p604, n606);
+												store64(p18 + 24, n563);
+												if (b577) {
+													byte *p608 = inside(p18 + 128, (n579 >> 3) & 536870904);
+													store64(p608, load64(p608) | ((uint64_t)1 << (n579 & 63)));
 													if ((load8(p18 + 232) & 1) != 0) {
-														uint64_t n632;
-														switch (MOSTLY_0(n599)) {
+														uint64_t n609;
+														switch (MOSTLY_0(n576)) {
 														case 0: {
-															n632 = 64;
+															n609 = 64;
 															break;
 														}
 														case 1: {
-															n632 = 60;
+															n609 = 60;
 															break;
 														}
 														case 2: {
-															n632 = 16;
+															n609 = 16;
 															break;
 														}
 														default: {
 															UNREACHABLE();
 														}
 														}
-														if (n602 >= n632) {
-															byte *p633 = at(loadptr(p18 + 208), n602 << 4);
-															if (load8(p633) == 0) {
-																if (n598 < load64(p633 + 8)) {
-																	uint64_t n635;
-																	uint64_t n634 = (uint64_t)load32(at(loadptr(p18 + 80), n626) + 4);
-																	if (n602 == n634) {
-																		n635 = n598;
+														if (n579 >= n609) {
+															byte *p610 = at(loadptr(p18 + 208), n579 << 4);
+															if (load8(p610) == 0) {
+																if (n575 < load64(p610 + 8)) {
+																	uint64_t n612;
+																	uint64_t n611 = (uint64_t)load32(at(loadptr(p18 + 80), n603) + 4);
+																	if (n579 == n611) {
+																		n612 = n575;
 																	} else {
-																		uint64_t n636 = n634 - load64(p18 + 104);
-																		byte *p637 = at(loadptr(p18 + 40), n636 * 48);
-																		if (n636 < load64(p18 + 48)) {
-																			if (load8(p637) == 1) {
-																				n635 = umin64(n598, load64u(p637 + 32));
+																		uint64_t n613 = n611 - load64(p18 + 104);
+																		byte *p614 = at(loadptr(p18 + 40), n613 * 48);
+																		if (n613 < load64(p18 + 48)) {
+																			if (load8(p614) == 1) {
+																				n612 = umin64(n575, load64u(p614 + 32));
 																			} else {
-																				n635 = n598;
+																				n612 = n575;
 																			}
 																		} else {
-																			n635 = n598;
+																			n612 = n575;
 																		}
 																	}
-																	store32u(p633, 1);
-																	store32u(p633 + 4, 1);
-																	store64u(p633 + 8, n635);
+																	store32u(p610, 1);
+																	store32u(p610 + 4, 1);
+																	store64u(p610 + 8, n612);
 																	store64(p18 + 240, load64(p18 + 240) + 1);
 																} else {
-																	store32u(p633, 0);
-																	store32u(p633 + 4, 0);
-																	store64u(p633 + 8, n598);
+																	store32u(p610, 0);
+																	store32u(p610 + 4, 0);
+																	store64u(p610 + 8, n575);
 																}
 															} else {
-																uint32_t n638 = load32(p633 + 4);
-																uint64_t n639 = load64(p633 + 8);
-																if (n598 < n639) {
-																	store32u(p633, 1);
-																	store32u(p633 + 4, 1);
-																	store64u(p633 + 8, n598);
-																} else if (n598 == n639) {
-																	store32u(p633, 1);
-																	store32u(p633 + 4, uadd_sat32(n638, 1));
+																uint32_t n615 = load32(p610 + 4);
+																uint64_t n616 = load64(p610 + 8);
+																if (n575 < n616) {
+																	store32u(p610, 1);
+																	store32u(p610 + 4, 1);
+																	store64u(p610 + 8, n575);
+																} else if (n575 == n616) {
+																	store32u(p610, 1);
+																	store32u(p610 + 4, uadd_sat32(n615, 1));
 																}
 															}
 														}
@@ -78670,114 +78585,114 @@ L14:
 												}
 												store64(p18 + 248, load64(p18 + 248) + 1);
 												store64(p18 + 288, load64(p18 + 288) + 1);
-												byte *p640 = inside(p18 + 808, n576);
-												store64(p640, load64(p640) + 1);
-												n579 = n616;
-												n580 = n586;
-												n581 = 0;
-												n582 = 0;
-												n583 = n598;
-												n584 = 0;
-												goto L13;
+												byte *p617 = inside(p18 + 808, n553);
+												store64(p617, load64(p617) + 1);
+												n556 = n593;
+												n557 = n563;
+												n558 = 0;
+												n559 = 0;
+												n560 = n575;
+												n561 = 0;
+												goto L12;
 											}
 										}
-										n579 = 0;
-										n580 = 0;
-										n581 = 3;
-										n582 = 3;
-										n583 = 0;
-										n584 = 0;
-										goto L13;
+										n556 = 0;
+										n557 = 0;
+										n558 = 3;
+										n559 = 3;
+										n560 = 0;
+										n561 = 0;
+										goto L12;
 									}
 									case 1: {
-										uint64_t n653;
-										uint64_t n641 = load64(p18 + 16);
-										uint64_t n642 = usub_sat64(n528, n641);
-										if ((load64(p18 + 8) - n641) < umax64(n642, 1)) {
-											n579 = 0;
-											n580 = 0;
-											n581 = 3;
-											n582 = 1;
-											n583 = 0;
-											n584 = 0;
-											goto L13;
+										uint64_t n630;
+										uint64_t n618 = load64(p18 + 16);
+										uint64_t n619 = usub_sat64(n505, n618);
+										if ((load64(p18 + 8) - n618) < umax64(n619, 1)) {
+											n556 = 0;
+											n557 = 0;
+											n558 = 3;
+											n559 = 1;
+											n560 = 0;
+											n561 = 0;
+											goto L12;
 										}
-										uint64_t n643 = load64(p18 + 288);
-										if (n643 > UINT64_C(1152921504606846975)) {
-											n579 = 0;
-											n580 = 0;
-											n581 = 3;
-											n582 = 2;
-											n583 = 0;
-											n584 = 0;
-											goto L13;
+										uint64_t n620 = load64(p18 + 288);
+										if (n620 > UINT64_C(1152921504606846975)) {
+											n556 = 0;
+											n557 = 0;
+											n558 = 3;
+											n559 = 2;
+											n560 = 0;
+											n561 = 0;
+											goto L12;
 										}
-										uint64_t n644 = load64(p18 + 64);
-										uint64_t n645 = load64(p18 + 32);
-										byte *p646 = loadptr(p18 + 80);
-										uint64_t n647 = (uint64_t)load32(at(p646, n645 << 3) + 4);
-										bool b648 = n645 != n647;
-										uint64_t n649 = load64(p18 + 104);
-										uint64_t n650 = b648 ? (n647 - n649) : 0;
-										uint64_t n651 = 0;
-										bool b652 = b648;
+										uint64_t n621 = load64(p18 + 64);
+										uint64_t n622 = load64(p18 + 32);
+										byte *p623 = loadptr(p18 + 80);
+										uint64_t n624 = (uint64_t)load32(at(p623, n622 << 3) + 4);
+										bool b625 = n622 != n624;
+										uint64_t n626 = load64(p18 + 104);
+										uint64_t n627 = b625 ? (n624 - n626) : 0;
+										uint64_t n628 = 0;
+										bool b629 = b625;
 										for (;;) {
-											if (n651 == n644) {
-												n653 = n644;
+											if (n628 == n621) {
+												n630 = n621;
 												break;
 											}
-											if (!b652) {
-												n653 = n651;
+											if (!b629) {
+												n630 = n628;
 												break;
 											}
-											uint64_t n654 = (uint64_t)load32(at(p646, (n649 + n650) << 3) + 4);
-											n650 = usub_sat64(n654, n649);
-											n651 = n651 + 1;
-											b652 = n649 <= n654;
+											uint64_t n631 = (uint64_t)load32(at(p623, (n626 + n627) << 3) + 4);
+											n627 = usub_sat64(n631, n626);
+											n628 = n628 + 1;
+											b629 = n626 <= n631;
 										}
-										if ((n644 - n653) != load64(p18 + 280)) {
-											uint64_t n659;
-											uint64_t n655 = n641 + n642;
-											uint8_t n656 = load8(p18);
-											bool b657 = n641 < n655;
-											if (b657) {
-												uint64_t n666, n667, n668;
-												switch (MOSTLY_0(n656)) {
+										if ((n621 - n630) != load64(p18 + 280)) {
+											uint64_t n636;
+											uint64_t n632 = n618 + n619;
+											uint8_t n633 = load8(p18);
+											bool b634 = n618 < n632;
+											if (b634) {
+												uint64_t n643, n644, n645;
+												switch (MOSTLY_0(n633)) {
 												case 0: {
-													uint32_t n658 = (((uint32_t)ctlz64(n641 ^ n655) ^ 63) * 43) >> 8;
-													if (n658 == 0) {
-														n659 = n655 & 63;
-														goto L16;
+													uint32_t n635 = (((uint32_t)ctlz64(n618 ^ n632) ^ 63) * 43) >> 8;
+													if (n635 == 0) {
+														n636 = n632 & 63;
+														goto L15;
 													}
-													n659 = ((n655 >> ((uint64_t)(n658 * 6) & 63)) & 63) | (uint64_t)(n658 << 6);
-													goto L16;
+													n636 = ((n632 >> ((uint64_t)(n635 * 6) & 63)) & 63) | (uint64_t)(n635 << 6);
+													goto L15;
 												}
 												case 1: {
-													uint32_t n660 = (uint32_t)n655;
-													uint32_t n661 = (uint32_t)n641;
-													uint32_t n662 = n660 / 60;
-													uint32_t n663 = n662 * 60;
-													if (n663 <= n661) {
-														n659 = (uint64_t)(n660 - n663);
-														goto L16;
+													uint32_t n637 = (uint32_t)n632;
+													uint32_t n638 = (uint32_t)n618;
+													uint32_t n639 = n637 / 60;
+													uint32_t n640 = n639 * 60;
+													if (n640 <= n638) {
+														n636 = (uint64_t)(n637 - n640);
+														goto L15;
 													}
-													uint32_t n664 = n660 / 3600;
-													if ((n664 * 3600) <= n661) {
-														n659 = (uint64_t)(((n664 * 4294967236u) + n662) + 60);
-														goto L16;
+													uint32_t n641 = n637 / 3600;
+													if ((n641 * 3600) <= n638) {
+														n636 = (uint64_t)(((n641 * 4294967236u) + n639) + 60);
+														goto L15;
 													}
-													uint32_t n665 = n660 / 86400;
-													if ((n665 * 86400) > n661) {
-														n659 = (uint64_t)(n665 + 144);
-														goto L16;
+													uint32_t n642 = n637 / 86400;
+													if ((n642 * 86400) > n638) {
+														n636 = (uint64_t)(n642 + 144);
+														goto L15;
 													}
-													n659 = (uint64_t)(((n665 * 4294967272u) + n664) + 120);
-													goto L16;
+													n636 = (uint64_t)(((n642 * 4294967272u) + n641) + 120);
+													goto L15;
 												}
 												case 2: {
-													n666 = n655;
-													n667 = n641;
-													n668 = 0;
+													n643 = n632;
+													n644 = n618;
+													n645 = 0;
 													break;
 												}
 												default: {
@@ -78785,136 +78700,136 @@ L14:
 												}
 												}
 												for (;;) {
-													uint64_t n669 = n667 >> 4;
-													uint64_t n670 = n666 >> 4;
-													if (n669 == n670)
+													uint64_t n646 = n644 >> 4;
+													uint64_t n647 = n643 >> 4;
+													if (n646 == n647)
 														break;
-													n666 = n670;
-													n667 = n669;
-													n668 = n668 + 16;
+													n643 = n647;
+													n644 = n646;
+													n645 = n645 + 16;
 												}
-												n659 = n668 | (n666 & 15);
+												n636 = n645 | (n643 & 15);
 											} else {
-												n659 = n645;
+												n636 = n622;
 											}
-L16:
+L15:
 											{
-												uint64_t n672, n673, n677;
-												uint64_t n671 = load64(p18 + 72);
-												if (n671 < load64(p18 + 120)) {
-													n672 = n644;
-													n673 = n671;
+												uint64_t n649, n650, n654;
+												uint64_t n648 = load64(p18 + 72);
+												if (n648 < load64(p18 + 120)) {
+													n649 = n621;
+													n650 = n648;
 												} else {
-													uint8_t n674 = tp_links_make_ready(p18 + 40, p18 + 80, n649, load64(p18 + 112));
-													if ((n674 & 1) != 0)
-														goto L15;
-													store64(p18 + 120, umin64(load64(p18 + 88) - n649, load64(p18 + 56)));
-													n672 = load64(p18 + 64);
-													n673 = load64(p18 + 72);
+													uint8_t n651 = tp_links_make_ready(p18 + 40, p18 + 80, n626, load64(p18 + 112));
+													if ((n651 & 1) != 0)
+														goto L14;
+													store64(p18 + 120, umin64(load64(p18 + 88) - n626, load64(p18 + 56)));
+													n649 = load64(p18 + 64);
+													n650 = load64(p18 + 72);
 												}
-												store64(p18 + 64, n672 + 1);
-												if (n673 == load64(p18 + 48)) {
-													byte *p675 = inside(loadptr(p18 + 40), n673 * 48);
-													store64u(p675, 1);
-													store64u(p675 + 8, n643);
-													store64u(p675 + 16, n507);
-													store64u(p675 + 24, n530);
-													store64u(p675 + 32, n655);
-													store64u(p675 + 40, n529);
-													uint64_t n676 = n673 + 1;
-													store64(p18 + 48, n676);
-													n677 = n676;
+												store64(p18 + 64, n649 + 1);
+												if (n650 == load64(p18 + 48)) {
+													byte *p652 = inside(loadptr(p18 + 40), n650 * 48);
+													store64u(p652, 1);
+													store64u(p652 + 8, n620);
+													store64u(p652 + 16, n484);
+													store64u(p652 + 24, n507);
+													store64u(p652 + 32, n632);
+													store64u(p652 + 40, n506);
+													uint64_t n653 = n650 + 1;
+													store64(p18 + 48, n653);
+													n654 = n653;
 												} else {
-													byte *p678 = at(loadptr(p18 + 40), n673 * 48);
-													uint8_t n679 = load8(p678);
-													uint64_t n680 = load64u(p678 + 8);
-													store64u(p678, 1);
-													store64u(p678 + 8, n643);
-													store64u(p678 + 16, n507);
-													store64u(p678 + 24, n530);
-													store64u(p678 + 32, n655);
-													store64u(p678 + 40, n529);
-													if (n679 != 0) {
+													byte *p655 = at(loadptr(p18 + 40), n650 * 48);
+													uint8_t n656 = load8(p655);
+													uint64_t n657 = load64u(p655 + 8);
+													store64u(p655, 1);
+													store64u(p655 + 8, n620);
+													store64u(p655 + 16, n484);
+													store64u(p655 + 24, n507);
+													store64u(p655 + 32, n632);
+													store64u(p655 + 40, n506);
+													if (n656 != 0) {
 														TRAP();
 														UNREACHABLE();
 													}
-													n677 = n680;
+													n654 = n657;
 												}
-												store64(p18 + 72, n677);
-												uint64_t n681 = load64(p18 + 104) + n673;
-												byte *p682 = loadptr(p18 + 80);
-												uint64_t n683 = n659 << 3;
-												byte *p684 = inside(p682, n683);
-												uint32_t n685 = load32(p684);
-												uint32_t n686 = (uint32_t)n681;
-												store32(inside(p682, (uint64_t)n685 << 3) + 4, n686);
-												byte *p687 = inside(p682, n681 << 3);
-												store32(p687, n685);
-												store32(p687 + 4, (uint32_t)n659);
-												store32(p684, n686);
-												store64(p18 + 24, n643);
-												if (b657) {
-													byte *p688 = inside(p18 + 128, (n659 >> 3) & 536870904);
-													store64(p688, load64(p688) | ((uint64_t)1 << (n659 & 63)));
+												store64(p18 + 72, n654);
+												uint64_t n658 = load64(p18 + 104) + n650;
+												byte *p659 = loadptr(p18 + 80);
+												uint64_t n660 = n636 << 3;
+												byte *p661 = inside(p659, n660);
+												uint32_t n662 = load32(p661);
+												uint32_t n663 = (uint32_t)n658;
+												store32(inside(p659, (uint64_t)n662 << 3) + 4, n663);
+												byte *p664 = inside(p659, n658 << 3);
+												store32(p664, n662);
+												store32(p664 + 4, (uint32_t)n636);
+												store32(p661, n663);
+												store64(p18 + 24, n620);
+												if (b634) {
+													byte *p665 = inside(p18 + 128, (n636 >> 3) & 536870904);
+													store64(p665, load64(p665) | ((uint64_t)1 << (n636 & 63)));
 													if ((load8(p18 + 232) & 1) != 0) {
-														uint64_t n689;
-														switch (MOSTLY_0(n656)) {
+														uint64_t n666;
+														switch (MOSTLY_0(n633)) {
 														case 0: {
-															n689 = 64;
+															n666 = 64;
 															break;
 														}
 														case 1: {
-															n689 = 60;
+															n666 = 60;
 															break;
 														}
 														case 2: {
-															n689 = 16;
+															n666 = 16;
 															break;
 														}
 														default: {
 															UNREACHABLE();
 														}
 														}
-														if (n659 >= n689) {
-															byte *p690 = at(loadptr(p18 + 208), n659 << 4);
-															if (load8(p690) == 0) {
-																if (n655 < load64(p690 + 8)) {
-																	uint64_t n692;
-																	uint64_t n691 = (uint64_t)load32(at(loadptr(p18 + 80), n683) + 4);
-																	if (n659 == n691) {
-																		n692 = n655;
+														if (n636 >= n666) {
+															byte *p667 = at(loadptr(p18 + 208), n636 << 4);
+															if (load8(p667) == 0) {
+																if (n632 < load64(p667 + 8)) {
+																	uint64_t n669;
+																	uint64_t n668 = (uint64_t)load32(at(loadptr(p18 + 80), n660) + 4);
+																	if (n636 == n668) {
+																		n669 = n632;
 																	} else {
-																		uint64_t n693 = n691 - load64(p18 + 104);
-																		byte *p694 = at(loadptr(p18 + 40), n693 * 48);
-																		if (n693 < load64(p18 + 48)) {
-																			if (load8(p694) == 1) {
-																				n692 = umin64(n655, load64u(p694 + 32));
+																		uint64_t n670 = n668 - load64(p18 + 104);
+																		byte *p671 = at(loadptr(p18 + 40), n670 * 48);
+																		if (n670 < load64(p18 + 48)) {
+																			if (load8(p671) == 1) {
+																				n669 = umin64(n632, load64u(p671 + 32));
 																			} else {
-																				n692 = n655;
+																				n669 = n632;
 																			}
 																		} else {
-																			n692 = n655;
+																			n669 = n632;
 																		}
 																	}
-																	store32u(p690, 1);
-																	store32u(p690 + 4, 1);
-																	store64u(p690 + 8, n692);
+																	store32u(p667, 1);
+																	store32u(p667 + 4, 1);
+																	store64u(p667 + 8, n669);
 																	store64(p18 + 240, load64(p18 + 240) + 1);
 																} else {
-																	store32u(p690, 0);
-																	store32u(p690 + 4, 0);
-																	store64u(p690 + 8, n655);
+																	store32u(p667, 0);
+																	store32u(p667 + 4, 0);
+																	store64u(p667 + 8, n632);
 																}
 															} else {
-																uint32_t n695 = load32(p690 + 4);
-																uint64_t n696 = load64(p690 + 8);
-																if (n655 < n696) {
-																	store32u(p690, 1);
-																	store32u(p690 + 4, 1);
-																	store64u(p690 + 8, n655);
-																} else if (n655 == n696) {
-																	store32u(p690, 1);
-																	store32u(p690 + 4, uadd_sat32(n695, 1));
+																uint32_t n672 = load32(p667 + 4);
+																uint64_t n673 = load64(p667 + 8);
+																if (n632 < n673) {
+																	store32u(p667, 1);
+																	store32u(p667 + 4, 1);
+																	store64u(p667 + 8, n632);
+																} else if (n632 == n673) {
+																	store32u(p667, 1);
+																	store32u(p667 + 4, uadd_sat32(n672, 1));
 																}
 															}
 														}
@@ -78922,327 +78837,327 @@ L16:
 												}
 												store64(p18 + 248, load64(p18 + 248) + 1);
 												store64(p18 + 288, load64(p18 + 288) + 1);
-												byte *p697 = inside(p18 + 808, n576);
-												store64(p697, load64(p697) + 1);
-												n579 = n673;
-												n580 = n643;
-												n581 = 0;
-												n582 = 0;
-												n583 = n655;
-												n584 = 0;
-												goto L13;
+												byte *p674 = inside(p18 + 808, n553);
+												store64(p674, load64(p674) + 1);
+												n556 = n650;
+												n557 = n620;
+												n558 = 0;
+												n559 = 0;
+												n560 = n632;
+												n561 = 0;
+												goto L12;
 											}
 										}
-										n579 = 0;
-										n580 = 0;
-										n581 = 3;
-										n582 = 3;
-										n583 = 0;
-										n584 = 0;
-										goto L13;
+										n556 = 0;
+										n557 = 0;
+										n558 = 3;
+										n559 = 3;
+										n560 = 0;
+										n561 = 0;
+										goto L12;
 									}
 									case 2: {
-										uint64_t n700;
-										uint8_t n701, n702;
-										byte *p698 = at(loadptr(p18 + 40), n528 * 48);
-										if (n528 < load64(p18 + 48)) {
-											if (load8(p698) == 1) {
-												if (load64u(p698 + 8) == n529) {
-													if (load64u(p698 + 16) == n507) {
-														tp_HierWheelWheel_stop(p13, p18, n528, n529);
-														byte *p699 = inside(p18 + 808, n576);
-														store64(p699, load64(p699) - 1);
-														n700 = n529;
-														n701 = 0;
-														n702 = 1;
+										uint64_t n677;
+										uint8_t n678, n679;
+										byte *p675 = at(loadptr(p18 + 40), n505 * 48);
+										if (n505 < load64(p18 + 48)) {
+											if (load8(p675) == 1) {
+												if (load64u(p675 + 8) == n506) {
+													if (load64u(p675 + 16) == n484) {
+														tp_HierWheelWheel_stop(p13, p18, n505, n506);
+														byte *p676 = inside(p18 + 808, n553);
+														store64(p676, load64(p676) - 1);
+														n677 = n506;
+														n678 = 0;
+														n679 = 1;
 													} else {
-														n700 = 0;
-														n701 = 4;
-														n702 = 3;
+														n677 = 0;
+														n678 = 4;
+														n679 = 3;
 													}
 												} else {
-													n700 = 0;
-													n701 = 4;
-													n702 = 3;
+													n677 = 0;
+													n678 = 4;
+													n679 = 3;
 												}
 											} else {
-												n700 = 0;
-												n701 = 4;
-												n702 = 3;
+												n677 = 0;
+												n678 = 4;
+												n679 = 3;
 											}
 										} else {
-											n700 = 0;
-											n701 = 4;
-											n702 = 3;
+											n677 = 0;
+											n678 = 4;
+											n679 = 3;
 										}
-										n579 = n700;
-										n580 = 0;
-										n581 = n702;
-										n582 = n701;
-										n583 = 0;
-										n584 = 0;
-										goto L13;
+										n556 = n677;
+										n557 = 0;
+										n558 = n679;
+										n559 = n678;
+										n560 = 0;
+										n561 = 0;
+										goto L12;
 									}
 									case 3: {
 										memset(p12, 0, 40);
-										tp_Facility_take_restart(p12, p18, n507, n530, n528, n529, n532, n532, n533);
-										n579 = load64u(p12 + 8);
-										n580 = load64u(p12 + 16);
-										n581 = load8(p12);
-										n582 = load8(p12 + 1);
-										n583 = load64u(p12 + 24);
-										n584 = load64u(p12 + 32);
-										goto L13;
+										tp_Facility_take_restart(p12, p18, n484, n507, n505, n506, n509, n509, n510);
+										n556 = load64u(p12 + 8);
+										n557 = load64u(p12 + 16);
+										n558 = load8(p12);
+										n559 = load8(p12 + 1);
+										n560 = load64u(p12 + 24);
+										n561 = load64u(p12 + 32);
+										goto L12;
 									}
 									case 4: {
-										uint64_t n703 = usub_sat64(n532, load64(p18 + 16));
+										uint64_t n680 = usub_sat64(n509, load64(p18 + 16));
 										memset(p11, 0, 40);
-										tp_Facility_take_restart(p11, p18, n507, n530, n528, n529, umax64(n703, 1), n703, n533);
-										n579 = load64u(p11 + 8);
-										n580 = load64u(p11 + 16);
-										n581 = load8(p11);
-										n582 = load8(p11 + 1);
-										n583 = load64u(p11 + 24);
-										n584 = load64u(p11 + 32);
-										goto L13;
+										tp_Facility_take_restart(p11, p18, n484, n507, n505, n506, umax64(n680, 1), n680, n510);
+										n556 = load64u(p11 + 8);
+										n557 = load64u(p11 + 16);
+										n558 = load8(p11);
+										n559 = load8(p11 + 1);
+										n560 = load64u(p11 + 24);
+										n561 = load64u(p11 + 32);
+										goto L12;
 									}
 									default: {
 										UNREACHABLE();
 									}
 									}
-L15:
+L14:
 									{
-										store64u(p509 + 32, 1);
-										store64u(p509 + 40, n530);
-										store64u(p509 + 48, n568);
-										store64u(p509 + 56, n528);
-										store64u(p509 + 64, n529);
-										store64u(p509 + 72, n532);
-										store64u(p509 + 80, n533);
-										n514 = 0;
-										n515 = 0;
-										n516 = 0;
-										n517 = 0;
-										n518 = 0;
-										n519 = 0;
-										n520 = 0;
-										n521 = 0;
-										n522 = 0;
-										n523 = 0;
-										n524 = 0;
-										n525 = 2;
-										n526 = 0;
-										n527 = 0;
-										goto L12;
+										store64u(p486 + 32, 1);
+										store64u(p486 + 40, n507);
+										store64u(p486 + 48, n545);
+										store64u(p486 + 56, n505);
+										store64u(p486 + 64, n506);
+										store64u(p486 + 72, n509);
+										store64u(p486 + 80, n510);
+										n491 = 0;
+										n492 = 0;
+										n493 = 0;
+										n494 = 0;
+										n495 = 0;
+										n496 = 0;
+										n497 = 0;
+										n498 = 0;
+										n499 = 0;
+										n500 = 0;
+										n501 = 0;
+										n502 = 2;
+										n503 = 0;
+										n504 = 0;
+										goto L11;
 									}
-L13:
+L12:
 									{
-										store64(p577, n530 + 1);
-										n570 = n579;
-										n571 = 0;
-										n572 = ((uint64_t)n582 << 8) | (uint64_t)n581;
-										n573 = n580;
-										n574 = n583;
-										n575 = n584;
+										store64(p554, n507 + 1);
+										n547 = n556;
+										n548 = 0;
+										n549 = ((uint64_t)n559 << 8) | (uint64_t)n558;
+										n550 = n557;
+										n551 = n560;
+										n552 = n561;
 									}
 								}
 							} else {
-								n570 = 0;
-								n571 = 1;
-								n572 = 1;
-								n573 = 0;
-								n574 = 0;
-								n575 = 0;
+								n547 = 0;
+								n548 = 1;
+								n549 = 1;
+								n550 = 0;
+								n551 = 0;
+								n552 = 0;
 							}
-							if (load8(p509 + 32) == 1)
-								memset(p509 + 32, 0, 56);
-							uint64_t n704 = load64(p509 + 16);
-							uint64_t n705 = load64(p509 + 8);
-							if (n705 > n704) {
-								uint64_t n706 = load64(p509 + 24) + n704;
-								byte *p707 = inside(loadptru(p509), (n706 - ((n706 < n705) ? 0 : n705)) << 6);
-								store64u(p707, n571);
-								store64u(p707 + 8, n530);
-								store64u(p707 + 16, n569);
-								store64u(p707 + 24, n572);
-								store64u(p707 + 32, n570);
-								store64u(p707 + 40, n573);
-								store64u(p707 + 48, n574);
-								store64u(p707 + 56, n575);
-								store64(p509 + 16, load64(p509 + 16) + 1);
-								n514 = n569;
-								n515 = n572;
-								n516 = n570;
-								n517 = n573;
-								n518 = n574;
-								n519 = n528;
-								n520 = n529;
-								n521 = n530;
-								n522 = n568;
-								n523 = n532;
-								n524 = n533;
-								n525 = 3;
-								n526 = n571;
-								n527 = n575;
+							if (load8(p486 + 32) == 1)
+								memset(p486 + 32, 0, 56);
+							uint64_t n681 = load64(p486 + 16);
+							uint64_t n682 = load64(p486 + 8);
+							if (n682 > n681) {
+								uint64_t n683 = load64(p486 + 24) + n681;
+								byte *p684 = inside(loadptru(p486), (n683 - ((n683 < n682) ? 0 : n682)) << 6);
+								store64u(p684, n548);
+								store64u(p684 + 8, n507);
+								store64u(p684 + 16, n546);
+								store64u(p684 + 24, n549);
+								store64u(p684 + 32, n547);
+								store64u(p684 + 40, n550);
+								store64u(p684 + 48, n551);
+								store64u(p684 + 56, n552);
+								store64(p486 + 16, load64(p486 + 16) + 1);
+								n491 = n546;
+								n492 = n549;
+								n493 = n547;
+								n494 = n550;
+								n495 = n551;
+								n496 = n505;
+								n497 = n506;
+								n498 = n507;
+								n499 = n545;
+								n500 = n509;
+								n501 = n510;
+								n502 = 3;
+								n503 = n548;
+								n504 = n552;
 							} else {
-								n514 = n569;
-								n515 = n572;
-								n516 = n570;
-								n517 = n573;
-								n518 = n574;
-								n519 = n528;
-								n520 = n529;
-								n521 = n530;
-								n522 = n568;
-								n523 = n532;
-								n524 = n533;
-								n525 = 3;
-								n526 = n571;
-								n527 = n575;
+								n491 = n546;
+								n492 = n549;
+								n493 = n547;
+								n494 = n550;
+								n495 = n551;
+								n496 = n505;
+								n497 = n506;
+								n498 = n507;
+								n499 = n545;
+								n500 = n509;
+								n501 = n510;
+								n502 = 3;
+								n503 = n548;
+								n504 = n552;
 							}
 						}
-L12:
+L11:
 						{
-							uint64_t n708 = load64(p16 + 8);
-							byte *p709 = inside(loadptr(p16), n708 * 136);
-							store8(p709, 0);
-							memcpy(p709 + 1, p14, 7);
-							store64u(p709 + 8, n507);
-							store64u(p709 + 16, n525);
-							store64u(p709 + 24, n521);
-							store64u(p709 + 32, n522);
-							store64u(p709 + 40, n519);
-							store64u(p709 + 48, n520);
-							store64u(p709 + 56, n523);
-							store64u(p709 + 64, n524);
-							store64u(p709 + 72, n526);
-							store64u(p709 + 80, n521);
-							store64u(p709 + 88, n514);
-							store64u(p709 + 96, n515);
-							store64u(p709 + 104, n516);
-							store64u(p709 + 112, n517);
-							store64u(p709 + 120, n518);
-							store64u(p709 + 128, n527);
-							store64(p16 + 8, n708 + 1);
+							uint64_t n685 = load64(p16 + 8);
+							byte *p686 = inside(loadptr(p16), n685 * 136);
+							store8(p686, 0);
+							memcpy(p686 + 1, p14, 7);
+							store64u(p686 + 8, n484);
+							store64u(p686 + 16, n502);
+							store64u(p686 + 24, n498);
+							store64u(p686 + 32, n499);
+							store64u(p686 + 40, n496);
+							store64u(p686 + 48, n497);
+							store64u(p686 + 56, n500);
+							store64u(p686 + 64, n501);
+							store64u(p686 + 72, n503);
+							store64u(p686 + 80, n498);
+							store64u(p686 + 88, n491);
+							store64u(p686 + 96, n492);
+							store64u(p686 + 104, n493);
+							store64u(p686 + 112, n494);
+							store64u(p686 + 120, n495);
+							store64u(p686 + 128, n504);
+							store64(p16 + 8, n685 + 1);
 							tp_dispatch_hand_out_and_report(p18, p18 + 1384, p16);
-							goto L17;
+							goto L16;
 						}
 					}
 					case 4: {
-						uint64_t n714;
-						uint64_t n710 = n507 * 88;
-						byte *p711 = at(loadptr(p18 + 1384), n710);
-						byte *p712 = at(loadptr(p18 + 1360), n710);
-						uint64_t n713 = load64(p711 + 16);
-						if (n713 == 0) {
-							n714 = 0;
+						uint64_t n691;
+						uint64_t n687 = n484 * 88;
+						byte *p688 = at(loadptr(p18 + 1384), n687);
+						byte *p689 = at(loadptr(p18 + 1360), n687);
+						uint64_t n690 = load64(p688 + 16);
+						if (n690 == 0) {
+							n691 = 0;
 						} else {
-							uint64_t n719;
-							uint64_t n715 = load64(p711 + 24);
-							uint64_t n716 = load64(p711 + 8) - n715;
-							if (n713 > n716) {
-								byte *p717 = loadptru(p711);
-								uint64_t n718 = tp_RingInletInlet_put_slice(p712, at(p717, n715 << 6), n716);
-								if (n718 < n716) {
-									n719 = n718;
+							uint64_t n696;
+							uint64_t n692 = load64(p688 + 24);
+							uint64_t n693 = load64(p688 + 8) - n692;
+							if (n690 > n693) {
+								byte *p694 = loadptru(p688);
+								uint64_t n695 = tp_RingInletInlet_put_slice(p689, at(p694, n692 << 6), n693);
+								if (n695 < n693) {
+									n696 = n695;
 								} else {
-									uint64_t n720 = tp_RingInletInlet_put_slice(p712, p717, n713 - n716);
-									n719 = n718 + n720;
+									uint64_t n697 = tp_RingInletInlet_put_slice(p689, p694, n690 - n693);
+									n696 = n695 + n697;
 								}
 							} else {
-								uint64_t n721 = tp_RingInletInlet_put_slice(p712, at(loadptru(p711), n715 << 6), n713);
-								if (n721 >= n713) {
-									if (load64(p711 + 16) == 0) {
-										n714 = n721;
-										goto L18;
+								uint64_t n698 = tp_RingInletInlet_put_slice(p689, at(loadptru(p688), n692 << 6), n690);
+								if (n698 >= n690) {
+									if (load64(p688 + 16) == 0) {
+										n691 = n698;
+										goto L17;
 									}
-									store64(p711 + 16, 0);
-									n714 = n721;
-									goto L18;
+									store64(p688 + 16, 0);
+									n691 = n698;
+									goto L17;
 								}
-								n719 = n721;
+								n696 = n698;
 							}
-							tp_Backlog_remove(p711, n719);
-							n714 = n719;
+							tp_Backlog_remove(p688, n696);
+							n691 = n696;
 						}
-L18:
+L17:
 						{
-							uint64_t n722 = load64(p16 + 8);
-							byte *p723 = inside(loadptr(p16), n722 * 136);
-							store8(p723, 5);
-							memset(p723 + 1, 0, 7);
-							store64u(p723 + 8, n507);
-							store64u(p723 + 16, n714);
-							memset(p723 + 24, 0, 112);
-							store64(p16 + 8, n722 + 1);
-							goto L17;
+							uint64_t n699 = load64(p16 + 8);
+							byte *p700 = inside(loadptr(p16), n699 * 136);
+							store8(p700, 5);
+							memset(p700 + 1, 0, 7);
+							store64u(p700 + 8, n484);
+							store64u(p700 + 16, n691);
+							memset(p700 + 24, 0, 112);
+							store64(p16 + 8, n699 + 1);
+							goto L16;
 						}
 					}
 					case 1: {
 						if ((load8(p18 + 1320) & 1) != 0) {
-							n724 = 1;
-							n725 = 0;
-							n726 = 0;
-							n727 = 0;
-							n728 = 0;
-							n729 = 0;
-							n730 = 0;
-							n731 = 0;
-							n732 = 0;
+							n701 = 1;
+							n702 = 0;
+							n703 = 0;
+							n704 = 0;
+							n705 = 0;
+							n706 = 0;
+							n707 = 0;
+							n708 = 0;
+							n709 = 0;
 						} else {
-							uint64_t n733 = load64(p18 + 16);
-							if (n733 == load64(p18 + 8)) {
-								n724 = 1;
-								n725 = 1;
-								n726 = 0;
-								n727 = 0;
-								n728 = 0;
-								n729 = 0;
-								n730 = 0;
-								n731 = 0;
-								n732 = 0;
+							uint64_t n710 = load64(p18 + 16);
+							if (n710 == load64(p18 + 8)) {
+								n701 = 1;
+								n702 = 1;
+								n703 = 0;
+								n704 = 0;
+								n705 = 0;
+								n706 = 0;
+								n707 = 0;
+								n708 = 0;
+								n709 = 0;
 							} else {
-								uint64_t n738, n739, n740, n746, n747, n748;
-								uint8_t n734 = load8(p18);
-								uint64_t n735 = n733 + 1;
-								switch (MOSTLY_0(n734)) {
+								uint64_t n715, n716, n717, n723, n724, n725;
+								uint8_t n711 = load8(p18);
+								uint64_t n712 = n710 + 1;
+								switch (MOSTLY_0(n711)) {
 								case 0: {
-									uint64_t n736 = n735 & 63;
-									if (n736 != 0) {
-										n740 = n736;
-										goto L19;
+									uint64_t n713 = n712 & 63;
+									if (n713 != 0) {
+										n717 = n713;
+										goto L18;
 									}
-									uint8_t n737 = (uint8_t)((uint8_t)cttz64(n735) / 6);
-									n738 = ((uint64_t)n737 << 6) | ((n735 >> ((uint64_t)(uint8_t)(1u * n737 * 6) & 63)) & 63);
-									n739 = 64;
-									goto L20;
+									uint8_t n714 = (uint8_t)((uint8_t)cttz64(n712) / 6);
+									n715 = ((uint64_t)n714 << 6) | ((n712 >> ((uint64_t)(uint8_t)(1u * n714 * 6) & 63)) & 63);
+									n716 = 64;
+									goto L19;
 								}
 								case 1: {
-									uint32_t n745;
-									uint32_t n741 = (uint32_t)n735;
-									uint32_t n742 = n741 % 60;
-									if (n742 == 0) {
-										uint32_t n743 = (n741 / 60) % 60;
-										if (n743 == 0) {
-											uint32_t n744 = (n741 / 3600) % 24;
-											if (n744 == 0) {
-												n745 = (n741 / 86400) + 144;
+									uint32_t n722;
+									uint32_t n718 = (uint32_t)n712;
+									uint32_t n719 = n718 % 60;
+									if (n719 == 0) {
+										uint32_t n720 = (n718 / 60) % 60;
+										if (n720 == 0) {
+											uint32_t n721 = (n718 / 3600) % 24;
+											if (n721 == 0) {
+												n722 = (n718 / 86400) + 144;
 											} else {
-												n745 = n744 + 120;
+												n722 = n721 + 120;
 											}
 										} else {
-											n745 = n743 + 60;
+											n722 = n720 + 60;
 										}
 									} else {
-										n745 = n742;
+										n722 = n719;
 									}
-									n738 = (uint64_t)n745;
-									n739 = 60;
-									goto L20;
+									n715 = (uint64_t)n722;
+									n716 = 60;
+									goto L19;
 								}
 								case 2: {
-									n746 = n735;
-									n747 = 0;
+									n723 = n712;
+									n724 = 0;
 									break;
 								}
 								default: {
@@ -79250,173 +79165,173 @@ L18:
 								}
 								}
 								for (;;) {
-									n748 = n746 & 15;
-									if (n748 != 0)
+									n725 = n723 & 15;
+									if (n725 != 0)
 										break;
-									n746 = n746 >> 4;
-									n747 = n747 + 16;
+									n723 = n723 >> 4;
+									n724 = n724 + 16;
 								}
-								n738 = n747 | n748;
-								n739 = 16;
-L20:
-								{
-									if (n738 >= n739) {
-										tp_HierWheel_visit_apart(p18, n738);
-										n724 = 0;
-										n725 = 0;
-										n726 = 0;
-										n727 = 0;
-										n728 = 0;
-										n729 = 0;
-										n730 = 0;
-										n731 = 0;
-										n732 = 0;
-										goto L21;
-									}
-									n740 = n738;
-								}
+								n715 = n724 | n725;
+								n716 = 16;
 L19:
 								{
-									byte *p749 = loadptr(p18 + 80);
-									byte *p750 = at(p749, n740 << 3);
-									if (n740 != (uint64_t)load32(p750 + 4)) {
-										uint64_t n751, n752;
-										store64(p18 + 128, load64(p18 + 128) & (((uint64_t)1 << (n740 & 63)) ^ UINT64_MAX));
-										switch (MOSTLY_0(n734)) {
+									if (n715 >= n716) {
+										tp_HierWheel_visit_apart(p18, n715);
+										n701 = 0;
+										n702 = 0;
+										n703 = 0;
+										n704 = 0;
+										n705 = 0;
+										n706 = 0;
+										n707 = 0;
+										n708 = 0;
+										n709 = 0;
+										goto L20;
+									}
+									n717 = n715;
+								}
+L18:
+								{
+									byte *p726 = loadptr(p18 + 80);
+									byte *p727 = at(p726, n717 << 3);
+									if (n717 != (uint64_t)load32(p727 + 4)) {
+										uint64_t n728, n729;
+										store64(p18 + 128, load64(p18 + 128) & (((uint64_t)1 << (n717 & 63)) ^ UINT64_MAX));
+										switch (MOSTLY_0(n711)) {
 										case 0: {
-											n751 = 64;
+											n728 = 64;
 											break;
 										}
 										case 1: {
-											n751 = 60;
+											n728 = 60;
 											break;
 										}
 										case 2: {
-											n751 = 16;
+											n728 = 16;
 											break;
 										}
 										default: {
 											UNREACHABLE();
 										}
 										}
-										if (n740 >= n751) {
+										if (n717 >= n728) {
 											if ((load8(p18 + 232) & 1) != 0) {
-												byte *p759 = at(loadptr(p18 + 208), n740 << 4);
-												store64(p18 + 240, load64(p18 + 240) + (uint64_t)((load8(p759) != 0) ? UINT64_MAX : 0));
-												memset(p759, 0, 16);
+												byte *p736 = at(loadptr(p18 + 208), n717 << 4);
+												store64(p18 + 240, load64(p18 + 240) + (uint64_t)((load8(p736) != 0) ? UINT64_MAX : 0));
+												memset(p736, 0, 16);
 											}
-											uint64_t n760 = tp_migration_migrate(n734, p18 + 40, p18 + 128, p18 + 208, n740, n735);
-											store64(p18 + 16, n735);
-											if (n760 == 0) {
-												n724 = 0;
-												n725 = 0;
-												n726 = 0;
-												n727 = 0;
-												n728 = 0;
-												n729 = 0;
-												n730 = 0;
-												n731 = 0;
-												n732 = 0;
-												goto L21;
+											uint64_t n737 = tp_migration_migrate(n711, p18 + 40, p18 + 128, p18 + 208, n717, n712);
+											store64(p18 + 16, n712);
+											if (n737 == 0) {
+												n701 = 0;
+												n702 = 0;
+												n703 = 0;
+												n704 = 0;
+												n705 = 0;
+												n706 = 0;
+												n707 = 0;
+												n708 = 0;
+												n709 = 0;
+												goto L20;
 											}
-											store64(p18 + 256, load64(p18 + 256) + n760);
-											n724 = 0;
-											n725 = 0;
-											n726 = 0;
-											n727 = 0;
-											n728 = 0;
-											n729 = 0;
-											n730 = 0;
-											n731 = 0;
-											n732 = 0;
-											goto L21;
+											store64(p18 + 256, load64(p18 + 256) + n737);
+											n701 = 0;
+											n702 = 0;
+											n703 = 0;
+											n704 = 0;
+											n705 = 0;
+											n706 = 0;
+											n707 = 0;
+											n708 = 0;
+											n709 = 0;
+											goto L20;
 										}
-										switch (MOSTLY_0(n734)) {
+										switch (MOSTLY_0(n711)) {
 										case 0: {
-											n752 = 640;
+											n729 = 640;
 											break;
 										}
 										case 1: {
-											n752 = 244;
+											n729 = 244;
 											break;
 										}
 										case 2: {
-											n752 = 96;
+											n729 = 96;
 											break;
 										}
 										default: {
 											UNREACHABLE();
 										}
 										}
-										uint32_t n753 = load32(p750 + 4);
-										uint64_t n754 = (uint64_t)n753;
-										if (n740 != n754) {
-											uint32_t n755 = load32(p750);
-											byte *p756 = at(p749, n752 << 3);
-											uint32_t n757 = load32(p756);
-											store32(inside(p749, (uint64_t)n757 << 3) + 4, n753);
-											store32(inside(p749, n754 << 3), n757);
-											store32(inside(p749, (uint64_t)n755 << 3) + 4, (uint32_t)n752);
-											store32(p756, n755);
-											uint32_t n758 = (uint32_t)n740;
-											store32(p750 + 4, n758);
-											store32(p750, n758);
+										uint32_t n730 = load32(p727 + 4);
+										uint64_t n731 = (uint64_t)n730;
+										if (n717 != n731) {
+											uint32_t n732 = load32(p727);
+											byte *p733 = at(p726, n729 << 3);
+											uint32_t n734 = load32(p733);
+											store32(inside(p726, (uint64_t)n734 << 3) + 4, n730);
+											store32(inside(p726, n731 << 3), n734);
+											store32(inside(p726, (uint64_t)n732 << 3) + 4, (uint32_t)n729);
+											store32(p733, n732);
+											uint32_t n735 = (uint32_t)n717;
+											store32(p727 + 4, n735);
+											store32(p727, n735);
 										}
 									}
-									store64(p18 + 16, n735);
-									n724 = 0;
-									n725 = 0;
-									n726 = 0;
-									n727 = 0;
-									n728 = 0;
-									n729 = 0;
-									n730 = 0;
-									n731 = 0;
-									n732 = 0;
+									store64(p18 + 16, n712);
+									n701 = 0;
+									n702 = 0;
+									n703 = 0;
+									n704 = 0;
+									n705 = 0;
+									n706 = 0;
+									n707 = 0;
+									n708 = 0;
+									n709 = 0;
 								}
 							}
 						}
 						break;
 					}
 					case 2: {
-						uint64_t n761, n762, n763;
+						uint64_t n738, n739, n740;
 						if ((load8(p18 + 1320) & 1) != 0) {
-							n761 = 1;
-							n762 = 0;
-							n763 = 0;
+							n738 = 1;
+							n739 = 0;
+							n740 = 0;
 						} else {
-							uint64_t n764 = load64(p18 + 16);
-							uint64_t n765 = load64(p18 + 8);
-							if (n764 == n765) {
-								n761 = 1;
-								n762 = 256;
-								n763 = 0;
+							uint64_t n741 = load64(p18 + 16);
+							uint64_t n742 = load64(p18 + 8);
+							if (n741 == n742) {
+								n738 = 1;
+								n739 = 256;
+								n740 = 0;
 							} else {
-								uint64_t n771;
-								uint64_t n766 = umin64(n765 - n764, n507);
-								uint64_t n767 = n764 + n766;
+								uint64_t n748;
+								uint64_t n743 = umin64(n742 - n741, n484);
+								uint64_t n744 = n741 + n743;
 								switch (MOSTLY_0(load8(p18))) {
 								case 0: {
-									if ((n767 ^ n764) < 64) {
-										uint64_t n768 = load64(p18 + 128);
-										if ((n768 == 0) || ((n767 & 63) < cttz64(n768)))
-											goto L22;
+									if ((n744 ^ n741) < 64) {
+										uint64_t n745 = load64(p18 + 128);
+										if ((n745 == 0) || ((n744 & 63) < cttz64(n745)))
+											goto L21;
 									}
 									break;
 								}
 								case 1: {
-									if ((n767 / 60) == (n764 / 60)) {
-										uint64_t n769 = load64(p18 + 128);
-										if ((n769 == 0) || ((n767 % 60) < cttz64(n769)))
-											goto L22;
+									if ((n744 / 60) == (n741 / 60)) {
+										uint64_t n746 = load64(p18 + 128);
+										if ((n746 == 0) || ((n744 % 60) < cttz64(n746)))
+											goto L21;
 									}
 									break;
 								}
 								case 2: {
-									if ((n767 ^ n764) < 16) {
-										uint64_t n770 = load64(p18 + 128);
-										if ((n770 == 0) || ((n767 & 15) < cttz64(n770)))
-											goto L22;
+									if ((n744 ^ n741) < 16) {
+										uint64_t n747 = load64(p18 + 128);
+										if ((n747 == 0) || ((n744 & 15) < cttz64(n747)))
+											goto L21;
 									}
 									break;
 								}
@@ -79424,122 +79339,122 @@ L19:
 									UNREACHABLE();
 								}
 								}
-								n771 = tp_HierWheel_advance_far(p18, n766);
-								n761 = 0;
-								n762 = 0;
-								n763 = n771;
-								goto L23;
-L22:
+								n748 = tp_HierWheel_advance_far(p18, n743);
+								n738 = 0;
+								n739 = 0;
+								n740 = n748;
+								goto L22;
+L21:
 								{
-									store64(p18 + 16, n767);
-									store64(p18 + 264, load64(p18 + 264) + n766);
-									n761 = 0;
-									n762 = 0;
-									n763 = n766;
+									store64(p18 + 16, n744);
+									store64(p18 + 264, load64(p18 + 264) + n743);
+									n738 = 0;
+									n739 = 0;
+									n740 = n743;
 								}
 							}
 						}
-L23:
+L22:
 						{
-							n724 = 0;
-							n725 = 0;
-							n726 = n507;
-							n727 = n507;
-							n728 = n507 & UINT64_C(18446744073709486080);
-							n729 = n761;
-							n730 = n762;
-							n731 = 0;
-							n732 = n763;
+							n701 = 0;
+							n702 = 0;
+							n703 = n484;
+							n704 = n484;
+							n705 = n484 & UINT64_C(18446744073709486080);
+							n706 = n738;
+							n707 = n739;
+							n708 = 0;
+							n709 = n740;
 						}
 						break;
 					}
 					case 3: {
-						uint64_t n772, n773, n774;
+						uint64_t n749, n750, n751;
 						if ((load8(p18 + 1320) & 1) != 0) {
-							n772 = 1;
-							n773 = 0;
-							n774 = 0;
+							n749 = 1;
+							n750 = 0;
+							n751 = 0;
 						} else {
-							uint8_t n775 = tp_facility_take_all(p18, p18 + 1328);
-							if ((n775 & 1) != 0) {
-								n772 = 1;
-								n773 = 256;
-								n774 = 0;
+							uint8_t n752 = tp_facility_take_all(p18, p18 + 1328);
+							if ((n752 & 1) != 0) {
+								n749 = 1;
+								n750 = 256;
+								n751 = 0;
 							} else {
 								store64(p18 + 1352, 0);
 								store8(p18 + 1320, 1);
-								n772 = 0;
-								n773 = 0;
-								n774 = load64(p18 + 1336);
+								n749 = 0;
+								n750 = 0;
+								n751 = load64(p18 + 1336);
 							}
 						}
-						n724 = 0;
-						n725 = 0;
-						n726 = n772;
-						n727 = n773;
-						n728 = 0;
-						n729 = n774;
-						n730 = n774;
-						n731 = n774 & UINT64_C(18446744073709486080);
-						n732 = 0;
+						n701 = 0;
+						n702 = 0;
+						n703 = n749;
+						n704 = n750;
+						n705 = 0;
+						n706 = n751;
+						n707 = n751;
+						n708 = n751 & UINT64_C(18446744073709486080);
+						n709 = 0;
 						break;
 					}
 					default: {
 						UNREACHABLE();
 					}
 					}
-L21:
+L20:
 					{
-						uint64_t n776 = load64(p16 + 8);
-						byte *p777 = inside(loadptr(p16), n776 * 136);
-						store8(p777, n506);
-						store8(p777 + 1, n724);
-						store8(p777 + 2, n725);
-						memset(p777 + 3, 0, 5);
-						store64u(p777 + 8, (n728 | (n727 & 65280)) | (n726 & 255));
-						store64u(p777 + 16, (n731 | (n730 & 65280)) | (n729 & 255));
-						store64u(p777 + 24, n732);
-						memset(p777 + 32, 0, 104);
-						store64(p16 + 8, n776 + 1);
+						uint64_t n753 = load64(p16 + 8);
+						byte *p754 = inside(loadptr(p16), n753 * 136);
+						store8(p754, n483);
+						store8(p754 + 1, n701);
+						store8(p754 + 2, n702);
+						memset(p754 + 3, 0, 5);
+						store64u(p754 + 8, (n705 | (n704 & 65280)) | (n703 & 255));
+						store64u(p754 + 16, (n708 | (n707 & 65280)) | (n706 & 255));
+						store64u(p754 + 24, n709);
+						memset(p754 + 32, 0, 104);
+						store64(p16 + 8, n753 + 1);
 						tp_dispatch_hand_out_and_report(p18, p18 + 1384, p16);
 					}
-L17:
+L16:
 					{
-						n504 = n504 + 1;
+						n481 = n481 + 1;
 					}
 				}
-				p778 = loadptr(p16);
-				n779 = load64(p16 + 8);
-				n780 = load64(p16 + 16);
-				n781 = 0;
-				n782 = 0;
-				while (n781 != n779) {
-					uint8_t n788;
-					byte *p783 = at(p778, n781 * 136);
-					uint64_t n784 = load64u(p783 + 8);
-					uint64_t n785 = load64u(p783 + 16);
-					switch (MOSTLY_0(load8(p783))) {
+				p755 = loadptr(p16);
+				uint64_t n756 = load64(p16 + 8);
+				n757 = load64(p16 + 16);
+				uint64_t n758 = 0;
+				uint8_t n759 = 0;
+				while (n758 != n756) {
+					uint8_t n765;
+					byte *p760 = at(p755, n758 * 136);
+					uint64_t n761 = load64u(p760 + 8);
+					uint64_t n762 = load64u(p760 + 16);
+					switch (MOSTLY_0(load8(p760))) {
 					case 0: {
-						switch ((uint8_t)n785) {
+						switch ((uint8_t)n762) {
 						case 3: {
-							if (n201 > n784) {
-								byte *p786 = at(p431, n784 << 4);
-								uint64_t n787 = load64(p786);
-								if (n5 > n787) {
-									store64(p786, n787 + 1);
-									n788 = 1;
+							if (n201 > n761) {
+								byte *p763 = at(p419, n761 << 4);
+								uint64_t n764 = load64(p763);
+								if (n5 > n764) {
+									store64(p763, n764 + 1);
+									n765 = 1;
 								} else {
-									n788 = n782;
+									n765 = n759;
 								}
 							} else {
-								n788 = n782;
+								n765 = n759;
 							}
 							break;
 						}
 						case 0:
 						case 1:
 						case 2: {
-							n788 = n782;
+							n765 = n759;
 							break;
 						}
 						default: {
@@ -79549,22 +79464,22 @@ L17:
 						break;
 					}
 					case 5: {
-						if ((n201 <= n784) || (n785 == 0)) {
-							n788 = n782;
+						if ((n201 <= n761) || (n762 == 0)) {
+							n765 = n759;
 						} else {
-							byte *p789 = at(p431, n784 << 4) + 8;
-							uint64_t n790 = load64(p789);
-							uint64_t n791 = n5 << 1;
-							if (n791 > n790) {
-								if (n785 < (n791 - n790)) {
-									store64(p789, n790 + n785);
-									n788 = 1;
+							byte *p766 = at(p419, n761 << 4) + 8;
+							uint64_t n767 = load64(p766);
+							uint64_t n768 = n5 << 1;
+							if (n768 > n767) {
+								if (n762 < (n768 - n767)) {
+									store64(p766, n767 + n762);
+									n765 = 1;
 								} else {
-									store64(p789, n791);
-									n788 = 1;
+									store64(p766, n768);
+									n765 = 1;
 								}
 							} else {
-								n788 = n782;
+								n765 = n759;
 							}
 						}
 						break;
@@ -79573,26 +79488,26 @@ L17:
 					case 2:
 					case 3:
 					case 4: {
-						n788 = n782;
+						n765 = n759;
 						break;
 					}
 					default: {
 						UNREACHABLE();
 					}
 					}
-					n781 = n781 + 1;
-					n782 = n788;
+					n758 = n758 + 1;
+					n759 = n765;
 				}
-				n792 = 0;
+				uint64_t n769 = 0;
 				for (;;) {
-					if (n792 == n779)
-						goto L24;
-					byte *p793 = at(p778, n792 * 136);
-					switch (MOSTLY_0(load8(p793))) {
+					if (n769 == n756)
+						goto L23;
+					byte *p770 = at(p755, n769 * 136);
+					switch (MOSTLY_0(load8(p770))) {
 					case 0: {
-						switch (load8(p793 + 16)) {
+						switch (load8(p770 + 16)) {
 						case 2: {
-							goto L25;
+							goto L24;
 						}
 						case 0:
 						case 1:
@@ -79616,328 +79531,323 @@ L17:
 						UNREACHABLE();
 					}
 					}
-					n792 = n792 + 1;
-				}
-L25:
-				{
-					if (n792 < n779)
-						goto L26;
+					n769 = n769 + 1;
 				}
 L24:
 				{
-					uint64_t n796;
-					byte *p794 = loadptru(p18 + 1408);
-					uint64_t n795 = load64u(p18 + 1424);
-					storeptru(p18 + 1408, p778);
-					store64u(p18 + 1416, n779);
-					store64u(p18 + 1424, n780);
-					if (n795 != 0)
-						rattle_dealloc(p794);
-					if ((n782 & 1) != 0) {
-						n796 = 0;
-					} else {
-						uint64_t n797 = n464 + 1;
-						(void)os_sched_yield();
-						uint8_t n798 = load8_volatile((byte *)tp_static);
-						if (n798 != 0) {
-							TRAP();
-							UNREACHABLE();
-						}
-						uint8_t n799 = load8_volatile((byte *)tp_static);
-						if (n799 != 0) {
-							TRAP();
-							UNREACHABLE();
-						}
-						uint8_t n800 = load8_volatile((byte *)tp_static);
-						if (n800 != 0) {
-							TRAP();
-							UNREACHABLE();
-						}
-						n796 = n797;
-					}
-					n464 = n796;
-					continue;
+					if (n769 < n756)
+						goto L25;
 				}
-L8:
+L23:
 				{
-					p801 = loadptr(p18 + 80);
-					goto L9;
+					uint64_t n773;
+					byte *p771 = loadptru(p18 + 1408);
+					uint64_t n772 = load64u(p18 + 1424);
+					storeptru(p18 + 1408, p755);
+					store64u(p18 + 1416, n756);
+					store64u(p18 + 1424, n757);
+					if (n772 != 0)
+						rattle_dealloc(p771);
+					if ((n759 & 1) != 0) {
+						n773 = 0;
+					} else {
+						uint64_t n774 = n451 + 1;
+						(void)os_sched_yield();
+						uint8_t n775 = load8_volatile((byte *)tp_static);
+						if (n775 != 0) {
+							TRAP();
+							UNREACHABLE();
+						}
+						uint8_t n776 = load8_volatile((byte *)tp_static);
+						if (n776 != 0) {
+							TRAP();
+							UNREACHABLE();
+						}
+						uint8_t n777 = load8_volatile((byte *)tp_static);
+						if (n777 != 0) {
+							TRAP();
+							UNREACHABLE();
+						}
+						n773 = n774;
+					}
+					n451 = n773;
 				}
 			}
-			n802 = load64(p18);
-			p803 = loadptr(p18 + 40);
-			n804 = load64(p18 + 56);
-			p805 = loadptr(p18 + 80);
-			n806 = load64(p18 + 96);
-			p807 = loadptr(p18 + 208);
-			n808 = load64(p18 + 224);
-			p809 = loadptr(p18 + 1328);
-			n810 = load64(p18 + 1344);
-			p811 = loadptr(p18 + 1360);
-			n812 = load64(p18 + 1368);
-			n813 = load64(p18 + 1376);
-			p814 = loadptr(p18 + 1384);
-			n815 = load64(p18 + 1392);
-			n816 = load64(p18 + 1400);
-			p817 = loadptr(p18 + 1408);
-			n818 = load64(p18 + 1424);
+			n778 = load64(p18);
+			p779 = loadptr(p18 + 40);
+			n780 = load64(p18 + 56);
+			p781 = loadptr(p18 + 80);
+			n782 = load64(p18 + 96);
+			p783 = loadptr(p18 + 208);
+			n784 = load64(p18 + 224);
+			p785 = loadptr(p18 + 1328);
+			n786 = load64(p18 + 1344);
+			p787 = loadptr(p18 + 1360);
+			n788 = load64(p18 + 1368);
+			n789 = load64(p18 + 1376);
+			p790 = loadptr(p18 + 1384);
+			n791 = load64(p18 + 1392);
+			n792 = load64(p18 + 1400);
+			p793 = loadptr(p18 + 1408);
+			n794 = load64(p18 + 1424);
 			if (load64u(p19 + 16) != 0)
 				rattle_dealloc(loadptru(p19));
-			if (b430) {
-				n446 = n802;
-				p447 = p803;
-				n448 = n804;
-				p449 = p805;
-				n450 = n806;
-				p451 = p807;
-				n452 = n808;
-				p453 = p809;
-				n454 = n810;
-				p455 = p811;
-				n456 = n812;
-				n457 = n813;
-				p458 = p814;
-				n459 = n815;
-				n460 = n816;
-				p461 = p817;
-				n462 = n818;
-				n463 = 1;
+			if (b418) {
+				n433 = n778;
+				p434 = p779;
+				n435 = n780;
+				p436 = p781;
+				n437 = n782;
+				p438 = p783;
+				n439 = n784;
+				p440 = p785;
+				n441 = n786;
+				p442 = p787;
+				n443 = n788;
+				n444 = n789;
+				p445 = p790;
+				n446 = n791;
+				n447 = n792;
+				p448 = p793;
+				n449 = n794;
+				n450 = 1;
 				goto L7;
 			}
-			rattle_dealloc(p431);
-			n446 = n802;
-			p447 = p803;
-			n448 = n804;
-			p449 = p805;
-			n450 = n806;
-			p451 = p807;
-			n452 = n808;
-			p453 = p809;
-			n454 = n810;
-			p455 = p811;
-			n456 = n812;
-			n457 = n813;
-			p458 = p814;
-			n459 = n815;
-			n460 = n816;
-			p461 = p817;
-			n462 = n818;
-			n463 = 1;
+			rattle_dealloc(p419);
+			n433 = n778;
+			p434 = p779;
+			n435 = n780;
+			p436 = p781;
+			n437 = n782;
+			p438 = p783;
+			n439 = n784;
+			p440 = p785;
+			n441 = n786;
+			p442 = p787;
+			n443 = n788;
+			n444 = n789;
+			p445 = p790;
+			n446 = n791;
+			n447 = n792;
+			p448 = p793;
+			n449 = n794;
+			n450 = 1;
 			goto L7;
-L26:
+L25:
 			{
-				if (n780 == 0)
-					goto L10;
-				rattle_dealloc(p778);
-				goto L10;
+				if (n757 == 0)
+					goto L9;
+				rattle_dealloc(p755);
+				goto L9;
 			}
-L11:
+L10:
 			{
 				if (load64u(p15 + 16) != 0)
 					rattle_dealloc(loadptru(p15));
 			}
-L10:
-			{
-				uint64_t n819 = load64(p18);
-				byte *p820 = loadptr(p18 + 40);
-				uint64_t n821 = load64(p18 + 56);
-				byte *p822 = loadptr(p18 + 80);
-				uint64_t n823 = load64(p18 + 96);
-				byte *p824 = loadptr(p18 + 208);
-				uint64_t n825 = load64(p18 + 224);
-				byte *p826 = loadptr(p18 + 1328);
-				uint64_t n827 = load64(p18 + 1344);
-				byte *p828 = loadptr(p18 + 1360);
-				uint64_t n829 = load64(p18 + 1368);
-				uint64_t n830 = load64(p18 + 1376);
-				byte *p831 = loadptr(p18 + 1384);
-				uint64_t n832 = load64(p18 + 1392);
-				uint64_t n833 = load64(p18 + 1400);
-				byte *p834 = loadptr(p18 + 1408);
-				uint64_t n835 = load64(p18 + 1424);
-				if (load64u(p19 + 16) != 0)
-					rattle_dealloc(loadptru(p19));
-				rattle_dealloc(p431);
-				n446 = n819;
-				p447 = p820;
-				n448 = n821;
-				p449 = p822;
-				n450 = n823;
-				p451 = p824;
-				n452 = n825;
-				p453 = p826;
-				n454 = n827;
-				p455 = p828;
-				n456 = n829;
-				n457 = n830;
-				p458 = p831;
-				n459 = n832;
-				n460 = n833;
-				p461 = p834;
-				n462 = n835;
-				n463 = 2;
-				goto L7;
-			}
 L9:
 			{
-				uint64_t n836 = load64(p18);
-				byte *p837 = loadptr(p18 + 40);
-				uint64_t n838 = load64(p18 + 56);
-				uint64_t n839 = load64(p18 + 96);
-				byte *p840 = loadptr(p18 + 208);
-				uint64_t n841 = load64(p18 + 224);
-				byte *p842 = loadptr(p18 + 1328);
-				uint64_t n843 = load64(p18 + 1344);
-				byte *p844 = loadptr(p18 + 1360);
-				uint64_t n845 = load64(p18 + 1368);
-				uint64_t n846 = load64(p18 + 1376);
-				byte *p847 = loadptr(p18 + 1384);
-				uint64_t n848 = load64(p18 + 1392);
-				uint64_t n849 = load64(p18 + 1400);
-				byte *p850 = loadptr(p18 + 1408);
-				uint64_t n851 = load64(p18 + 1424);
+				uint64_t n795 = load64(p18);
+				byte *p796 = loadptr(p18 + 40);
+				uint64_t n797 = load64(p18 + 56);
+				byte *p798 = loadptr(p18 + 80);
+				uint64_t n799 = load64(p18 + 96);
+				byte *p800 = loadptr(p18 + 208);
+				uint64_t n801 = load64(p18 + 224);
+				byte *p802 = loadptr(p18 + 1328);
+				uint64_t n803 = load64(p18 + 1344);
+				byte *p804 = loadptr(p18 + 1360);
+				uint64_t n805 = load64(p18 + 1368);
+				uint64_t n806 = load64(p18 + 1376);
+				byte *p807 = loadptr(p18 + 1384);
+				uint64_t n808 = load64(p18 + 1392);
+				uint64_t n809 = load64(p18 + 1400);
+				byte *p810 = loadptr(p18 + 1408);
+				uint64_t n811 = load64(p18 + 1424);
 				if (load64u(p19 + 16) != 0)
 					rattle_dealloc(loadptru(p19));
-				if (b430) {
-					n446 = n836;
-					p447 = p837;
-					n448 = n838;
-					p449 = p801;
-					n450 = n839;
-					p451 = p840;
-					n452 = n841;
-					p453 = p842;
-					n454 = n843;
-					p455 = p844;
-					n456 = n845;
-					n457 = n846;
-					p458 = p847;
-					n459 = n848;
-					n460 = n849;
-					p461 = p850;
-					n462 = n851;
-					n463 = 0;
+				rattle_dealloc(p419);
+				n433 = n795;
+				p434 = p796;
+				n435 = n797;
+				p436 = p798;
+				n437 = n799;
+				p438 = p800;
+				n439 = n801;
+				p440 = p802;
+				n441 = n803;
+				p442 = p804;
+				n443 = n805;
+				n444 = n806;
+				p445 = p807;
+				n446 = n808;
+				n447 = n809;
+				p448 = p810;
+				n449 = n811;
+				n450 = 2;
+				goto L7;
+			}
+L8:
+			{
+				uint64_t n812 = load64(p18);
+				byte *p813 = loadptr(p18 + 40);
+				uint64_t n814 = load64(p18 + 56);
+				byte *p815 = loadptr(p18 + 80);
+				uint64_t n816 = load64(p18 + 96);
+				byte *p817 = loadptr(p18 + 208);
+				uint64_t n818 = load64(p18 + 224);
+				byte *p819 = loadptr(p18 + 1328);
+				uint64_t n820 = load64(p18 + 1344);
+				byte *p821 = loadptr(p18 + 1360);
+				uint64_t n822 = load64(p18 + 1368);
+				uint64_t n823 = load64(p18 + 1376);
+				byte *p824 = loadptr(p18 + 1384);
+				uint64_t n825 = load64(p18 + 1392);
+				uint64_t n826 = load64(p18 + 1400);
+				byte *p827 = loadptr(p18 + 1408);
+				uint64_t n828 = load64(p18 + 1424);
+				if (load64u(p19 + 16) != 0)
+					rattle_dealloc(loadptru(p19));
+				if (b418) {
+					n433 = n812;
+					p434 = p813;
+					n435 = n814;
+					p436 = p815;
+					n437 = n816;
+					p438 = p817;
+					n439 = n818;
+					p440 = p819;
+					n441 = n820;
+					p442 = p821;
+					n443 = n822;
+					n444 = n823;
+					p445 = p824;
+					n446 = n825;
+					n447 = n826;
+					p448 = p827;
+					n449 = n828;
+					n450 = 0;
 				} else {
-					rattle_dealloc(p431);
-					n446 = n836;
-					p447 = p837;
-					n448 = n838;
-					p449 = p801;
-					n450 = n839;
-					p451 = p840;
-					n452 = n841;
-					p453 = p842;
-					n454 = n843;
-					p455 = p844;
-					n456 = n845;
-					n457 = n846;
-					p458 = p847;
-					n459 = n848;
-					n460 = n849;
-					p461 = p850;
-					n462 = n851;
-					n463 = 0;
+					rattle_dealloc(p419);
+					n433 = n812;
+					p434 = p813;
+					n435 = n814;
+					p436 = p815;
+					n437 = n816;
+					p438 = p817;
+					n439 = n818;
+					p440 = p819;
+					n441 = n820;
+					p442 = p821;
+					n443 = n822;
+					n444 = n823;
+					p445 = p824;
+					n446 = n825;
+					n447 = n826;
+					p448 = p827;
+					n449 = n828;
+					n450 = 0;
 				}
 			}
 		}
 L7:
 		{
-			uint64_t n874, n875, n876, n877;
-			uint8_t n852 = load8_volatile((byte *)tp_static);
-			if (n852 != 0) {
+			uint64_t n851, n852, n853, n854;
+			uint8_t n829 = load8_volatile((byte *)tp_static);
+			if (n829 != 0) {
 				TRAP();
 				UNREACHABLE();
 			}
 			tp_Children_join(p198, p194);
-			uint8_t n853 = load8_volatile((byte *)tp_static);
-			if (n853 != 0) {
+			uint8_t n830 = load8_volatile((byte *)tp_static);
+			if (n830 != 0) {
 				TRAP();
 				UNREACHABLE();
 			}
-			byte *p854 = loadptru(p198);
-			uint64_t n855 = load64u(p198 + 8);
-			uint64_t n856 = load64u(p198 + 16);
-			switch (n463) {
+			byte *p831 = loadptru(p198);
+			uint64_t n832 = load64u(p198 + 8);
+			uint64_t n833 = load64u(p198 + 16);
+			switch (n450) {
 			case 2: {
-				uint64_t n857;
-				if (n855 == 0)
-					goto L27;
-				n857 = 0;
-				while (n857 != n855) {
-					byte *p858 = inside(p854, n857 * 112);
-					byte *p859 = loadptru(p858 + 24);
-					byte *p860 = loadptru(p858 + 32);
-					uint64_t n861 = load64u(p858 + 40);
+				uint64_t n834;
+				if (n832 == 0)
+					goto L26;
+				n834 = 0;
+				while (n834 != n832) {
+					byte *p835 = inside(p831, n834 * 112);
+					byte *p836 = loadptru(p835 + 24);
+					byte *p837 = loadptru(p835 + 32);
+					uint64_t n838 = load64u(p835 + 40);
 					BARRIER();
-					uint64_t n862 = atomic_exchange64(p859 + 256, 1, ORDER_SEQ_CST);
+					uint64_t n839 = atomic_exchange64(p836 + 256, 1, ORDER_SEQ_CST);
 					BARRIER();
-					if (n862 != 0)
-						tp_release_drop_slow(p859, p860, n861);
-					n857 = n857 + 1;
+					if (n839 != 0)
+						tp_release_drop_slow(p836, p837, n838);
+					n834 = n834 + 1;
 				}
-L27:
+L26:
 				{
-					uint64_t n863;
-					if (n856 != 0)
-						rattle_dealloc(p854);
-					if (n448 != 0)
-						rattle_dealloc(p447);
-					if (n450 != 0)
-						rattle_dealloc(p449);
-					if (n452 != 0)
-						rattle_dealloc(p451);
-					if (n454 != 0)
-						rattle_dealloc(p453);
-					if (n456 == 0)
-						goto L28;
-					n863 = 0;
-					while (n863 != n456) {
-						byte *p864 = inside(p455, n863 * 88);
-						byte *p865 = loadptru(p864);
-						byte *p866 = loadptru(p864 + 8);
-						uint64_t n867 = load64u(p864 + 16);
-						byte *p868 = loadptru(p864 + 40);
-						byte *p869 = loadptru(p864 + 48);
-						uint64_t n870 = load64u(p864 + 56);
+					uint64_t n840;
+					if (n833 != 0)
+						rattle_dealloc(p831);
+					if (n435 != 0)
+						rattle_dealloc(p434);
+					if (n437 != 0)
+						rattle_dealloc(p436);
+					if (n439 != 0)
+						rattle_dealloc(p438);
+					if (n441 != 0)
+						rattle_dealloc(p440);
+					if (n443 == 0)
+						goto L27;
+					n840 = 0;
+					while (n840 != n443) {
+						byte *p841 = inside(p442, n840 * 88);
+						byte *p842 = loadptru(p841);
+						byte *p843 = loadptru(p841 + 8);
+						uint64_t n844 = load64u(p841 + 16);
+						byte *p845 = loadptru(p841 + 40);
+						byte *p846 = loadptru(p841 + 48);
+						uint64_t n847 = load64u(p841 + 56);
 						BARRIER();
-						uint64_t n871 = atomic_exchange64(p865 + 256, 1, ORDER_SEQ_CST);
+						uint64_t n848 = atomic_exchange64(p842 + 256, 1, ORDER_SEQ_CST);
 						BARRIER();
-						if (n871 != 0)
-							tp_release_drop_slow(p865, p866, n867);
+						if (n848 != 0)
+							tp_release_drop_slow(p842, p843, n844);
 						BARRIER();
-						uint64_t n872 = atomic_exchange64(p868 + 256, 1, ORDER_SEQ_CST);
+						uint64_t n849 = atomic_exchange64(p845 + 256, 1, ORDER_SEQ_CST);
 						BARRIER();
-						if (n872 != 0)
-							tp_release_drop_slow(p868, p869, n870);
-						n863 = n863 + 1;
+						if (n849 != 0)
+							tp_release_drop_slow(p845, p846, n847);
+						n840 = n840 + 1;
 					}
-L28:
+L27:
 					{
-						uint64_t n873;
-						if (n457 != 0)
-							rattle_dealloc(p455);
-						if (n459 == 0)
-							goto L29;
-						n873 = 0;
-						while (n873 != n459) {
-							rattle_dealloc(loadptru(inside(p458, n873 * 88)));
-							n873 = n873 + 1;
+						uint64_t n850;
+						if (n444 != 0)
+							rattle_dealloc(p442);
+						if (n446 == 0)
+							goto L28;
+						n850 = 0;
+						while (n850 != n446) {
+							rattle_dealloc(loadptru(inside(p445, n850 * 88)));
+							n850 = n850 + 1;
 						}
-L29:
+L28:
 						{
-							if (n460 != 0)
-								rattle_dealloc(p458);
-							if (n462 == 0) {
-								n874 = 1;
-								n875 = 0;
-								n876 = 0;
-								n877 = 0;
+							if (n447 != 0)
+								rattle_dealloc(p445);
+							if (n449 == 0) {
+								n851 = 1;
+								n852 = 0;
+								n853 = 0;
+								n854 = 0;
 							} else {
-								rattle_dealloc(p461);
-								n874 = 1;
-								n875 = 0;
-								n876 = 0;
-								n877 = 0;
+								rattle_dealloc(p448);
+								n851 = 1;
+								n852 = 0;
+								n853 = 0;
+								n854 = 0;
 							}
 						}
 					}
@@ -79946,772 +79856,772 @@ L29:
 			}
 			case 0:
 			case 1: {
-				bool b879;
-				uint64_t n881;
-				uint64_t n878 = 0;
+				bool b856;
+				uint64_t n858;
+				uint64_t n855 = 0;
 				for (;;) {
-					b879 = n878 != n855;
-					if (!b879) {
-						n881 = 0;
+					b856 = n855 != n832;
+					if (!b856) {
+						n858 = 0;
 						break;
 					}
-					byte *p880 = at(p854, n878 * 112);
-					if ((load8(p880 + 96) & 1) != 0) {
-						n881 = n878;
+					byte *p857 = at(p831, n855 * 112);
+					if ((load8(p857 + 96) & 1) != 0) {
+						n858 = n855;
 						break;
 					}
-					if (load8(p880) != 1) {
-						n881 = n878;
+					if (load8(p857) != 1) {
+						n858 = n855;
 						break;
 					}
-					n878 = n878 + 1;
+					n855 = n855 + 1;
 				}
 				storeptru(p10, p6);
 				memset(p10 + 8, 0, 16);
-				uint64_t n882 = 0;
-				uint64_t n883 = 0;
+				uint64_t n859 = 0;
+				uint64_t n860 = 0;
 				for (;;) {
-					uint64_t n891;
-					if (n883 == n855)
-						goto L30;
-					byte *p884 = at(p854, n883 * 112);
-					uint8_t n885 = tp_threads_text_push_count(p10, (byte *)tp_static_306, 7, n883);
-					if ((n885 & 1) != 0)
+					uint64_t n868;
+					if (n860 == n832)
+						goto L29;
+					byte *p861 = at(p831, n860 * 112);
+					uint8_t n862 = tp_threads_text_push_count(p10, (byte *)tp_static_306, 7, n860);
+					if ((n862 & 1) != 0)
 						break;
-					uint8_t n886 = tp_threads_text_push_count(p10, (byte *)tp_static_307, 6, load64(p884 + 72));
-					if ((n886 & 1) != 0)
+					uint8_t n863 = tp_threads_text_push_count(p10, (byte *)tp_static_307, 6, load64(p861 + 72));
+					if ((n863 & 1) != 0)
 						break;
-					uint8_t n887 = tp_threads_text_push_count(p10, (byte *)tp_static_308, 9, load64(p884 + 80));
-					if ((n887 & 1) != 0)
+					uint8_t n864 = tp_threads_text_push_count(p10, (byte *)tp_static_308, 9, load64(p861 + 80));
+					if ((n864 & 1) != 0)
 						break;
-					uint8_t n888 = tp_threads_text_push_count(p10, (byte *)tp_static_309, 9, load64(p884 + 88));
-					if ((n888 & 1) != 0)
+					uint8_t n865 = tp_threads_text_push_count(p10, (byte *)tp_static_309, 9, load64(p861 + 88));
+					if ((n865 & 1) != 0)
 						break;
-					uint64_t n889 = load64(p10 + 8);
-					if (load64(p10 + 16) == n889) {
-						bool b890 = tp_std_alloc_vec_Vec_grow_amortized_6(p10, 1);
-						if (!b890)
+					uint64_t n866 = load64(p10 + 8);
+					if (load64(p10 + 16) == n866) {
+						bool b867 = tp_std_alloc_vec_Vec_grow_amortized_6(p10, 1);
+						if (!b867)
 							break;
-						n891 = load64(p10 + 8);
+						n868 = load64(p10 + 8);
 					} else {
-						n891 = n889;
+						n868 = n866;
 					}
-					store8(inside(loadptr(p10), n891), 10);
-					uint64_t n892 = n891 + 1;
-					store64(p10 + 8, n892);
-					n882 = n892;
-					n883 = n883 + 1;
+					store8(inside(loadptr(p10), n868), 10);
+					uint64_t n869 = n868 + 1;
+					store64(p10 + 8, n869);
+					n859 = n869;
+					n860 = n860 + 1;
 				}
 				if (load64u(p10 + 16) == 0)
-					goto L31;
+					goto L30;
 				rattle_dealloc(loadptru(p10));
-				goto L31;
-L30:
+				goto L30;
+L29:
 				{
-					uint64_t n895, n896, n899;
-					uint64_t n893 = load64(p10 + 16);
-					if ((n893 - n882) < 4) {
-						bool b894 = tp_std_alloc_vec_Vec_grow_amortized_6(p10, 4);
-						if (!b894) {
+					uint64_t n872, n873, n876;
+					uint64_t n870 = load64(p10 + 16);
+					if ((n870 - n859) < 4) {
+						bool b871 = tp_std_alloc_vec_Vec_grow_amortized_6(p10, 4);
+						if (!b871) {
 							if (load64u(p10 + 16) == 0)
-								goto L31;
+								goto L30;
 							rattle_dealloc(loadptru(p10));
-							goto L31;
+							goto L30;
 						}
-						n895 = load64(p10 + 16);
-						n896 = load64(p10 + 8);
+						n872 = load64(p10 + 16);
+						n873 = load64(p10 + 8);
 					} else {
-						n895 = n893;
-						n896 = n882;
+						n872 = n870;
+						n873 = n859;
 					}
-					byte *p897 = loadptr(p10);
-					byte *p898 = at(p897, n896);
-					if (((uint64_t)(uintptr_t)p898 - (uint64_t)(uintptr_t)(byte *)tp_static_305) >= 4) {
-						store32u(p898, 174354021);
-						goto L32;
+					byte *p874 = loadptr(p10);
+					byte *p875 = at(p874, n873);
+					if (((uint64_t)(uintptr_t)p875 - (uint64_t)(uintptr_t)(byte *)tp_static_305) >= 4) {
+						store32u(p875, 174354021);
+						goto L31;
 					}
-					n899 = 0;
-					while (n899 != 4) {
-						store8(inside(p898, n899), load8(inside((byte *)tp_static_305, n899)));
-						n899 = n899 + 1;
+					n876 = 0;
+					while (n876 != 4) {
+						store8(inside(p875, n876), load8(inside((byte *)tp_static_305, n876)));
+						n876 = n876 + 1;
 					}
-L32:
+L31:
 					{
-						byte *p903, *p904;
-						uint64_t n900 = n896 + 4;
-						uint64_t n901 = (uint64_t)(uintptr_t)p897;
+						byte *p880, *p881;
+						uint64_t n877 = n873 + 4;
+						uint64_t n878 = (uint64_t)(uintptr_t)p874;
 						memset(p7, 0, 16);
 						memset(p8, 0, 40);
 						memset(p9, 0, 40);
-						bool b902 = n855 == 0;
-						if (!b902) {
-							uint64_t n914;
-							if (n855 <= UINT64_C(576460752303423487)) {
-								of_i64_i64 s905 = rattle_alloc(n855 << 4, 8);
-								if ((s905.f0 & 1) != 0) {
-									byte *p906 = (byte *)(uintptr_t)s905.f1;
-									if (n855 <= UINT64_C(192153584101141162)) {
-										of_i64_i64 s907 = rattle_alloc(n855 * 48, 8);
-										if ((s907.f0 & 1) != 0) {
-											p903 = p906;
-											p904 = (byte *)(uintptr_t)s907.f1;
-											goto L33;
+						bool b879 = n832 == 0;
+						if (!b879) {
+							uint64_t n891;
+							if (n832 <= UINT64_C(576460752303423487)) {
+								of_i64_i64 s882 = rattle_alloc(n832 << 4, 8);
+								if ((s882.f0 & 1) != 0) {
+									byte *p883 = (byte *)(uintptr_t)s882.f1;
+									if (n832 <= UINT64_C(192153584101141162)) {
+										of_i64_i64 s884 = rattle_alloc(n832 * 48, 8);
+										if ((s884.f0 & 1) != 0) {
+											p880 = p883;
+											p881 = (byte *)(uintptr_t)s884.f1;
+											goto L32;
 										}
 									}
-									rattle_dealloc(p906);
-									uint64_t n908 = 0;
-									while (n908 != n855) {
-										byte *p909 = inside(p854, n908 * 112);
-										byte *p910 = loadptru(p909 + 24);
-										byte *p911 = loadptru(p909 + 32);
-										uint64_t n912 = load64u(p909 + 40);
+									rattle_dealloc(p883);
+									uint64_t n885 = 0;
+									while (n885 != n832) {
+										byte *p886 = inside(p831, n885 * 112);
+										byte *p887 = loadptru(p886 + 24);
+										byte *p888 = loadptru(p886 + 32);
+										uint64_t n889 = load64u(p886 + 40);
 										BARRIER();
-										uint64_t n913 = atomic_exchange64(p910 + 256, 1, ORDER_SEQ_CST);
+										uint64_t n890 = atomic_exchange64(p887 + 256, 1, ORDER_SEQ_CST);
 										BARRIER();
-										if (n913 != 0)
-											tp_release_drop_slow(p910, p911, n912);
-										n908 = n908 + 1;
+										if (n890 != 0)
+											tp_release_drop_slow(p887, p888, n889);
+										n885 = n885 + 1;
 									}
-									if (n856 == 0)
-										goto L34;
-									rattle_dealloc(p854);
-									goto L34;
+									if (n833 == 0)
+										goto L33;
+									rattle_dealloc(p831);
+									goto L33;
 								}
 							}
-							n914 = 0;
-							while (n914 != n855) {
-								byte *p915 = inside(p854, n914 * 112);
-								byte *p916 = loadptru(p915 + 24);
-								byte *p917 = loadptru(p915 + 32);
-								uint64_t n918 = load64u(p915 + 40);
+							n891 = 0;
+							while (n891 != n832) {
+								byte *p892 = inside(p831, n891 * 112);
+								byte *p893 = loadptru(p892 + 24);
+								byte *p894 = loadptru(p892 + 32);
+								uint64_t n895 = load64u(p892 + 40);
 								BARRIER();
-								uint64_t n919 = atomic_exchange64(p916 + 256, 1, ORDER_SEQ_CST);
+								uint64_t n896 = atomic_exchange64(p893 + 256, 1, ORDER_SEQ_CST);
 								BARRIER();
-								if (n919 != 0)
-									tp_release_drop_slow(p916, p917, n918);
-								n914 = n914 + 1;
+								if (n896 != 0)
+									tp_release_drop_slow(p893, p894, n895);
+								n891 = n891 + 1;
 							}
-							if (n856 != 0)
-								rattle_dealloc(p854);
-L34:
+							if (n833 != 0)
+								rattle_dealloc(p831);
+L33:
 							{
-								uint64_t n920;
-								if (n895 != 0)
-									rattle_dealloc(p897);
-								if (n448 != 0)
-									rattle_dealloc(p447);
-								if (n450 != 0)
-									rattle_dealloc(p449);
-								if (n452 != 0)
-									rattle_dealloc(p451);
-								if (n454 != 0)
-									rattle_dealloc(p453);
-								if (n456 == 0)
-									goto L35;
-								n920 = 0;
-								while (n920 != n456) {
-									byte *p921 = inside(p455, n920 * 88);
-									byte *p922 = loadptru(p921);
-									byte *p923 = loadptru(p921 + 8);
-									uint64_t n924 = load64u(p921 + 16);
-									byte *p925 = loadptru(p921 + 40);
-									byte *p926 = loadptru(p921 + 48);
-									uint64_t n927 = load64u(p921 + 56);
+								uint64_t n897;
+								if (n872 != 0)
+									rattle_dealloc(p874);
+								if (n435 != 0)
+									rattle_dealloc(p434);
+								if (n437 != 0)
+									rattle_dealloc(p436);
+								if (n439 != 0)
+									rattle_dealloc(p438);
+								if (n441 != 0)
+									rattle_dealloc(p440);
+								if (n443 == 0)
+									goto L34;
+								n897 = 0;
+								while (n897 != n443) {
+									byte *p898 = inside(p442, n897 * 88);
+									byte *p899 = loadptru(p898);
+									byte *p900 = loadptru(p898 + 8);
+									uint64_t n901 = load64u(p898 + 16);
+									byte *p902 = loadptru(p898 + 40);
+									byte *p903 = loadptru(p898 + 48);
+									uint64_t n904 = load64u(p898 + 56);
 									BARRIER();
-									uint64_t n928 = atomic_exchange64(p922 + 256, 1, ORDER_SEQ_CST);
+									uint64_t n905 = atomic_exchange64(p899 + 256, 1, ORDER_SEQ_CST);
 									BARRIER();
-									if (n928 != 0)
-										tp_release_drop_slow(p922, p923, n924);
+									if (n905 != 0)
+										tp_release_drop_slow(p899, p900, n901);
 									BARRIER();
-									uint64_t n929 = atomic_exchange64(p925 + 256, 1, ORDER_SEQ_CST);
+									uint64_t n906 = atomic_exchange64(p902 + 256, 1, ORDER_SEQ_CST);
 									BARRIER();
-									if (n929 != 0)
-										tp_release_drop_slow(p925, p926, n927);
-									n920 = n920 + 1;
+									if (n906 != 0)
+										tp_release_drop_slow(p902, p903, n904);
+									n897 = n897 + 1;
 								}
-L35:
+L34:
 								{
-									uint64_t n930;
-									if (n457 != 0)
-										rattle_dealloc(p455);
-									if (n459 == 0)
-										goto L36;
-									n930 = 0;
-									while (n930 != n459) {
-										rattle_dealloc(loadptru(inside(p458, n930 * 88)));
-										n930 = n930 + 1;
+									uint64_t n907;
+									if (n444 != 0)
+										rattle_dealloc(p442);
+									if (n446 == 0)
+										goto L35;
+									n907 = 0;
+									while (n907 != n446) {
+										rattle_dealloc(loadptru(inside(p445, n907 * 88)));
+										n907 = n907 + 1;
 									}
-L36:
+L35:
 									{
-										if (n460 != 0)
-											rattle_dealloc(p458);
-										if (n462 == 0) {
-											n874 = 1;
-											n875 = 0;
-											n876 = 0;
-											n877 = 0;
-											goto L37;
+										if (n447 != 0)
+											rattle_dealloc(p445);
+										if (n449 == 0) {
+											n851 = 1;
+											n852 = 0;
+											n853 = 0;
+											n854 = 0;
+											goto L36;
 										}
-										rattle_dealloc(p461);
-										n874 = 1;
-										n875 = 0;
-										n876 = 0;
-										n877 = 0;
-										goto L37;
+										rattle_dealloc(p448);
+										n851 = 1;
+										n852 = 0;
+										n853 = 0;
+										n854 = 0;
+										goto L36;
 									}
 								}
 							}
 						}
-						p903 = p6;
-						p904 = p6;
-L33:
+						p880 = p6;
+						p881 = p6;
+L32:
 						{
-							uint64_t n933, n934, n940, n945, n946, n963;
-							byte *p938, *p939;
-							uint8_t n964;
-							uint64_t n931 = 0;
-							uint64_t n932 = n855;
+							uint64_t n910, n911, n917, n922, n923, n940;
+							byte *p915, *p916;
+							uint8_t n941;
+							uint64_t n908 = 0;
+							uint64_t n909 = n832;
 							for (;;) {
-								if (n932 == 0)
-									goto L38;
-								n933 = n931 + 1;
-								n934 = n932 - 1;
-								byte *p935 = inside(p854, n931 * 112);
-								byte *p936 = loadptru(p935 + 8);
-								byte *p937 = loadptru(p935 + 16);
-								p938 = loadptru(p935 + 24);
-								p939 = loadptru(p935 + 32);
-								n940 = load64u(p935 + 40);
-								uint64_t n941 = load64u(p935 + 64);
-								uint8_t n942 = load8(p935);
-								memcpy(p7, p935 + 48, 16);
-								if (n942 != 1)
+								if (n909 == 0)
+									goto L37;
+								n910 = n908 + 1;
+								n911 = n909 - 1;
+								byte *p912 = inside(p831, n908 * 112);
+								byte *p913 = loadptru(p912 + 8);
+								byte *p914 = loadptru(p912 + 16);
+								p915 = loadptru(p912 + 24);
+								p916 = loadptru(p912 + 32);
+								n917 = load64u(p912 + 40);
+								uint64_t n918 = load64u(p912 + 64);
+								uint8_t n919 = load8(p912);
+								memcpy(p7, p912 + 48, 16);
+								if (n919 != 1)
 									break;
-								byte *p943 = inside(p903, n931 << 4);
-								storeptru(p943, p936);
-								storeptru(p943 + 8, p937);
-								byte *p944 = inside(p904, n931 * 48);
-								storeptru(p944, p938);
-								storeptru(p944 + 8, p939);
-								store64u(p944 + 16, n940);
-								memcpy(p944 + 24, p7, 16);
-								store64u(p944 + 40, n941);
-								n931 = n933;
-								n932 = n934;
+								byte *p920 = inside(p880, n908 << 4);
+								storeptru(p920, p913);
+								storeptru(p920 + 8, p914);
+								byte *p921 = inside(p881, n908 * 48);
+								storeptru(p921, p915);
+								storeptru(p921 + 8, p916);
+								store64u(p921 + 16, n917);
+								memcpy(p921 + 24, p7, 16);
+								store64u(p921 + 40, n918);
+								n908 = n910;
+								n909 = n911;
 							}
 							BARRIER();
-							n945 = atomic_exchange64(p938 + 256, 1, ORDER_SEQ_CST);
+							n922 = atomic_exchange64(p915 + 256, 1, ORDER_SEQ_CST);
 							BARRIER();
-							if (n945 != 0)
-								tp_release_drop_slow(p938, p939, n940);
-							storeptru(p8, p854);
-							store64u(p8 + 8, n934);
-							store64u(p8 + 16, n856);
-							store64u(p8 + 24, n933);
+							if (n922 != 0)
+								tp_release_drop_slow(p915, p916, n917);
+							storeptru(p8, p831);
+							store64u(p8 + 8, n911);
+							store64u(p8 + 16, n833);
+							store64u(p8 + 24, n910);
 							store64u(p8 + 32, 0);
 							tp_VecDeque_drop(p8);
-							if (n931 == 0)
-								goto L39;
-							n946 = 0;
-							while (n946 != n931) {
-								byte *p947 = inside(p904, n946 * 48);
-								byte *p948 = loadptru(p947);
-								byte *p949 = loadptru(p947 + 8);
-								uint64_t n950 = load64u(p947 + 16);
+							if (n908 == 0)
+								goto L38;
+							n923 = 0;
+							while (n923 != n908) {
+								byte *p924 = inside(p881, n923 * 48);
+								byte *p925 = loadptru(p924);
+								byte *p926 = loadptru(p924 + 8);
+								uint64_t n927 = load64u(p924 + 16);
 								BARRIER();
-								uint64_t n951 = atomic_exchange64(p948 + 256, 1, ORDER_SEQ_CST);
+								uint64_t n928 = atomic_exchange64(p925 + 256, 1, ORDER_SEQ_CST);
 								BARRIER();
-								if (n951 != 0)
-									tp_release_drop_slow(p948, p949, n950);
-								n946 = n946 + 1;
-							}
-L39:
-							{
-								uint64_t n952;
-								if (!b902) {
-									rattle_dealloc(p904);
-									rattle_dealloc(p903);
-								}
-								if (n448 != 0)
-									rattle_dealloc(p447);
-								if (n450 != 0)
-									rattle_dealloc(p449);
-								if (n452 != 0)
-									rattle_dealloc(p451);
-								if (n454 != 0)
-									rattle_dealloc(p453);
-								if (n456 == 0)
-									goto L40;
-								n952 = 0;
-								while (n952 != n456) {
-									byte *p953 = inside(p455, n952 * 88);
-									byte *p954 = loadptru(p953);
-									byte *p955 = loadptru(p953 + 8);
-									uint64_t n956 = load64u(p953 + 16);
-									byte *p957 = loadptru(p953 + 40);
-									byte *p958 = loadptru(p953 + 48);
-									uint64_t n959 = load64u(p953 + 56);
-									BARRIER();
-									uint64_t n960 = atomic_exchange64(p954 + 256, 1, ORDER_SEQ_CST);
-									BARRIER();
-									if (n960 != 0)
-										tp_release_drop_slow(p954, p955, n956);
-									BARRIER();
-									uint64_t n961 = atomic_exchange64(p957 + 256, 1, ORDER_SEQ_CST);
-									BARRIER();
-									if (n961 != 0)
-										tp_release_drop_slow(p957, p958, n959);
-									n952 = n952 + 1;
-								}
-L40:
-								{
-									uint64_t n962;
-									if (n457 != 0)
-										rattle_dealloc(p455);
-									if (n459 == 0)
-										goto L41;
-									n962 = 0;
-									while (n962 != n459) {
-										rattle_dealloc(loadptru(inside(p458, n962 * 88)));
-										n962 = n962 + 1;
-									}
-L41:
-									{
-										if (n460 != 0)
-											rattle_dealloc(p458);
-										if (n462 == 0) {
-											n963 = 0;
-											n964 = 0;
-											goto L42;
-										}
-										rattle_dealloc(p461);
-										n963 = 0;
-										n964 = 0;
-										goto L42;
-									}
-								}
+								if (n928 != 0)
+									tp_release_drop_slow(p925, p926, n927);
+								n923 = n923 + 1;
 							}
 L38:
 							{
-								bool b966, b990, b992, b994, b996, b999;
-								uint64_t n973, n977, n988, n998;
-								byte *p989, *p991, *p993, *p995, *p997;
-								storeptru(p9, p854);
+								uint64_t n929;
+								if (!b879) {
+									rattle_dealloc(p881);
+									rattle_dealloc(p880);
+								}
+								if (n435 != 0)
+									rattle_dealloc(p434);
+								if (n437 != 0)
+									rattle_dealloc(p436);
+								if (n439 != 0)
+									rattle_dealloc(p438);
+								if (n441 != 0)
+									rattle_dealloc(p440);
+								if (n443 == 0)
+									goto L39;
+								n929 = 0;
+								while (n929 != n443) {
+									byte *p930 = inside(p442, n929 * 88);
+									byte *p931 = loadptru(p930);
+									byte *p932 = loadptru(p930 + 8);
+									uint64_t n933 = load64u(p930 + 16);
+									byte *p934 = loadptru(p930 + 40);
+									byte *p935 = loadptru(p930 + 48);
+									uint64_t n936 = load64u(p930 + 56);
+									BARRIER();
+									uint64_t n937 = atomic_exchange64(p931 + 256, 1, ORDER_SEQ_CST);
+									BARRIER();
+									if (n937 != 0)
+										tp_release_drop_slow(p931, p932, n933);
+									BARRIER();
+									uint64_t n938 = atomic_exchange64(p934 + 256, 1, ORDER_SEQ_CST);
+									BARRIER();
+									if (n938 != 0)
+										tp_release_drop_slow(p934, p935, n936);
+									n929 = n929 + 1;
+								}
+L39:
+								{
+									uint64_t n939;
+									if (n444 != 0)
+										rattle_dealloc(p442);
+									if (n446 == 0)
+										goto L40;
+									n939 = 0;
+									while (n939 != n446) {
+										rattle_dealloc(loadptru(inside(p445, n939 * 88)));
+										n939 = n939 + 1;
+									}
+L40:
+									{
+										if (n447 != 0)
+											rattle_dealloc(p445);
+										if (n449 == 0) {
+											n940 = 0;
+											n941 = 0;
+											goto L41;
+										}
+										rattle_dealloc(p448);
+										n940 = 0;
+										n941 = 0;
+										goto L41;
+									}
+								}
+							}
+L37:
+							{
+								bool b943, b967, b969, b971, b973, b976;
+								uint64_t n950, n954, n965, n975;
+								byte *p966, *p968, *p970, *p972, *p974;
+								storeptru(p9, p831);
 								store64u(p9 + 8, 0);
-								store64u(p9 + 16, n856);
-								store64u(p9 + 24, n855);
+								store64u(p9 + 16, n833);
+								store64u(p9 + 24, n832);
 								store64u(p9 + 32, 0);
 								tp_VecDeque_drop(p9);
-								uint64_t n965 = 0;
+								uint64_t n942 = 0;
 								for (;;) {
-									b966 = n965 != n855;
-									if (!b966)
+									b943 = n942 != n832;
+									if (!b943)
 										break;
-									uint64_t n967 = n965 * 88;
-									byte *p968 = at(p458, n967);
-									if (load8(p968 + 32) == 1)
-										goto L43;
-									if (load64(p968 + 16) != 0)
-										goto L43;
-									byte *p969 = at(p455, n967);
-									store8(p969 + 80, 1);
-									byte *p970 = loadptr(p969) + 128;
+									uint64_t n944 = n942 * 88;
+									byte *p945 = at(p445, n944);
+									if (load8(p945 + 32) == 1)
+										goto L42;
+									if (load64(p945 + 16) != 0)
+										goto L42;
+									byte *p946 = at(p442, n944);
+									store8(p946 + 80, 1);
+									byte *p947 = loadptr(p946) + 128;
 									BARRIER();
-									uint64_t n971 = atomic_load64(p970, ORDER_SEQ_CST);
+									uint64_t n948 = atomic_load64(p947, ORDER_SEQ_CST);
 									BARRIER();
-									store64(p969 + 32, n971);
-									uint64_t n972 = load64(p969 + 24);
-									if (n971 != (n972 - ((n972 > n971) ? (load64(p969 + 16) << 1) : 0)))
-										goto L43;
-									n965 = n965 + 1;
+									store64(p946 + 32, n948);
+									uint64_t n949 = load64(p946 + 24);
+									if (n948 != (n949 - ((n949 > n948) ? (load64(p946 + 16) << 1) : 0)))
+										goto L42;
+									n942 = n942 + 1;
 								}
-								n973 = 0;
-								while (n973 != n855) {
-									byte *p974 = at(p904, n973 * 48);
-									store8(p974 + 40, 1);
-									byte *p975 = loadptr(p974) + 128;
+								n950 = 0;
+								while (n950 != n832) {
+									byte *p951 = at(p881, n950 * 48);
+									store8(p951 + 40, 1);
+									byte *p952 = loadptr(p951) + 128;
 									BARRIER();
-									uint64_t n976 = atomic_load64(p975, ORDER_SEQ_CST);
+									uint64_t n953 = atomic_load64(p952, ORDER_SEQ_CST);
 									BARRIER();
-									store64(p974 + 32, n976);
-									n973 = n973 + 1;
+									store64(p951 + 32, n953);
+									n950 = n950 + 1;
 								}
-								if (n459 == 0)
-									goto L44;
-								n977 = 0;
-								while (n977 != n459) {
-									rattle_dealloc(loadptru(inside(p458, n977 * 88)));
-									n977 = n977 + 1;
-								}
-L44:
-								{
-									uint64_t n978;
-									if (n460 != 0)
-										rattle_dealloc(p458);
-									if (n462 != 0)
-										rattle_dealloc(p461);
-									if (n456 == 0)
-										goto L45;
-									n978 = 0;
-									while (n978 != n456) {
-										byte *p979 = inside(p455, n978 * 88);
-										byte *p980 = loadptru(p979);
-										byte *p981 = loadptru(p979 + 8);
-										uint64_t n982 = load64u(p979 + 16);
-										byte *p983 = loadptru(p979 + 40);
-										byte *p984 = loadptru(p979 + 48);
-										uint64_t n985 = load64u(p979 + 56);
-										BARRIER();
-										uint64_t n986 = atomic_exchange64(p980 + 256, 1, ORDER_SEQ_CST);
-										BARRIER();
-										if (n986 != 0)
-											tp_release_drop_slow(p980, p981, n982);
-										BARRIER();
-										uint64_t n987 = atomic_exchange64(p983 + 256, 1, ORDER_SEQ_CST);
-										BARRIER();
-										if (n987 != 0)
-											tp_release_drop_slow(p983, p984, n985);
-										n978 = n978 + 1;
-									}
-L45:
-									{
-										if (n457 != 0)
-											rattle_dealloc(p455);
-										if (!b902)
-											rattle_dealloc(p903);
-										n988 = n446;
-										p989 = p447;
-										b990 = n448 == 0;
-										p991 = p449;
-										b992 = n450 == 0;
-										p993 = p451;
-										b994 = n452 == 0;
-										p995 = p453;
-										b996 = n454 == 0;
-										p997 = p904;
-										n998 = n855;
-										b999 = b902;
-										goto L46;
-									}
+								if (n446 == 0)
+									goto L43;
+								n954 = 0;
+								while (n954 != n446) {
+									rattle_dealloc(loadptru(inside(p445, n954 * 88)));
+									n954 = n954 + 1;
 								}
 L43:
 								{
-									uint64_t n1000;
-									if (!b902)
-										rattle_dealloc(p903);
-									if (n448 != 0)
-										rattle_dealloc(p447);
-									if (n450 != 0)
-										rattle_dealloc(p449);
-									if (n452 != 0)
-										rattle_dealloc(p451);
-									if (n454 != 0)
-										rattle_dealloc(p453);
-									if (n456 == 0)
-										goto L47;
-									n1000 = 0;
-									while (n1000 != n456) {
-										byte *p1001 = inside(p455, n1000 * 88);
-										byte *p1002 = loadptru(p1001);
-										byte *p1003 = loadptru(p1001 + 8);
-										uint64_t n1004 = load64u(p1001 + 16);
-										byte *p1005 = loadptru(p1001 + 40);
-										byte *p1006 = loadptru(p1001 + 48);
-										uint64_t n1007 = load64u(p1001 + 56);
+									uint64_t n955;
+									if (n447 != 0)
+										rattle_dealloc(p445);
+									if (n449 != 0)
+										rattle_dealloc(p448);
+									if (n443 == 0)
+										goto L44;
+									n955 = 0;
+									while (n955 != n443) {
+										byte *p956 = inside(p442, n955 * 88);
+										byte *p957 = loadptru(p956);
+										byte *p958 = loadptru(p956 + 8);
+										uint64_t n959 = load64u(p956 + 16);
+										byte *p960 = loadptru(p956 + 40);
+										byte *p961 = loadptru(p956 + 48);
+										uint64_t n962 = load64u(p956 + 56);
 										BARRIER();
-										uint64_t n1008 = atomic_exchange64(p1002 + 256, 1, ORDER_SEQ_CST);
+										uint64_t n963 = atomic_exchange64(p957 + 256, 1, ORDER_SEQ_CST);
 										BARRIER();
-										if (n1008 != 0)
-											tp_release_drop_slow(p1002, p1003, n1004);
+										if (n963 != 0)
+											tp_release_drop_slow(p957, p958, n959);
 										BARRIER();
-										uint64_t n1009 = atomic_exchange64(p1005 + 256, 1, ORDER_SEQ_CST);
+										uint64_t n964 = atomic_exchange64(p960 + 256, 1, ORDER_SEQ_CST);
 										BARRIER();
-										if (n1009 != 0)
-											tp_release_drop_slow(p1005, p1006, n1007);
-										n1000 = n1000 + 1;
+										if (n964 != 0)
+											tp_release_drop_slow(p960, p961, n962);
+										n955 = n955 + 1;
 									}
-L47:
+L44:
 									{
-										uint64_t n1010;
-										if (n457 != 0)
-											rattle_dealloc(p455);
-										if (n459 == 0)
-											goto L48;
-										n1010 = 0;
-										while (n1010 != n459) {
-											rattle_dealloc(loadptru(inside(p458, n1010 * 88)));
-											n1010 = n1010 + 1;
+										if (n444 != 0)
+											rattle_dealloc(p442);
+										if (!b879)
+											rattle_dealloc(p880);
+										n965 = n433;
+										p966 = p434;
+										b967 = n435 == 0;
+										p968 = p436;
+										b969 = n437 == 0;
+										p970 = p438;
+										b971 = n439 == 0;
+										p972 = p440;
+										b973 = n441 == 0;
+										p974 = p881;
+										n975 = n832;
+										b976 = b879;
+										goto L45;
+									}
+								}
+L42:
+								{
+									uint64_t n977;
+									if (!b879)
+										rattle_dealloc(p880);
+									if (n435 != 0)
+										rattle_dealloc(p434);
+									if (n437 != 0)
+										rattle_dealloc(p436);
+									if (n439 != 0)
+										rattle_dealloc(p438);
+									if (n441 != 0)
+										rattle_dealloc(p440);
+									if (n443 == 0)
+										goto L46;
+									n977 = 0;
+									while (n977 != n443) {
+										byte *p978 = inside(p442, n977 * 88);
+										byte *p979 = loadptru(p978);
+										byte *p980 = loadptru(p978 + 8);
+										uint64_t n981 = load64u(p978 + 16);
+										byte *p982 = loadptru(p978 + 40);
+										byte *p983 = loadptru(p978 + 48);
+										uint64_t n984 = load64u(p978 + 56);
+										BARRIER();
+										uint64_t n985 = atomic_exchange64(p979 + 256, 1, ORDER_SEQ_CST);
+										BARRIER();
+										if (n985 != 0)
+											tp_release_drop_slow(p979, p980, n981);
+										BARRIER();
+										uint64_t n986 = atomic_exchange64(p982 + 256, 1, ORDER_SEQ_CST);
+										BARRIER();
+										if (n986 != 0)
+											tp_release_drop_slow(p982, p983, n984);
+										n977 = n977 + 1;
+									}
+L46:
+									{
+										uint64_t n987;
+										if (n444 != 0)
+											rattle_dealloc(p442);
+										if (n446 == 0)
+											goto L47;
+										n987 = 0;
+										while (n987 != n446) {
+											rattle_dealloc(loadptru(inside(p445, n987 * 88)));
+											n987 = n987 + 1;
 										}
-L48:
+L47:
 										{
-											if (n460 != 0)
-												rattle_dealloc(p458);
-											if (n462 != 0)
-												rattle_dealloc(p461);
-											if (b902) {
-												n988 = n965;
-												p989 = NULL;
-												b990 = true;
-												p991 = NULL;
-												b992 = true;
-												p993 = NULL;
-												b994 = true;
-												p995 = NULL;
-												b996 = true;
-												p997 = NULL;
-												n998 = 0;
-												b999 = true;
-												goto L46;
+											if (n447 != 0)
+												rattle_dealloc(p445);
+											if (n449 != 0)
+												rattle_dealloc(p448);
+											if (b879) {
+												n965 = n942;
+												p966 = NULL;
+												b967 = true;
+												p968 = NULL;
+												b969 = true;
+												p970 = NULL;
+												b971 = true;
+												p972 = NULL;
+												b973 = true;
+												p974 = NULL;
+												n975 = 0;
+												b976 = true;
+												goto L45;
 											}
-											uint64_t n1011 = 0;
-											while (n1011 != n855) {
-												byte *p1012 = inside(p904, n1011 * 48);
-												byte *p1013 = loadptru(p1012);
-												byte *p1014 = loadptru(p1012 + 8);
-												uint64_t n1015 = load64u(p1012 + 16);
+											uint64_t n988 = 0;
+											while (n988 != n832) {
+												byte *p989 = inside(p881, n988 * 48);
+												byte *p990 = loadptru(p989);
+												byte *p991 = loadptru(p989 + 8);
+												uint64_t n992 = load64u(p989 + 16);
 												BARRIER();
-												uint64_t n1016 = atomic_exchange64(p1013 + 256, 1, ORDER_SEQ_CST);
+												uint64_t n993 = atomic_exchange64(p990 + 256, 1, ORDER_SEQ_CST);
 												BARRIER();
-												if (n1016 != 0)
-													tp_release_drop_slow(p1013, p1014, n1015);
-												n1011 = n1011 + 1;
+												if (n993 != 0)
+													tp_release_drop_slow(p990, p991, n992);
+												n988 = n988 + 1;
 											}
-											rattle_dealloc(p904);
-											n988 = n965;
-											p989 = NULL;
-											b990 = true;
-											p991 = NULL;
-											b992 = true;
-											p993 = NULL;
-											b994 = true;
-											p995 = NULL;
-											b996 = true;
-											p997 = NULL;
-											n998 = 0;
-											b999 = true;
+											rattle_dealloc(p881);
+											n965 = n942;
+											p966 = NULL;
+											b967 = true;
+											p968 = NULL;
+											b969 = true;
+											p970 = NULL;
+											b971 = true;
+											p972 = NULL;
+											b973 = true;
+											p974 = NULL;
+											n975 = 0;
+											b976 = true;
 										}
 									}
 								}
-L46:
+L45:
 								{
-									uint64_t n1018, n1023;
-									uint8_t n1019;
-									if (b966) {
-										n963 = n988;
-										n964 = 1;
-										goto L42;
+									uint64_t n995, n1000;
+									uint8_t n996;
+									if (b943) {
+										n940 = n965;
+										n941 = 1;
+										goto L41;
 									}
-									uint64_t n1017 = 0;
+									uint64_t n994 = 0;
 									for (;;) {
-										if (n1017 == n998) {
-											n1018 = 0;
-											n1019 = 0;
+										if (n994 == n975) {
+											n995 = 0;
+											n996 = 0;
 											break;
 										}
-										byte *p1020 = at(p997, n1017 * 48);
-										if ((load8(p1020 + 40) & 1) == 0) {
-											n1018 = n1017;
-											n1019 = 1;
+										byte *p997 = at(p974, n994 * 48);
+										if ((load8(p997 + 40) & 1) == 0) {
+											n995 = n994;
+											n996 = 1;
 											break;
 										}
-										uint64_t n1021 = load64(p1020 + 24);
-										uint64_t n1022 = load64(p1020 + 32);
-										if (n1022 != (n1021 - ((n1021 > n1022) ? (load64(p1020 + 16) << 1) : 0))) {
-											n1018 = n1017;
-											n1019 = 1;
+										uint64_t n998 = load64(p997 + 24);
+										uint64_t n999 = load64(p997 + 32);
+										if (n999 != (n998 - ((n998 > n999) ? (load64(p997 + 16) << 1) : 0))) {
+											n995 = n994;
+											n996 = 1;
 											break;
 										}
-										n1017 = n1017 + 1;
+										n994 = n994 + 1;
 									}
-									if (n998 == 0)
-										goto L49;
-									n1023 = 0;
-									while (n1023 != n998) {
-										byte *p1024 = inside(p997, n1023 * 48);
-										byte *p1025 = loadptru(p1024);
-										byte *p1026 = loadptru(p1024 + 8);
-										uint64_t n1027 = load64u(p1024 + 16);
+									if (n975 == 0)
+										goto L48;
+									n1000 = 0;
+									while (n1000 != n975) {
+										byte *p1001 = inside(p974, n1000 * 48);
+										byte *p1002 = loadptru(p1001);
+										byte *p1003 = loadptru(p1001 + 8);
+										uint64_t n1004 = load64u(p1001 + 16);
 										BARRIER();
-										uint64_t n1028 = atomic_exchange64(p1025 + 256, 1, ORDER_SEQ_CST);
+										uint64_t n1005 = atomic_exchange64(p1002 + 256, 1, ORDER_SEQ_CST);
 										BARRIER();
-										if (n1028 != 0)
-											tp_release_drop_slow(p1025, p1026, n1027);
-										n1023 = n1023 + 1;
+										if (n1005 != 0)
+											tp_release_drop_slow(p1002, p1003, n1004);
+										n1000 = n1000 + 1;
 									}
-L49:
+L48:
 									{
-										if (!b999)
-											rattle_dealloc(p997);
-										if (!b990)
-											rattle_dealloc(p989);
-										if (!b992)
-											rattle_dealloc(p991);
-										if (!b994)
-											rattle_dealloc(p993);
-										if (b996) {
-											n963 = n1018;
-											n964 = n1019;
+										if (!b976)
+											rattle_dealloc(p974);
+										if (!b967)
+											rattle_dealloc(p966);
+										if (!b969)
+											rattle_dealloc(p968);
+										if (!b971)
+											rattle_dealloc(p970);
+										if (b973) {
+											n940 = n995;
+											n941 = n996;
 										} else {
-											rattle_dealloc(p995);
-											n963 = n1018;
-											n964 = n1019;
+											rattle_dealloc(p972);
+											n940 = n995;
+											n941 = n996;
 										}
 									}
 								}
 							}
-L42:
+L41:
 							{
-								uint64_t n1029;
-								if (b879) {
-									if (n964 == 1) {
-										n1029 = umin64(n963, n881);
+								uint64_t n1006;
+								if (b856) {
+									if (n941 == 1) {
+										n1006 = umin64(n940, n858);
 									} else {
-										n1029 = n881;
+										n1006 = n858;
 									}
-								} else if (n964 == 1) {
-									n1029 = n963;
+								} else if (n941 == 1) {
+									n1006 = n940;
 								} else {
-									switch (MOSTLY_0(n463)) {
+									switch (MOSTLY_0(n450)) {
 									case 0: {
-										n874 = 0;
-										n875 = n901;
-										n876 = n900;
-										n877 = n895;
-										goto L37;
+										n851 = 0;
+										n852 = n878;
+										n853 = n877;
+										n854 = n872;
+										goto L36;
 									}
 									case 1: {
-										if (n895 == 0) {
-											n874 = 1;
-											n875 = 2;
-											n876 = 0;
-											n877 = 0;
-											goto L37;
+										if (n872 == 0) {
+											n851 = 1;
+											n852 = 2;
+											n853 = 0;
+											n854 = 0;
+											goto L36;
 										}
-										rattle_dealloc(p897);
-										n874 = 1;
-										n875 = 2;
-										n876 = 0;
-										n877 = 0;
-										goto L37;
+										rattle_dealloc(p874);
+										n851 = 1;
+										n852 = 2;
+										n853 = 0;
+										n854 = 0;
+										goto L36;
 									}
 									case 2: {
-										if (n895 == 0) {
-											n874 = 1;
-											n875 = 0;
-											n876 = 0;
-											n877 = 0;
-											goto L37;
+										if (n872 == 0) {
+											n851 = 1;
+											n852 = 0;
+											n853 = 0;
+											n854 = 0;
+											goto L36;
 										}
-										rattle_dealloc(p897);
-										n874 = 1;
-										n875 = 0;
-										n876 = 0;
-										n877 = 0;
-										goto L37;
+										rattle_dealloc(p874);
+										n851 = 1;
+										n852 = 0;
+										n853 = 0;
+										n854 = 0;
+										goto L36;
 									}
 									default: {
 										UNREACHABLE();
 									}
 									}
 								}
-								if (n895 == 0) {
-									n874 = 1;
-									n875 = 1;
-									n876 = n1029;
-									n877 = 0;
-									goto L37;
+								if (n872 == 0) {
+									n851 = 1;
+									n852 = 1;
+									n853 = n1006;
+									n854 = 0;
+									goto L36;
 								}
-								rattle_dealloc(p897);
-								n874 = 1;
-								n875 = 1;
-								n876 = n1029;
-								n877 = 0;
-								goto L37;
+								rattle_dealloc(p874);
+								n851 = 1;
+								n852 = 1;
+								n853 = n1006;
+								n854 = 0;
+								goto L36;
 							}
 						}
 					}
 				}
-L31:
+L30:
 				{
-					uint64_t n1030;
-					if (n855 == 0)
-						goto L50;
-					n1030 = 0;
-					while (n1030 != n855) {
-						byte *p1031 = inside(p854, n1030 * 112);
-						byte *p1032 = loadptru(p1031 + 24);
-						byte *p1033 = loadptru(p1031 + 32);
-						uint64_t n1034 = load64u(p1031 + 40);
+					uint64_t n1007;
+					if (n832 == 0)
+						goto L49;
+					n1007 = 0;
+					while (n1007 != n832) {
+						byte *p1008 = inside(p831, n1007 * 112);
+						byte *p1009 = loadptru(p1008 + 24);
+						byte *p1010 = loadptru(p1008 + 32);
+						uint64_t n1011 = load64u(p1008 + 40);
 						BARRIER();
-						uint64_t n1035 = atomic_exchange64(p1032 + 256, 1, ORDER_SEQ_CST);
+						uint64_t n1012 = atomic_exchange64(p1009 + 256, 1, ORDER_SEQ_CST);
 						BARRIER();
-						if (n1035 != 0)
-							tp_release_drop_slow(p1032, p1033, n1034);
-						n1030 = n1030 + 1;
+						if (n1012 != 0)
+							tp_release_drop_slow(p1009, p1010, n1011);
+						n1007 = n1007 + 1;
 					}
-L50:
+L49:
 					{
-						uint64_t n1036;
-						if (n856 != 0)
-							rattle_dealloc(p854);
-						if (n448 != 0)
-							rattle_dealloc(p447);
-						if (n450 != 0)
-							rattle_dealloc(p449);
-						if (n452 != 0)
-							rattle_dealloc(p451);
-						if (n454 != 0)
-							rattle_dealloc(p453);
-						if (n456 == 0)
-							goto L51;
-						n1036 = 0;
-						while (n1036 != n456) {
-							byte *p1037 = inside(p455, n1036 * 88);
-							byte *p1038 = loadptru(p1037);
-							byte *p1039 = loadptru(p1037 + 8);
-							uint64_t n1040 = load64u(p1037 + 16);
-							byte *p1041 = loadptru(p1037 + 40);
-							byte *p1042 = loadptru(p1037 + 48);
-							uint64_t n1043 = load64u(p1037 + 56);
+						uint64_t n1013;
+						if (n833 != 0)
+							rattle_dealloc(p831);
+						if (n435 != 0)
+							rattle_dealloc(p434);
+						if (n437 != 0)
+							rattle_dealloc(p436);
+						if (n439 != 0)
+							rattle_dealloc(p438);
+						if (n441 != 0)
+							rattle_dealloc(p440);
+						if (n443 == 0)
+							goto L50;
+						n1013 = 0;
+						while (n1013 != n443) {
+							byte *p1014 = inside(p442, n1013 * 88);
+							byte *p1015 = loadptru(p1014);
+							byte *p1016 = loadptru(p1014 + 8);
+							uint64_t n1017 = load64u(p1014 + 16);
+							byte *p1018 = loadptru(p1014 + 40);
+							byte *p1019 = loadptru(p1014 + 48);
+							uint64_t n1020 = load64u(p1014 + 56);
 							BARRIER();
-							uint64_t n1044 = atomic_exchange64(p1038 + 256, 1, ORDER_SEQ_CST);
+							uint64_t n1021 = atomic_exchange64(p1015 + 256, 1, ORDER_SEQ_CST);
 							BARRIER();
-							if (n1044 != 0)
-								tp_release_drop_slow(p1038, p1039, n1040);
+							if (n1021 != 0)
+								tp_release_drop_slow(p1015, p1016, n1017);
 							BARRIER();
-							uint64_t n1045 = atomic_exchange64(p1041 + 256, 1, ORDER_SEQ_CST);
+							uint64_t n1022 = atomic_exchange64(p1018 + 256, 1, ORDER_SEQ_CST);
 							BARRIER();
-							if (n1045 != 0)
-								tp_release_drop_slow(p1041, p1042, n1043);
-							n1036 = n1036 + 1;
+							if (n1022 != 0)
+								tp_release_drop_slow(p1018, p1019, n1020);
+							n1013 = n1013 + 1;
 						}
-L51:
+L50:
 						{
-							uint64_t n1046;
-							if (n457 != 0)
-								rattle_dealloc(p455);
-							if (n459 == 0)
-								goto L52;
-							n1046 = 0;
-							while (n1046 != n459) {
-								rattle_dealloc(loadptru(inside(p458, n1046 * 88)));
-								n1046 = n1046 + 1;
+							uint64_t n1023;
+							if (n444 != 0)
+								rattle_dealloc(p442);
+							if (n446 == 0)
+								goto L51;
+							n1023 = 0;
+							while (n1023 != n446) {
+								rattle_dealloc(loadptru(inside(p445, n1023 * 88)));
+								n1023 = n1023 + 1;
 							}
-L52:
+L51:
 							{
-								if (n460 != 0)
-									rattle_dealloc(p458);
-								if (n462 == 0) {
-									n874 = 1;
-									n875 = 0;
-									n876 = 0;
-									n877 = 0;
+								if (n447 != 0)
+									rattle_dealloc(p445);
+								if (n449 == 0) {
+									n851 = 1;
+									n852 = 0;
+									n853 = 0;
+									n854 = 0;
 								} else {
-									rattle_dealloc(p461);
-									n874 = 1;
-									n875 = 0;
-									n876 = 0;
-									n877 = 0;
+									rattle_dealloc(p448);
+									n851 = 1;
+									n852 = 0;
+									n853 = 0;
+									n854 = 0;
 								}
 							}
 						}
@@ -80723,12 +80633,12 @@ L52:
 				UNREACHABLE();
 			}
 			}
-L37:
+L36:
 			{
-				store64u(p1, n874);
-				store64u(p1 + 8, n875);
-				store64u(p1 + 16, n876);
-				store64u(p1 + 24, n877);
+				store64u(p1, n851);
+				store64u(p1 + 8, n852);
+				store64u(p1 + 16, n853);
+				store64u(p1 + 24, n854);
 				return;
 			}
 		}
