@@ -28,7 +28,7 @@ DRIVEN = [("0.3", "5", SHORT), ("8", "5", "quiet-1k,quiet-100k,quiet-1M"), ("0.3
 COLUMNS = ["timers-hier", "timers-c", "ref-calls", "ref-apart", "tokio-wheel", "libuv", "timers-hash-64k", "ref-hash-64k"]
 SCRIPTS = {
     "instructions": ["instructions.py"],
-    "programs": ["programs.py", TIMERS, "--runs", "60"],
+    "programs": ["programs.py", TIMERS, "--runs", "120"],
     "lines": ["lines.py", WORK],
     "tail": ["runs.py", "tail", "--repeats", "3"],
     "scale": ["runs.py", "scale", "--repeats", "3", "--count", "500000"],
