@@ -17,7 +17,7 @@ pub struct ConstTimers {
 }
 
 impl ConstTimers {
-    ghost use Rattle.timer_ffi_base.specs.Lent.{EndsUnchanged};
+    ghost use Rattle.timer_ffi_base.specs.Cells.{EndsUnchanged};
     ghost use Rattle.timer_c.specs.Frames.{IsOpen, IsShut};
     ghost use Rattle.timer_c.specs.Lent.{const_timers};
 

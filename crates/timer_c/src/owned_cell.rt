@@ -28,7 +28,7 @@ impl Model for OwnedCell {
 
 impl OwnedCell {
     ghost use Rattle.timer_c.specs.Lent.{as_cell, as_slot, the_slot, the_timers};
-    ghost use Rattle.timer_ffi_base.specs.Lent.{cell_of};
+    ghost use Rattle.timer_ffi_base.specs.contracts.heap_cell.HeapCell.{the_row as cell_of};
 
     /// The same two words, as the cell whose methods are proved for any content.
     pub(crate) fn cell(&mut self) -> &mut HeapCell<Timers<CWheel>>

@@ -18,7 +18,7 @@ pub struct ConstDesk {
 }
 
 impl ConstDesk {
-    ghost use Rattle.timer_ffi_base.specs.Lent.{EndsUnchanged};
+    ghost use Rattle.timer_ffi_base.specs.Cells.{EndsUnchanged};
     ghost use Rattle.timer_desk_c.specs.Frames.{IsOpen, IsShut};
     ghost use Rattle.timer_desk_c.specs.DeskLent.{const_desk};
 
@@ -42,7 +42,7 @@ pub struct ConstLine {
 }
 
 impl ConstLine {
-    ghost use Rattle.timer_ffi_base.specs.Lent.{EndsUnchanged};
+    ghost use Rattle.timer_ffi_base.specs.Cells.{EndsUnchanged};
     ghost use Rattle.timer_desk_c.specs.Frames.{HasLine, HasNoLine};
     ghost use Rattle.timer_desk_c.specs.LineLent.{const_line};
 

@@ -28,7 +28,7 @@ impl Model for DeskCell {
 
 impl DeskCell {
     ghost use Rattle.timer_desk_c.specs.DeskLent.{as_cell, as_slot, the_desk, the_desk_slot};
-    ghost use Rattle.timer_ffi_base.specs.Lent.{cell_of};
+    ghost use Rattle.timer_ffi_base.specs.contracts.heap_cell.HeapCell.{the_row as cell_of};
 
     /// The same two words, as the cell whose methods are proved for any content.
     pub(crate) fn cell(&mut self) -> &mut HeapCell<Desk<TieredWheel, RingInlet>>

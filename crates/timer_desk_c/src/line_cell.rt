@@ -27,7 +27,7 @@ impl Model for LineCell {
 
 impl LineCell {
     ghost use Rattle.timer_desk_c.specs.LineLent.{as_cell, as_slot, the_line, the_line_slot};
-    ghost use Rattle.timer_ffi_base.specs.Lent.{cell_of};
+    ghost use Rattle.timer_ffi_base.specs.contracts.heap_cell.HeapCell.{the_row as cell_of};
 
     /// The same two words, as the cell whose methods are proved for any content.
     pub(crate) fn cell(&mut self) -> &mut HeapCell<Line>

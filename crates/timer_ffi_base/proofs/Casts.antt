@@ -33,7 +33,7 @@ use Rattle.std.proofs.raw_atomic.Walks.{proved}
 use Rattle.std.proofs.VecSteps.Shapes.{after}
 use Rattle.std.specs.Borrow.{Lends}
 use Rattle.timer_ffi_base.specs.declared.heap_cell.HeapCell.{HeapCell}
-use Rattle.timer_ffi_base.specs.Lent.{cell_of}
+use Rattle.timer_ffi_base.specs.contracts.heap_cell.HeapCell.{the_row as cell_of}
 
 pub record Cast : Type 2 where
   pub S : RattleType

@@ -1,4 +1,3 @@
 pub mod CellParts
 pub mod Casts
-pub mod Sends
-pub mod Loans
+pub mod CellLaws

@@ -8,7 +8,6 @@
 //! anew.
 ghost use Rattle.std.specs.Prelude.{◌≡◌, true, false, None, IfSome};
 ghost use Rattle.std.specs.Borrow.{Lends, LendsIf, sem};
-ghost use Rattle.timer_ffi_base.specs.Cells.{is_open};
 
 use std::alloc::Global;
 use std::marker::Model;
@@ -31,6 +30,9 @@ impl<T> Model for HeapCell<T> {
 }
 
 impl<T> HeapCell<T> {
+    ghost use Rattle.timer_ffi_base.specs.Cells.{is_open, with_state};
+    ghost use Rattle.timer_ffi_base.specs.contracts.heap_cell.HeapCell.{the_row as cell_of};
+
     /// Whether it holds one.
     pub fn holds(&mut self) -> bool
         ensures value { result ≡ is_open self.old.mark }
@@ -39,8 +41,6 @@ impl<T> HeapCell<T> {
         // Any other number means empty: C may begin with zero bytes.
         self.mark == HELD
     }
-
-    ghost use Rattle.timer_ffi_base.specs.Lent.{cell_of, with_state};
 
     /// Lends it. Its state at the end of the loan is the cell's state.
     pub fn lend(&mut self) -> &mut T
@@ -70,6 +70,8 @@ impl<T> HeapCell<T> {
 }
 
 impl<T: Drop> HeapCell<T> {
+    ghost use Rattle.timer_ffi_base.specs.Cells.{is_open};
+
     /// Keeps it. What the cell owned before would be lost, so it must be empty.
     pub fn put(&mut self, whole: Box<T, Global>)
         requires { is_open self.old.mark ≡ false }

@@ -1,4 +1,4 @@
-use Rattle.timer_ffi_base.proofs.Loans.{unchanged}
+use Rattle.timer_ffi_base.proofs.CellLaws.{unchanged}
 use Rattle.timer_c.specs.Frames.{with_timers}
 use Rattle.timer_c.specs.Lent.{as_cell}
 use Rattle.timer_c.proofs.c_timers.CTimers.timers.Goals as goal

@@ -9,7 +9,7 @@ use Rattle.timer_links.proofs.kept.Unowned.TheSendSync as unowned'
 use Rattle.timer_wheels.proofs.tiered.TieredWheel.TheSendSync as tiered'
 use Rattle.timer_total.proofs.timers.Timers.TheSendSync as timers'
 use Rattle.timer_ffi_base.specs.Cells.{is_open}
-use Rattle.timer_ffi_base.proofs.Sends.{keyless}
+use Rattle.timer_ffi_base.proofs.CellLaws.{keyless}
 use Rattle.timer_c.specs.Slots.{the_timers, tiered_row, wheel_ghosts}
 use Rattle.timer_c.specs.contracts.owned_cell.OwnedCell.{the_row, the_type}
 

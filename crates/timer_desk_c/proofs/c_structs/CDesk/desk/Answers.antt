@@ -1,4 +1,4 @@
-use Rattle.timer_ffi_base.proofs.Loans.{unchanged}
+use Rattle.timer_ffi_base.proofs.CellLaws.{unchanged}
 use Rattle.timer_desk_c.specs.Frames.{with_desk}
 use Rattle.timer_desk_c.specs.DeskLent.{as_cell}
 use Rattle.timer_desk_c.proofs.c_structs.CDesk.desk.Goals as goal

@@ -12,7 +12,7 @@ use Rattle.timer_desk.specs.contracts.ring_ends.RingInletInlet.TheImpl as inlet
 use Rattle.timer_desk.proofs.ring_ends.RingInlet.TheSendSync as ring'
 use Rattle.timer_desk.proofs.desk.Desk.TheSendSync as desk'
 use Rattle.timer_ffi_base.specs.Cells.{is_open}
-use Rattle.timer_ffi_base.proofs.Sends.{keyless}
+use Rattle.timer_ffi_base.proofs.CellLaws.{keyless}
 use Rattle.timer_desk_c.specs.DeskSlots.{tiered_row, wheel_ghosts, the_desk}
 use Rattle.timer_desk_c.specs.contracts.desk_cell.DeskCell.{the_row, the_type}
 

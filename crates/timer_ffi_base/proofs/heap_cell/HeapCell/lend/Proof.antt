@@ -33,8 +33,7 @@ use denote.Triple.Walked.{says, Stays, stay_dropped, walk_of, ends_at, Goes-spen
 use Rattle.std.proofs.raw_atomic.Walks.{proved}
 use Rattle.std.proofs.VecSteps.Shapes.{after}
 use Rattle.std.specs.Box.Ownership.{box_owns}
-use Rattle.timer_ffi_base.specs.Cells.{is_open, owned_if, token}
-use Rattle.timer_ffi_base.specs.Lent.{with_state}
+use Rattle.timer_ffi_base.specs.Cells.{is_open, owned_if, token, with_state}
 use Rattle.timer_ffi_base.specs.contracts.heap_cell.HeapCell as cell
 use Rattle.timer_ffi_base.proofs.heap_cell.HeapCell.TheLaws.{lowers}
 use Rattle.timer_ffi_base.specs.contracts.heap_cell.HeapCell.lend as f
