@@ -10,7 +10,7 @@ use Rattle.timer_base.specs.WellFormed.{either, IsOrdered-in_order}
 use Rattle.timer_base.specs.WheelState.{WheelState, IsWellFormed}
 use Rattle.timer_base.proofs.Basics.{some_same, some_none, none_some, empty_when}
 use Rattle.timer_base.proofs.OrderLaws.{All-weaken}
-use Rattle.timer_links.specs.declared.node.Node.{Node}
+use Rattle.timer_links.specs.declared.kept.Node.{Node}
 use Rattle.timer_links.specs.Lists.{list_at, node_at, first_key, last_key, row_count, AreApart, IsPrevious, KeyedLists, Row, Rows}
 use Rattle.timer_links.proofs.Rows.{ending, last_key-end, length_list_at}
 use Rattle.timer_wheels.specs.BucketLists.{timers_in, entries_of}

@@ -1,7 +1,7 @@
 -- The lines in which `show` draws the lists of a wheel: one for each list with a timer that a filter keeps.
 use Rattle.std.specs.Prelude.{◌<◌, ◌≤◌, length, ℕ, zero, suc, ◌-◌, ◌/◌, ◌%◌, Bool, true, false, if◌then◌else◌, nat_lt, List, [], ◌∷◌, ◌++◌, codes, decimal}
 use Rattle.std.specs.List.{filter, flat_map, AllByRecursion}
-use Rattle.timer_links.specs.declared.node.Node.{Node}
+use Rattle.timer_links.specs.declared.kept.Node.{Node}
 use Rattle.timer_links.specs.Lists.{list_at, KeyedLists, Rows}
 use Rattle.timer_commands.specs.declared.render.Naming.{Naming}
 use Rattle.timer_commands.specs.declared.render.Naming.TheVariants as namings

@@ -1,15 +1,23 @@
-//! What lists keep of a node: all of it, or the part that their wheel needs.
+//! Nodes, which lists hold, and what lists keep of each: all of it, or the part that their wheel needs.
 //!
 //!     Node       40 bytes of a timer, and 8 of its rounds     for a hashed wheel
 //!     Timer      the 40 bytes                                 for a hierarchy, which needs no rounds
 //!     Unowned    24 bytes: serial, deadline and action        for a hierarchy whose timers all have client 0 and number 0
 //!
-//! It stands for a whole node. So the contracts of `Links` name whole nodes, whatever is kept of them.
+//! What is kept stands for a whole node. So the contracts of `Links` name whole nodes, whatever is kept of them.
 ghost use Rattle.std.specs.Prelude.{◌≡◌, ⊤};
 ghost use Rattle.timer_links.specs.Types.{Node};
 
-use crate::node::Node;
 use timer_base::Timer;
+
+/// A timer in a list, and for how many rounds it still waits there.
+#[derive(Clone, Copy, Debug, PartialEq, Eq)]
+pub struct Node {
+    /// The timer that waits.
+    pub timer: Timer,
+    /// Full revolutions left. 0 if the list needs no rounds.
+    pub rounds: u64,
+}
 
 /// What lists keep of each node.
 pub trait Kept: Copy {

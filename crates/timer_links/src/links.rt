@@ -17,8 +17,7 @@ ghost use Rattle.timer_links.specs.Links.{HasRoom, HasIndex, IsReady};
 ghost use Rattle.timer_links.specs.Ring.{IsGrown};
 ghost use Rattle.timer_links.specs.Types.{INDEXES};
 
-use crate::kept::Kept;
-use crate::node::Node;
+use crate::kept::{Kept, Node};
 use crate::ring::{
     INDEXES, Neighbours, add_index, join, join_last, key_at, only_neighbour, reserve_index,
     reserve_indexes,

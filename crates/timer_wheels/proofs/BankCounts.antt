@@ -8,7 +8,7 @@ use Rattle.timer_base.specs.declared.timer.Timer.{Timer}
 use Rattle.timer_base.specs.declared.timer.Handle.{Handle}
 use Rattle.timer_base.specs.WheelState.{IsPending, IsDue, held_at}
 use Rattle.timer_links.proofs.Rows.{StandsIn, stands_in}
-use Rattle.timer_links.specs.declared.node.Node.{Node}
+use Rattle.timer_links.specs.declared.kept.Node.{Node}
 use Rattle.timer_links.specs.Lists.{list_at, with_row, without_key, AreApart, KeyedLists, Row, Rows}
 use Rattle.timer_links.specs.declared.kept.Kept.{Ghosts}
 use Rattle.timer_wheels.specs.Bank.{IsBank, wheel_of}

@@ -9,7 +9,7 @@ use Rattle.timer_base.specs.Order.{in_order, AreBelow, AreDistinct, AreRising, I
 use Rattle.timer_base.proofs.OrderLaws.{in_order-newest, filter-in_order, length-in_order, All-filter, All-weaken, AreRising-append, AreRising-weaken}
 use Rattle.timer_base.specs.Pending.{Entry, timer_of, timers_of, is_due_at, entries_due, put}
 use Rattle.timer_base.specs.WheelState.{IsPending, IsDue}
-use Rattle.timer_links.specs.declared.node.Node.{Node}
+use Rattle.timer_links.specs.declared.kept.Node.{Node}
 use Rattle.timer_links.specs.Lists.{list_at, node_in, node_at, first_of, with_row, without_key, row_count, AreApart, KeyedLists, Row, Rows}
 use Rattle.timer_wheels.specs.BucketLaws.{timers_of-entries}
 use Rattle.timer_wheels.specs.Buckets.{IsListOf}

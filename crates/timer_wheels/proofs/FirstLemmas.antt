@@ -7,7 +7,7 @@ use Rattle.std.proofs.lemmas.Bool.Decides.{nat_tests}
 use Rattle.timer_base.proofs.OrderLaws.{All-weaken}
 use Rattle.timer_base.specs.declared.timer.Timer.{Timer}
 use Rattle.timer_base.proofs.Basics.{some_same}
-use Rattle.timer_links.specs.declared.node.Node.{Node}
+use Rattle.timer_links.specs.declared.kept.Node.{Node}
 use Rattle.timer_links.specs.Lists.{list_at, node_at, AreApart, KeyedLists, Rows}
 use Rattle.timer_wheels.specs.BucketLists.{timer_in, timers_in}
 use Rattle.timer_wheels.specs.declared.first.First.{First}

@@ -10,7 +10,7 @@ use Rattle.timer_base.specs.Order.{in_order, AreDistinct, IsNotAmong}
 use Rattle.timer_base.proofs.OrderLaws.{filter-in_order, AreDistinct-rising}
 use Rattle.timer_base.specs.Pending.{Entry, timer_of, has_handle, first_timer, first_found, without_handle}
 use Rattle.timer_base.specs.WheelState.{WheelState, IsPending, IsDue, NamesOne, timer_at, due_at, held_at, after_removal}
-use Rattle.timer_links.specs.declared.node.Node.{Node}
+use Rattle.timer_links.specs.declared.kept.Node.{Node}
 use Rattle.timer_links.specs.Lists.{list_at, node_in, node_at, first_of, without_key, AreApart, KeyedLists, Row, Rows}
 use Rattle.timer_wheels.specs.BucketLists.{timer_in, timers_in, entry_of, entries_of, rows_below, pending_in, wheel_state, AreBuckets}
 use Rattle.timer_wheels.proofs.RowLemmas.{rows_below-without_key, list_at-without_key}

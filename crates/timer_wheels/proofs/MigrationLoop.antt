@@ -6,7 +6,7 @@ use Rattle.std.proofs.lemmas.Bool.{eq-eqb, ne_eqb}
 use Rattle.timer_links.proofs.Rows.{length_list_at}
 use Rattle.timer_base.proofs.Basics.{some_same, none_some, some_none}
 use Rattle.timer_base.specs.Pending.{is_due_at}
-use Rattle.timer_links.specs.declared.node.Node.{Node}
+use Rattle.timer_links.specs.declared.kept.Node.{Node}
 use Rattle.timer_links.specs.Lists.{list_at, with_row, row_count, front_moved, first_row_moved, appended, node_at, first_key, AreApart, IsNext, KeyedLists, Row, Rows}
 use Rattle.timer_wheels.specs.Digits.{slots, bucket}
 use Rattle.timer_wheels.specs.BucketLists.{timer_in}

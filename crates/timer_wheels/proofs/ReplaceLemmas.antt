@@ -2,7 +2,7 @@
 use Rattle.std.proofs.Common.{◌≡◌, ◌<◌, ℕ, [], ◌∷◌, ◌++◌, length, sym, ◌∙◌, ap, arith, length-set, get_or-set_same, Option, Some, map, slice_set}
 use Rattle.timer_links.proofs.LinksCalls.{Held}
 use Rattle.timer_links.proofs.Rows.{StandsIn, stands_in}
-use Rattle.timer_links.specs.declared.node.Node.{Node}
+use Rattle.timer_links.specs.declared.kept.Node.{Node}
 use Rattle.timer_links.specs.Lists.{list_at, node_at, with_row, without_key, AreApart, IsAloneIn, SetsNode, MovesBack, KeyedLists}
 use Rattle.timer_wheels.proofs.RowLemmas.{set_twice}
 

@@ -2,7 +2,7 @@
 use Rattle.std.proofs.Common.{◌≡◌, ◌≢◌, ◌<◌, ◌≤◌, ◌+◌, ◌-◌, ℕ, [], ◌∷◌, ◌++◌, length, refl, sym, ◌∙◌, ap, inl, inr, length-set, append_assoc, get_or-set_same, get_or-set_other, filter, map, IsSome, Option, Some, slice_set}
 use Rattle.std.proofs.lemmas.List.{set-get_or, map-append}
 use Rattle.std.proofs.lemmas.Bool.{cases_eq, eq-eqb, ne_eqb}
-use Rattle.timer_links.specs.declared.node.Node.{Node}
+use Rattle.timer_links.specs.declared.kept.Node.{Node}
 use Rattle.timer_links.specs.Lists.{node_at, first_key, list_at, row_count, without_key, moved_back, AreApart, IsNext, SetsRounds, KeyedLists, Row, Rows}
 use Rattle.timer_wheels.specs.Revolutions.{with_fewer_rounds}
 use Rattle.timer_wheels.specs.Sweep.{has_no_rounds, has_rounds, due_now, due_later, half_swept, swept}
