@@ -6,7 +6,7 @@ use Rattle.std.proofs.lemmas.List.{map-append, set-get_or}
 use Rattle.timer_base.proofs.OrderLaws.{All-weaken}
 use Rattle.timer_links.specs.declared.kept.Node.{Node}
 use Rattle.timer_links.specs.Lists.{node_at, first_key, list_at, row_count, AreApart, IsNext, HasRounds, SetsRounds, KeyedLists, Row, Rows}
-use Rattle.timer_wheels.specs.Revolutions.{HasRoundsLeft, with_fewer_rounds}
+use Rattle.timer_wheels.specs.Sweep.{HasRoundsLeft, with_fewer_rounds}
 use Rattle.timer_wheels.proofs.RowLemmas.{all-append, all-rest, append-nil, set_twice}
 use Rattle.timer_wheels.proofs.WalkLemmas.{IsChanging, IsNextChanged, change_begun, change_next, change_more, change_ended}
 

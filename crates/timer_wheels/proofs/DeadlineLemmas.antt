@@ -14,7 +14,7 @@ use Rattle.timer_links.specs.declared.kept.Kept.{Ghosts}
 use Rattle.timer_wheels.specs.BucketLists.{timer_in, timers_in, entry_of, pending_in, rows_below, EachRow}
 use Rattle.timer_wheels.specs.Buckets.{state_of}
 use Rattle.timer_wheels.specs.declared.buckets.Buckets.{Buckets}
-use Rattle.timer_wheels.specs.Deadlines.{HasDeadline, IsLeast, IsLeastDeadline}
+use Rattle.timer_wheels.specs.FirstDeadline.{HasDeadline, IsLeast, IsLeastDeadline}
 use Rattle.timer_wheels.specs.declared.table.TheConstants.{MOST_BUCKETS}
 use Rattle.timer_wheels.specs.declared.table.Table.{Table}
 use Rattle.timer_wheels.specs.Digits.{IsTable, bucket, lowest_radix}

@@ -12,8 +12,7 @@ use Rattle.timer_links.specs.Lists.{list_at, node_at, AreApart, KeyedLists, Rows
 use Rattle.timer_wheels.specs.BucketLists.{timer_in, timers_in}
 use Rattle.timer_wheels.specs.declared.first.First.{First}
 use Rattle.timer_wheels.specs.declared.first.First.TheVariants.{InOrder, Counted}
-use Rattle.timer_wheels.specs.Deadlines.{HasDeadline, IsLeast, IsLeastDeadline}
-use Rattle.timer_wheels.specs.FirstDeadline.{has_deadline, deadline_count, StandByDeadline, IsFirstOf, IsKnown, IsKnownOf, entered_first, left_first, least_with}
+use Rattle.timer_wheels.specs.FirstDeadline.{HasDeadline, IsLeast, IsLeastDeadline, has_deadline, deadline_count, StandByDeadline, IsFirstOf, IsKnown, IsKnownOf, entered_first, left_first, least_with}
 use Rattle.timer_wheels.specs.Migration.{first_deadline}
 use Rattle.timer_wheels.proofs.RowLemmas.{all-append, all-front, all-rest, timers-append}
 use Rattle.timer_wheels.proofs.WalkLemmas.{IsGathering, next_row, found}

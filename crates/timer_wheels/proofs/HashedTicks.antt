@@ -15,8 +15,7 @@ use Rattle.timer_links.specs.Lists.{list_at, KeyedLists, Row, Rows}
 use Rattle.timer_wheels.specs.BucketLaws.{timers_of-entries, wheel_state-well_formed}
 use Rattle.timer_wheels.specs.BucketLists.{timer_in, timers_in, entry_of, entries_of, rows_below, pending_in, wheel_state, ArePending, AreInOrder, AreBuckets, EachRow}
 use Rattle.timer_wheels.specs.Hashed.{IsInBucket, AreInBuckets, rounds_of}
-use Rattle.timer_wheels.specs.Revolutions.{with_fewer_rounds}
-use Rattle.timer_wheels.specs.Sweep.{has_no_rounds, has_rounds, due_now, due_later, swept}
+use Rattle.timer_wheels.specs.Sweep.{with_fewer_rounds, has_no_rounds, has_rounds, due_now, due_later, swept}
 use Rattle.timer_wheels.proofs.AllLemmas.{all-both, all-map}
 use Rattle.timer_wheels.proofs.DigitLaws.{quotient_is, rest_is}
 use Rattle.timer_wheels.proofs.RowLemmas.{all-rows_below, all-list_at, append-nil, entries-append, filter-entries, filter-append}

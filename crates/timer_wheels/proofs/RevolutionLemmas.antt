@@ -13,7 +13,7 @@ use Rattle.timer_links.specs.Lists.{list_at, KeyedLists, Row, Rows}
 use Rattle.timer_wheels.specs.BucketLaws.{timers_of-entries}
 use Rattle.timer_wheels.specs.BucketLists.{timer_in, timers_in, entry_of, entries_of, rows_below, pending_in, wheel_state, ArePending, AreInOrder, AreBuckets, EachRow}
 use Rattle.timer_wheels.specs.Hashed.{AreInBuckets}
-use Rattle.timer_wheels.specs.Revolutions.{HasRoundsLeft, with_fewer_rounds}
+use Rattle.timer_wheels.specs.Sweep.{HasRoundsLeft, with_fewer_rounds}
 use Rattle.timer_wheels.proofs.AllLemmas.{all-both, all-map}
 use Rattle.timer_wheels.proofs.DigitLaws.{quotient_is}
 use Rattle.timer_wheels.proofs.HashedTicks.{IsDistance, StaysIn, distance, entries-fewer, timers-fewer, entries_below, stays, stays-pending, stays-in_buckets}

@@ -14,7 +14,7 @@ use Rattle.timer_links.specs.declared.kept.Kept.{Ghosts}
 use Rattle.timer_wheels.specs.Bank.{IsBank}
 use Rattle.timer_wheels.specs.BucketLists.{timer_in, timers_in, entry_of, entries_of, pending_in, rows_below, EachRow}
 use Rattle.timer_wheels.specs.Buckets.{state_of}
-use Rattle.timer_wheels.specs.Deadlines.{HasDeadline, IsLeast, IsLeastDeadline}
+use Rattle.timer_wheels.specs.FirstDeadline.{HasDeadline, IsLeast, IsLeastDeadline}
 use Rattle.timer_wheels.specs.Digits.{IsTable, HasDigits, weight, radix, level}
 use Rattle.timer_wheels.specs.Leap.{timer_visit}
 use Rattle.timer_wheels.specs.Smooth.{slot_in, smooth_list, mark, IsSmooth}

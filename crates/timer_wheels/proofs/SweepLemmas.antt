@@ -4,8 +4,7 @@ use Rattle.std.proofs.lemmas.List.{set-get_or, map-append}
 use Rattle.std.proofs.lemmas.Bool.{cases_eq, eq-eqb, ne_eqb}
 use Rattle.timer_links.specs.declared.kept.Node.{Node}
 use Rattle.timer_links.specs.Lists.{node_at, first_key, list_at, row_count, without_key, moved_back, AreApart, IsNext, SetsRounds, KeyedLists, Row, Rows}
-use Rattle.timer_wheels.specs.Revolutions.{with_fewer_rounds}
-use Rattle.timer_wheels.specs.Sweep.{has_no_rounds, has_rounds, due_now, due_later, half_swept, swept}
+use Rattle.timer_wheels.specs.Sweep.{with_fewer_rounds, has_no_rounds, has_rounds, due_now, due_later, half_swept, swept}
 use Rattle.timer_wheels.proofs.RowLemmas.{append-nil, filter-append, set_twice, set_swapped}
 use Rattle.timer_wheels.proofs.WalkLemmas.{IsChanging, IsNextChanged, change_begun, change_next, change_more, change_ended}
 

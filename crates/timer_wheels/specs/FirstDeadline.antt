@@ -1,12 +1,27 @@
--- The first deadline of timers, kept beside them while they come and go: as that of the front while they stand in order, and
--- else as a lower bound, with how many of them have it.
-use Rattle.std.specs.Prelude.{◌≤◌, ◌<◌, ◌+◌, ◌-◌, ◌==◌, nat_lt, min, if◌then◌else◌, ℕ, List, [], ◌∷◌, Option, Some, None, ⊤}
+-- The first deadline of timers, in whatever order they stand. It is kept beside them while they come and go: as that of the
+-- front while they stand in order, and else as a lower bound, with how many of them have it.
+use Rattle.std.specs.Prelude.{◌≡◌, ◌≤◌, ◌<◌, ◌+◌, ◌-◌, ◌==◌, nat_lt, min, if◌then◌else◌, ℕ, List, [], ◌∷◌, map, Option, Some, None, ⊤}
 use Rattle.std.specs.List.{AllByRecursion, AllByRecursion-prop}
 use Rattle.std.specs.Coded.{le_prop}
 use Rattle.std.proofs.Props.{props}
 use Rattle.timer_base.specs.declared.timer.Timer.{Timer}
+use Rattle.timer_base.specs.Order.{IsMember}
 use Rattle.timer_wheels.specs.declared.first.First.{First}
 use Rattle.timer_wheels.specs.declared.first.First.TheVariants.{InOrder, Counted}
+
+-- one of the timers has this deadline
+abbrev pub HasDeadline : ℕ → List Timer → Type 0
+HasDeadline deadline timers = IsMember deadline (map (λ (t : Timer). t.deadline) timers)
+
+-- one of the timers has this deadline, and none an earlier one
+pub record IsLeast (deadline : ℕ) (timers : List Timer) : Type 0 where
+  pub has : HasDeadline deadline timers
+  pub none_earlier : AllByRecursion (λ t. deadline ≤ t.deadline) timers
+
+-- the least deadline, and none exactly if there is no timer
+abbrev pub IsLeastDeadline : Option ℕ → List Timer → Type 0
+IsLeastDeadline None timers = timers ≡ []
+IsLeastDeadline (Some deadline) timers = IsLeast deadline timers
 
 -- 1 if the timer has this deadline, and 0 if not
 abbrev pub has_deadline : ℕ → Timer → ℕ

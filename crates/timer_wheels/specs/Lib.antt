@@ -8,14 +8,12 @@ pub mod Migration
 pub mod Shown
 pub mod Hashed
 pub mod Sweep
-pub mod Revolutions
 pub mod HashedWheel
 pub mod Occupied
 pub mod Leap
 pub mod Hier
 pub mod Tables
 pub mod HierWheel
-pub mod Deadlines
 pub mod FirstDeadline
 pub mod Firsts
 pub mod HeldPlaces

@@ -3,7 +3,7 @@ use Rattle.std.specs.Prelude.{◌≡◌, ◌<◌, ◌≤◌, ◌+◌, ◌-◌, �
 use Rattle.timer_links.specs.Lists.{list_at, KeyedLists, Row}
 use Rattle.timer_links.specs.declared.kept.Kept.{Ghosts}
 use Rattle.timer_wheels.specs.BucketLists.{timer_in, timers_in, rows_below, EachRow}
-use Rattle.timer_wheels.specs.Deadlines.{HasDeadline}
+use Rattle.timer_wheels.specs.FirstDeadline.{HasDeadline}
 use Rattle.timer_wheels.specs.Digits.{weight, radix}
 use Rattle.timer_wheels.specs.Leap.{timer_visit}
 use Rattle.timer_wheels.specs.Tables.{radices}

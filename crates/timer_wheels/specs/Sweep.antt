@@ -1,7 +1,14 @@
--- The lists of a hashed wheel after one bucket is swept.
-use Rattle.std.specs.Prelude.{ℕ, ◌==◌, Bool, not, map, filter, ◌++◌, slice_set, []}
+-- Rows of a hashed wheel that lose rounds, and its lists after one bucket is swept.
+use Rattle.std.specs.Prelude.{ℕ, ◌==◌, ◌-◌, ◌≤◌, Bool, not, map, filter, ◌++◌, slice_set, []}
 use Rattle.timer_links.specs.Lists.{list_at, KeyedLists, Row, Rows}
-use Rattle.timer_wheels.specs.Revolutions.{with_fewer_rounds}
+
+-- the row has at least this many rounds
+abbrev pub HasRoundsLeft : ℕ → Row → Type 0
+HasRoundsLeft rounds row = rounds ≤ row.1.rounds
+
+-- the row with fewer rounds
+abbrev pub with_fewer_rounds : ℕ → Row → Row
+with_fewer_rounds rounds row = (row.0, record row.1 { rounds = row.1.rounds - rounds })
 
 abbrev pub has_no_rounds : Row → Bool
 has_no_rounds row = row.1.rounds == 0

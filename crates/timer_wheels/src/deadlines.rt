@@ -8,8 +8,7 @@ ghost use Rattle.timer_base.specs.WakeUps.{next_deadline};
 ghost use Rattle.timer_links.specs.Lists.{list_at};
 ghost use Rattle.timer_wheels.specs.BucketLists.{rows_below, timers_in};
 ghost use Rattle.timer_wheels.specs.Buckets.{state_of};
-ghost use Rattle.timer_wheels.specs.Deadlines.{IsLeastDeadline};
-ghost use Rattle.timer_wheels.specs.FirstDeadline.{IsKnownOf};
+ghost use Rattle.timer_wheels.specs.FirstDeadline.{IsLeastDeadline, IsKnownOf};
 
 use crate::buckets::Buckets;
 use crate::first::First;

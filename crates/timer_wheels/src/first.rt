@@ -21,8 +21,7 @@
 ghost use Rattle.std.specs.Prelude.{◌≡◌, ◌<◌, length, true, false, IfSome};
 ghost use Rattle.timer_links.specs.Lists.{list_at};
 ghost use Rattle.timer_wheels.specs.BucketLists.{timers_in};
-ghost use Rattle.timer_wheels.specs.Deadlines.{IsLeast, IsLeastDeadline};
-ghost use Rattle.timer_wheels.specs.FirstDeadline.{unknown_first, no_first, counts_of, entered_first, left_first, least_with, IsFirstOf, IsKnownOf};
+ghost use Rattle.timer_wheels.specs.FirstDeadline.{IsLeast, IsLeastDeadline, unknown_first, no_first, counts_of, entered_first, left_first, least_with, IsFirstOf, IsKnownOf};
 ghost use Rattle.timer_wheels.specs.Migration.{first_deadline};
 
 use crate::walks::front_deadline;

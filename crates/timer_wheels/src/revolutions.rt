@@ -18,7 +18,7 @@ ghost use Rattle.timer_base.specs.Pending.{AreAfter};
 ghost use Rattle.timer_links.specs.Lists.{list_at};
 ghost use Rattle.timer_wheels.specs.Buckets.{state_of};
 ghost use Rattle.timer_wheels.specs.Hashed.{AreInBuckets};
-ghost use Rattle.timer_wheels.specs.Revolutions.{HasRoundsLeft, with_fewer_rounds};
+ghost use Rattle.timer_wheels.specs.Sweep.{HasRoundsLeft, with_fewer_rounds};
 
 use crate::buckets::Buckets;
 use timer_links::Links;

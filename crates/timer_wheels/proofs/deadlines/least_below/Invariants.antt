@@ -1,5 +1,5 @@
 use Rattle.timer_wheels.specs.BucketLists.{timers_in, rows_below}
-use Rattle.timer_wheels.specs.Deadlines.{IsLeastDeadline}
+use Rattle.timer_wheels.specs.FirstDeadline.{IsLeastDeadline}
 use Rattle.timer_wheels.proofs.deadlines.least_below.Given as goal
 
 abbrev pub invariant-loop-list : goal.invariant-loop-list

@@ -1,7 +1,7 @@
 use Rattle.std.proofs.Common.{◌≡◌, ◌+◌, ◌*◌, ℕ, sym, subst, arith, Option}
 use Rattle.timer_links.specs.Lists.{list_at}
 use Rattle.timer_wheels.specs.BucketLists.{timers_in}
-use Rattle.timer_wheels.specs.Deadlines.{IsLeastDeadline}
+use Rattle.timer_wheels.specs.FirstDeadline.{IsLeastDeadline}
 use Rattle.timer_wheels.specs.Digits.{weight}
 use Rattle.timer_wheels.specs.SmoothAhead.{IsFoundBelow, IsPendingDeadline, IsFirst, IsNotBefore}
 use Rattle.timer_wheels.specs.Smooth.{smooth_list}
