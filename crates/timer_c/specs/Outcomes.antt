@@ -53,7 +53,7 @@ WhyNoWheel number first_tick status =
 abbrev pub IsStarted : ℕ → ℕ → TimersState → TimersState → CHandle → Type 0
 IsStarted interval action old new handle =
     IsStartable interval old × (handle.serial ≡ old.last_serial + 1)
-    × (new ≡ with_start hier.with_start (after_start handle.place (next_timer interval action old) old.wheel) old)
+    × (new ≡ with_start hier.with_counted_start (after_start handle.place (next_timer interval action old) old.wheel) old)
 
 abbrev pub IsStartRefusal : ℕ → TimersState → ℕ → Type 0
 IsStartRefusal interval old status =
@@ -71,7 +71,7 @@ base_handle handle = record { place = handle.place; serial = handle.serial }
 abbrev pub IsStartedAt : ℕ → ℕ → TimersState → TimersState → CHandle → Type 0
 IsStartedAt deadline action old new handle =
     IsStartable (interval_until deadline old) old × (handle.serial ≡ old.last_serial + 1)
-    × (new ≡ with_start hier.with_start (after_start_at handle.place deadline action old.wheel old) old)
+    × (new ≡ with_start hier.with_counted_start (after_start_at handle.place deadline action old.wheel old) old)
 
 -- why it was not: an interval until a tick is never 0
 abbrev pub IsStartAtRefusal : ℕ → TimersState → ℕ → Type 0
@@ -81,7 +81,7 @@ IsStartAtRefusal deadline old status = IsStartRefusal (interval_until deadline o
 abbrev pub IsRestarted : CHandle → ℕ → ℕ → TimersState → TimersState → CHandle → Type 0
 IsRestarted handle interval action old new restarted =
     IsAt (base_handle handle) old × IsStartable interval old × (restarted.serial ≡ old.last_serial + 1)
-    × (new ≡ with_start hier.with_start (after_start restarted.place (next_timer interval action old)
+    × (new ≡ with_start hier.with_counted_start (after_start restarted.place (next_timer interval action old)
     (after_removal (base_handle handle) old.wheel)) old)
 
 -- a restart for this tick was done, as a start for it
@@ -89,7 +89,7 @@ abbrev pub IsRestartedAt : CHandle → ℕ → ℕ → TimersState → TimersSta
 IsRestartedAt handle deadline action old new restarted =
     IsAt (base_handle handle) old × IsStartable (interval_until deadline old) old
     × (restarted.serial ≡ old.last_serial + 1)
-    × (new ≡ with_start hier.with_start (after_start_at restarted.place deadline action
+    × (new ≡ with_start hier.with_counted_start (after_start_at restarted.place deadline action
     (after_removal (base_handle handle) old.wheel) old) old)
 
 abbrev pub IsRestartRefusal : CHandle → ℕ → TimersState → ℕ → Type 0
@@ -110,7 +110,7 @@ IsRestartAtRefusal handle deadline old status =
 abbrev pub IsSet : CHandle → ℕ → ℕ → TimersState → TimersState → CHandle → Type 0
 IsSet handle deadline action old new set =
     IsStartable (interval_until deadline old) old × (set.serial ≡ old.last_serial + 1)
-    × (new ≡ with_start hier.with_start (after_start_at set.place deadline action
+    × (new ≡ with_start hier.with_counted_start (after_start_at set.place deadline action
     (after_removal (base_handle handle) old.wheel) old) old)
 
 -- why it was not: only a start may find no memory

@@ -13,9 +13,9 @@ use Rattle.timer_base.proofs.OrderLaws.{All-weaken}
 use Rattle.timer_links.specs.declared.kept.Node.{Node}
 use Rattle.timer_links.specs.Lists.{list_at, node_at, first_key, last_key, row_count, AreApart, IsPrevious, KeyedLists, Row, Rows}
 use Rattle.timer_links.proofs.Rows.{ending, last_key-end, length_list_at}
-use Rattle.timer_wheels.specs.BucketLists.{timers_in, entries_of}
+use Rattle.timer_wheels.specs.BucketLists.{row_timers, entries_of}
 use Rattle.timer_wheels.specs.BucketLaws.{timers_of-entries}
-use Rattle.timer_wheels.specs.Shown.{without_deadline, by_serial, row_of, entries_at, ShowsBuckets}
+use Rattle.timer_wheels.specs.Shown.{without_deadline, by_serial, row_of_entry, entries_at, ShowsBuckets}
 use Rattle.timer_wheels.proofs.WalkLemmas.{IsGathering}
 use Rattle.timer_commands.specs.declared.render.Naming.{Naming}
 use Rattle.timer_commands.specs.declared.shows.Filter.{Filter}
@@ -26,15 +26,15 @@ use Rattle.timer_commands.proofs.PictureLemmas.{IsDrawn}
 -- ---- the lists of a wheel stand by serial
 
 no_lower : (rounds_of : Timer → ℕ) (e : Entry) (es : List Entry) → IsFirst (without_deadline e) (map without_deadline es)
-    → AllByRecursion (λ (later : Row). e.timer.serial ≤ later.1.timer.serial) (map (row_of rounds_of) es)
+    → AllByRecursion (λ (later : Row). e.timer.serial ≤ later.1.timer.serial) (map (row_of_entry rounds_of) es)
 no_lower rounds_of e [] f = tt
 no_lower rounds_of e (x ∷ xs) f = (grind (arith, nat_tests, f.0), no_lower rounds_of e xs f.1)
 
-ordered_rows : (rounds_of : Timer → ℕ) (es : List Entry) → IsOrdered (map without_deadline es) → AreBySerial (map (row_of rounds_of) es)
+ordered_rows : (rounds_of : Timer → ℕ) (es : List Entry) → IsOrdered (map without_deadline es) → AreBySerial (map (row_of_entry rounds_of) es)
 ordered_rows rounds_of [] o = tt
 ordered_rows rounds_of (e ∷ es) o = (no_lower rounds_of e es o.0, ordered_rows rounds_of es o.1)
 
-above : (low : ℕ) (rows : Rows) → AreRising low (timers_in rows) → AllByRecursion (λ (later : Row). low ≤ later.1.timer.serial) rows
+above : (low : ℕ) (rows : Rows) → AreRising low (row_timers rows) → AllByRecursion (λ (later : Row). low ≤ later.1.timer.serial) rows
 above low [] r = tt
 above low (x ∷ xs) r =
     let b : low < x.1.timer.serial = r.0 in (
@@ -43,7 +43,7 @@ above low (x ∷ xs) r =
           (λ y h. omega arith) (above x.1.timer.serial xs r.1),
     )
 
-rising_rows : (low : ℕ) (rows : Rows) → AreRising low (timers_in rows) → AreBySerial rows
+rising_rows : (low : ℕ) (rows : Rows) → AreRising low (row_timers rows) → AreBySerial rows
 rising_rows low [] r = tt
 rising_rows low (x ∷ xs) r = (above x.1.timer.serial xs r.1, rising_rows x.1.timer.serial xs r.1)
 

@@ -12,7 +12,7 @@ use Rattle.timer_links.specs.declared.kept.Node.{Node}
 use Rattle.timer_links.specs.Lists.{list_at, with_row, without_key, AreApart, KeyedLists, Row, Rows}
 use Rattle.timer_links.specs.declared.kept.Kept.{Ghosts}
 use Rattle.timer_wheels.specs.Bank.{IsBank, wheel_of}
-use Rattle.timer_wheels.specs.BucketLists.{timer_in}
+use Rattle.timer_wheels.specs.BucketLists.{row_timer}
 use Rattle.timer_wheels.specs.Buckets.{state_of}
 use Rattle.timer_wheels.specs.Digits.{IsTable, HasDigits, level}
 use Rattle.timer_wheels.specs.Smooth.{slot_in, smooth_list, smooth_level, smooth_bucket, mark, height, heights, descend_by, IsByLaw}
@@ -94,10 +94,10 @@ module _ {N : Type 0} {kept : Ghosts N} (t : Table) (b : Buckets N kept) (words 
       let law = among (IsByLaw (radices t) b.tick (mark (radices t) b.tick b.links.lists) there.l) there.front there.rest
       (handle.place, (held_node b.sound apart handle timer e).node)
       (subst (AllByRecursion (IsByLaw (radices t) b.tick (mark (radices t) b.tick b.links.lists) there.l)) there.at (h.placed there.l l)) in
-      let pend = among (λ r. IsPending b.last_tick b.tick b.last_serial (timer_in r)) there.front there.rest
+      let pend = among (λ r. IsPending b.last_tick b.tick b.last_serial (row_timer r)) there.front there.rest
       (handle.place, (held_node b.sound apart handle timer e).node)
-      (subst (AllByRecursion (λ r. IsPending b.last_tick b.tick b.last_serial (timer_in r))) there.at
-      (all-list_at (λ r. IsPending b.last_tick b.tick b.last_serial (timer_in r)) b.slots b.links.lists b.sound.pending there.l l)) in
+      (subst (AllByRecursion (λ r. IsPending b.last_tick b.tick b.last_serial (row_timer r))) there.at
+      (all-list_at (λ r. IsPending b.last_tick b.tick b.last_serial (row_timer r)) b.slots b.links.lists b.sound.pending there.l l)) in
       let same : (held_node b.sound apart handle timer e).node.timer ≡ timer = (held_node b.sound apart handle timer e).timer in
       let at : smooth_bucket (radices t) b.tick (mark (radices t) b.tick b.links.lists) timer ≡ there.l =
       ap (smooth_bucket (radices t) b.tick (mark (radices t) b.tick b.links.lists)) (sym same) ∙ law.0 in
@@ -117,9 +117,9 @@ module _ {N : Type 0} {kept : Ghosts N} (t : Table) (b : Buckets N kept) (words 
 
   due_high : there.l ≡ b.slots → wheel_of t b timer ≡ 0
   due_high q =
-      let due = among (λ r. IsDue b.tick b.last_serial (timer_in r)) there.front there.rest
+      let due = among (λ r. IsDue b.tick b.last_serial (row_timer r)) there.front there.rest
       (handle.place, (held_node b.sound apart handle timer e).node)
-      (subst (AllByRecursion (λ r. IsDue b.tick b.last_serial (timer_in r))) (ap (λ (x : ℕ). list_at x b.links.lists) (sym q) ∙ there.at) b.sound.due) in
+      (subst (AllByRecursion (λ r. IsDue b.tick b.last_serial (row_timer r))) (ap (λ (x : ℕ). list_at x b.links.lists) (sym q) ∙ there.at) b.sound.due) in
       let same : (held_node b.sound apart handle timer e).node.timer ≡ timer = (held_node b.sound apart handle timer e).timer in
       let now : timer.deadline ≡ b.tick = subst (λ (x : Timer). x.deadline ≡ b.tick) same due.deadline in
       let is : nat_lt b.tick timer.deadline ≡ false = grind (arith, nat_tests) in

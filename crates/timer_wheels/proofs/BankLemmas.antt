@@ -10,11 +10,11 @@ use Rattle.timer_base.specs.WheelState.{IsPending}
 use Rattle.timer_links.specs.Lists.{list_at, with_row, appended, front_moved, first_row_moved, KeyedLists, Row, Rows}
 use Rattle.timer_links.specs.declared.kept.Kept.{Ghosts}
 use Rattle.timer_wheels.specs.Bank.{IsBank}
-use Rattle.timer_wheels.specs.BucketLists.{timer_in, entries_of, AreBuckets, EachRow, wheel_state}
+use Rattle.timer_wheels.specs.BucketLists.{row_timer, entries_of, AreBuckets, EachRow, wheel_state}
 use Rattle.timer_wheels.specs.Digits.{IsTable, HasDigits, radix, level}
 use Rattle.timer_wheels.specs.Migration.{first_deadline}
 use Rattle.timer_wheels.specs.Occupied.{bit_of, filled, AreMarked}
-use Rattle.timer_wheels.specs.Smooth.{slot_in, smooth_list, smooth_slots, next_list, heights, ticks_left, moved_to, mark, smooth_bucket, smooth_level, descend, descend_by, HasTurns, IsByLaw, IsSmooth, Stands, IsStep, IsTicked, stepped}
+use Rattle.timer_wheels.specs.Smooth.{slot_in, smooth_list, smooth_slots, next_list, heights, ticks_to_half, moved_to, mark, smooth_bucket, smooth_level, descend, descend_by, HasTurns, IsByLaw, IsSmooth, Stands, IsStep, AreTickedLists, stepped}
 use Rattle.timer_wheels.specs.Tables.{radices}
 use Rattle.timer_wheels.specs.declared.buckets.Buckets.{Buckets}
 use Rattle.timer_wheels.specs.declared.table.Table.{Table}
@@ -47,30 +47,30 @@ lists_in_range t = turns_in_range (radices t) (of_table t).turns (of_table t).tw
 -- The law and the relation, for pending rows.
 
 module _ (table : List ℕ) (last_tick now last : ℕ) (marks : ℕ → ℕ) (i : IsTable table) (digits : HasDigits table last_tick) where
-  deadline_digits : (row : Row) → IsPending last_tick now last (timer_in row) → HasDigits table (timer_in row).deadline
-  deadline_digits row p = digits_down table (timer_in row).deadline last_tick i p.in_range digits
+  deadline_digits : (row : Row) → IsPending last_tick now last (row_timer row) → HasDigits table (row_timer row).deadline
+  deadline_digits row p = digits_down table (row_timer row).deadline last_tick i p.in_range digits
 
-  by_relation : (s : ℕ) (row : Row) → IsPending last_tick now last (timer_in row) → IsByLaw table now marks s row → IsSmooth table now marks s row
+  by_relation : (s : ℕ) (row : Row) → IsPending last_tick now last (row_timer row) → IsByLaw table now marks s row → IsSmooth table now marks s row
   by_relation s row p h = record {
-    on = smooth_level table now marks (timer_in row);
-    stands = subst (λ (x : ℕ). Stands table now marks x (smooth_level table now marks (timer_in row)) (timer_in row)) h.0
-        (started_stands table now marks (timer_in row) i (deadline_digits row p) p.later);
+    on = smooth_level table now marks (row_timer row);
+    stands = subst (λ (x : ℕ). Stands table now marks x (smooth_level table now marks (row_timer row)) (row_timer row)) h.0
+        (started_stands table now marks (row_timer row) i (deadline_digits row p) p.later);
     no_rounds = h.1;
   }
 
-  by_law : (s : ℕ) (row : Row) → IsPending last_tick now last (timer_in row) → IsSmooth table now marks s row → IsByLaw table now marks s row
-  by_law s row p h = (stands_by_law table now marks s h.on (timer_in row) i (deadline_digits row p) p.later h.stands, h.no_rounds)
+  by_law : (s : ℕ) (row : Row) → IsPending last_tick now last (row_timer row) → IsSmooth table now marks s row → IsByLaw table now marks s row
+  by_law s row p h = (stands_by_law table now marks s h.on (row_timer row) i (deadline_digits row p) p.later h.stands, h.no_rounds)
 
   module _ (n : ℕ) (lists : KeyedLists) (b : AreBuckets n last_tick now last lists) where
-    pending_rows : (s : ℕ) → s < n → AllByRecursion (λ row. IsPending last_tick now last (timer_in row)) (list_at s lists)
-    pending_rows = all-list_at (λ row. IsPending last_tick now last (timer_in row)) n lists b.pending
+    pending_rows : (s : ℕ) → s < n → AllByRecursion (λ row. IsPending last_tick now last (row_timer row)) (list_at s lists)
+    pending_rows = all-list_at (λ row. IsPending last_tick now last (row_timer row)) n lists b.pending
 
     pub to_relation : EachRow (IsByLaw table now marks) n lists → EachRow (IsSmooth table now marks) n lists
-    to_relation placed s h = all-both (λ row. IsPending last_tick now last (timer_in row)) (IsByLaw table now marks s) (IsSmooth table now marks s)
+    to_relation placed s h = all-both (λ row. IsPending last_tick now last (row_timer row)) (IsByLaw table now marks s) (IsSmooth table now marks s)
         (list_at s lists) (by_relation s) (pending_rows s h) (placed s h)
 
     pub to_law : EachRow (IsSmooth table now marks) n lists → EachRow (IsByLaw table now marks) n lists
-    to_law placed s h = all-both (λ row. IsPending last_tick now last (timer_in row)) (IsSmooth table now marks s) (IsByLaw table now marks s)
+    to_law placed s h = all-both (λ row. IsPending last_tick now last (row_timer row)) (IsSmooth table now marks s) (IsByLaw table now marks s)
         (list_at s lists) (by_law s) (pending_rows s h) (placed s h)
 
 -- One move.
@@ -80,11 +80,11 @@ pub record HasFirst (d : ℕ) (rows : Rows) : Type 0 where
   pub row : Row
   pub rest : Rows
   pub at : rows ≡ row ∷ rest
-  pub deadline : (timer_in row).deadline ≡ d
+  pub deadline : (row_timer row).deadline ≡ d
 
 pub first_row : (d : ℕ) (rows : Rows) → Some d ≡ first_deadline rows → HasFirst d rows
 first_row d [] e = absurd (some_none d e)
-first_row d (x ∷ xs) e = record { row = x; rest = xs; at = refl; deadline = some_same (timer_in x).deadline d (sym e) }
+first_row d (x ∷ xs) e = record { row = x; rest = xs; at = refl; deadline = some_same (row_timer x).deadline d (sym e) }
 
 -- what one move leaves
 pub record IsMoved {N : Type 0} {kept : Ghosts N} (t : Table) (b : Buckets N kept) (wheel from to : ℕ) (new : KeyedLists) : Type 0 where
@@ -100,10 +100,10 @@ pub record IsMoved {N : Type 0} {kept : Ghosts N} (t : Table) (b : Buckets N kep
   pub was : filled (list_at from b.links.lists) ≡ 1
   pub falls : heights (radices t) b.slots new + 1 ≤ heights (radices t) b.slots b.links.lists
   -- in the first half of the bucket's time it goes one wheel down
-  pub one_down : (ticks_left (radices t) b.tick wheel ≡ 0 → length (list_at from b.links.lists) ≡ 0)
+  pub one_down : (ticks_to_half (radices t) b.tick wheel ≡ 0 → length (list_at from b.links.lists) ≡ 0)
       → heights (radices t) b.slots new + 1 ≡ heights (radices t) b.slots b.links.lists
   -- and it comes to no next bucket
-  pub next_same : (ticks_left (radices t) b.tick wheel ≡ 0 → length (list_at from b.links.lists) ≡ 0) → (j : ℕ) → 0 < j
+  pub next_same : (ticks_to_half (radices t) b.tick wheel ≡ 0 → length (list_at from b.links.lists) ≡ 0) → (j : ℕ) → 0 < j
       → j < length (radices t) → j ≢ wheel → list_at (next_list (radices t) b.tick j) new ≡ list_at (next_list (radices t) b.tick j) b.links.lists
 
 module _ {N : Type 0} {kept : Ghosts N} (t : Table) (b : Buckets N kept) (words : List ℕ) (h : IsBank t b words) (k d to : ℕ) (wheel : suc k < length (radices t))
@@ -132,7 +132,7 @@ module _ {N : Type 0} {kept : Ghosts N} (t : Table) (b : Buckets N kept) (words 
   marks_by_bits : descend_by (radices t) b.tick words d k ≡ a_step.on
   marks_by_bits = ap (λ (x : ℕ). descend_by (radices t) b.tick words x k) (sym f.deadline) ∙ a_step.by_bits words h.marked.0
 
-  to_is : to ≡ smooth_list (radices t) a_step.on (slot_in (radices t) a_step.on (timer_in f.row).deadline)
+  to_is : to ≡ smooth_list (radices t) a_step.on (slot_in (radices t) a_step.on (row_timer f.row).deadline)
   to_is = goes ∙ (ap (λ (x : ℕ). smooth_list (radices t) x (slot_in (radices t) x d)) marks_by_bits
       ∙ ap (λ (x : ℕ). smooth_list (radices t) a_step.on (slot_in (radices t) a_step.on x)) (sym f.deadline))
 
@@ -145,44 +145,44 @@ module _ {N : Type 0} {kept : Ghosts N} (t : Table) (b : Buckets N kept) (words 
   from_after = after_from b.sound a_step.move
 
   -- where it goes is no next bucket, while ticks are left
-  not_next : ticks_left (radices t) b.tick (suc k) ≢ 0 → (j : ℕ) → 0 < j → j < length (radices t)
-      → next_list (radices t) b.tick j ≢ smooth_list (radices t) a_step.on (slot_in (radices t) a_step.on (timer_in f.row).deadline)
+  not_next : ticks_to_half (radices t) b.tick (suc k) ≢ 0 → (j : ℕ) → 0 < j → j < length (radices t)
+      → next_list (radices t) b.tick j ≢ smooth_list (radices t) a_step.on (slot_in (radices t) a_step.on (row_timer f.row).deadline)
   not_next some j z l = λ (y : next_list (radices t) b.tick j ≡ smooth_list (radices t) a_step.on
-      (slot_in (radices t) a_step.on (timer_in f.row).deadline)).
+      (slot_in (radices t) a_step.on (row_timer f.row).deadline)).
       let w : a_step.on ≡ j = sym (one_wheel (radices t) j a_step.on (slot_in (radices t) j b.tick + 1)
-      (slot_in (radices t) a_step.on (timer_in f.row).deadline) i (turns_of_table t) l a_step.wheel y) in
-      let in_next : slot_in (radices t) a_step.on (timer_in f.row).deadline ≡ slot_in (radices t) a_step.on b.tick + 1 =
+      (slot_in (radices t) a_step.on (row_timer f.row).deadline) i (turns_of_table t) l a_step.wheel y) in
+      let in_next : slot_in (radices t) a_step.on (row_timer f.row).deadline ≡ slot_in (radices t) a_step.on b.tick + 1 =
       same_rest_of (2 * radix a_step.on (radices t)) (slot_in (radices t) a_step.on b.tick)
-      (slot_in (radices t) a_step.on (timer_in f.row).deadline) (slot_in (radices t) a_step.on b.tick + 1)
+      (slot_in (radices t) a_step.on (row_timer f.row).deadline) (slot_in (radices t) a_step.on b.tick + 1)
       (omega (arith, radix_above (radices t) a_step.on i)) a_step.ahead (omega arith)
-      (ahead_within (radices t) b.tick a_step.on (timer_in f.row).deadline i
+      (ahead_within (radices t) b.tick a_step.on (row_timer f.row).deadline i
       (record { wheel = a_step.wheel; ahead = a_step.ahead; near = a_step.near }))
       (omega (arith, radix_above (radices t) a_step.on i))
-      (same_rests a_step.on (slot_in (radices t) a_step.on (timer_in f.row).deadline) (slot_in (radices t) a_step.on b.tick + 1)
+      (same_rests a_step.on (slot_in (radices t) a_step.on (row_timer f.row).deadline) (slot_in (radices t) a_step.on b.tick + 1)
       (sym y ∙ ap (λ (x : ℕ). smooth_list (radices t) x (slot_in (radices t) x b.tick + 1)) (sym w))) in
       let m = multiples t a_step.on (suc k) (omega (arith, a_step.lower)) wheel in
-      some (past_half (radices t) a_step.on (suc k) b.tick (timer_in f.row).deadline m.by m.is m.two
+      some (past_half (radices t) a_step.on (suc k) b.tick (row_timer f.row).deadline m.by m.is m.two
       (weight_some (radices t) a_step.on i) a_step.in_next in_next)
     where
       same_rests : (x y z : ℕ) → smooth_list (radices t) x y ≡ smooth_list (radices t) x z
           → y % (2 * radix x (radices t)) ≡ z % (2 * radix x (radices t))
       same_rests x y z e = omega arith
 
-  one_lower : ticks_left (radices t) b.tick (suc k) ≢ 0 → a_step.on ≡ k
+  one_lower : ticks_to_half (radices t) b.tick (suc k) ≢ 0 → a_step.on ≡ k
   one_lower some = elim (cases_lt a_step.on k) [
     | inl l ↦
-        let in_next : slot_in (radices t) (suc a_step.on) (timer_in f.row).deadline ≡ slot_in (radices t) (suc a_step.on) b.tick + 1 =
-        elim (cases_lt (slot_in (radices t) (suc a_step.on) b.tick) (slot_in (radices t) (suc a_step.on) (timer_in f.row).deadline)) [
+        let in_next : slot_in (radices t) (suc a_step.on) (row_timer f.row).deadline ≡ slot_in (radices t) (suc a_step.on) b.tick + 1 =
+        elim (cases_lt (slot_in (radices t) (suc a_step.on) b.tick) (slot_in (radices t) (suc a_step.on) (row_timer f.row).deadline)) [
           | inl c ↦ (let n = a_step.near in omega arith)
           | inr c ↦ absurd (omega (
             arith,
             a_step.in_next,
-            slots_mono (radices t) (suc a_step.on) (suc k) b.tick (timer_in f.row).deadline i
+            slots_mono (radices t) (suc a_step.on) (suc k) b.tick (row_timer f.row).deadline i
                 (omega arith) c,
           ))
         ] in
         let m = multiples t (suc a_step.on) (suc k) (omega arith) wheel in
-        absurd (some (past_half (radices t) (suc a_step.on) (suc k) b.tick (timer_in f.row).deadline m.by m.is m.two
+        absurd (some (past_half (radices t) (suc a_step.on) (suc k) b.tick (row_timer f.row).deadline m.by m.is m.two
         (weight_some (radices t) (suc a_step.on) i) a_step.in_next in_next))
     | inr l ↦ (let h = a_step.lower in omega arith)
   ]
@@ -192,14 +192,14 @@ module _ {N : Type 0} {kept : Ghosts N} (t : Table) (b : Buckets N kept) (words 
   row_moved = omega (
     arith,
     heights_moved (radices t) b.slots (next_list (radices t) b.tick (suc k))
-        (smooth_list (radices t) a_step.on (slot_in (radices t) a_step.on (timer_in f.row).deadline)) b.links.lists f.row f.rest
+        (smooth_list (radices t) a_step.on (slot_in (radices t) a_step.on (row_timer f.row).deadline)) b.links.lists f.row f.rest
         (omega (arith, b.sound.has_lists)) a_step.move.from_in a_step.move.to_in f.at,
     height_is (radices t) (suc k) (slot_in (radices t) (suc k) b.tick + 1) i (turns_of_table t) wheel,
-    height_is (radices t) a_step.on (slot_in (radices t) a_step.on (timer_in f.row).deadline) i (turns_of_table t) a_step.wheel,
+    height_is (radices t) a_step.on (slot_in (radices t) a_step.on (row_timer f.row).deadline) i (turns_of_table t) a_step.wheel,
   )
 
   moved_lists : IsMoved t b (suc k) (next_list (radices t) b.tick (suc k))
-      (smooth_list (radices t) a_step.on (slot_in (radices t) a_step.on (timer_in f.row).deadline))
+      (smooth_list (radices t) a_step.on (slot_in (radices t) a_step.on (row_timer f.row).deadline))
       (stepped (radices t) b.tick k a_step.on b.links.lists f.row f.rest)
   moved_lists = record {
     sound = a_step.sound;
@@ -213,19 +213,19 @@ module _ {N : Type 0} {kept : Ghosts N} (t : Table) (b : Buckets N kept) (words 
     apart = a_step.move.elsewhere;
     others = after_others b.sound a_step.move;
     there = ap filled (after_to b.sound a_step.move) ∙ filled_behind (list_at (smooth_list (radices t) a_step.on
-        (slot_in (radices t) a_step.on (timer_in f.row).deadline)) b.links.lists) f.row;
+        (slot_in (radices t) a_step.on (row_timer f.row).deadline)) b.links.lists) f.row;
     was = ap filled f.at;
     falls = omega (arith, row_moved, a_step.lower);
     one_down = λ early. omega (
       arith,
       row_moved,
-      one_lower (λ (e : ticks_left (radices t) b.tick (suc k) ≡ 0). omega (arith, early e, ap (λ (r : Rows). length r) f.at)),
+      one_lower (λ (e : ticks_to_half (radices t) b.tick (suc k) ≡ 0). omega (arith, early e, ap (λ (r : Rows). length r) f.at)),
     );
     next_same = λ early j z l n. after_others b.sound a_step.move (next_list (radices t) b.tick j)
         (λ (y : next_list (radices t) b.tick j ≡ next_list (radices t) b.tick (suc k)).
         n (one_wheel (radices t) j (suc k) (slot_in (radices t) j b.tick + 1) (slot_in (radices t) (suc k) b.tick + 1) i
         (turns_of_table t) l wheel y))
-        (not_next (λ (e : ticks_left (radices t) b.tick (suc k) ≡ 0).
+        (not_next (λ (e : ticks_to_half (radices t) b.tick (suc k) ≡ 0).
         omega (arith, early e, ap (λ (r : Rows). length r) f.at)) j z l);
   }
 
@@ -306,7 +306,7 @@ module _ {N : Type 0} {kept : Ghosts N} (t : Table) (b : Buckets N kept) (words 
   none_due : list_at b.slots b.links.lists ≡ []
   none_due = no_rows (list_at b.slots b.links.lists) nothing_due
 
-  pub bank_ticked : IsTicked (radices t) b.slots b.last_tick b.tick b.last_serial b.links.lists
+  pub bank_ticked : AreTickedLists (radices t) b.slots b.last_tick b.tick b.last_serial b.links.lists
       (appended (smooth_list (radices t) zero (b.tick + 1)) b.slots b.links.lists)
   bank_ticked = ticked (radices t) b.slots b.last_tick b.tick b.last_serial b.links.lists tick_table (turns_of_table t) tick_some b.sound tick_placed
       before_last none_due tick_ranges empty
@@ -355,10 +355,10 @@ bits_are_law t b words h timer fresh serial k l =
     let r : next_list (radices t) b.tick j < b.slots = rw h.has_slots (lists_in_range t j (slot_in (radices t) j b.tick + 1) (omega arith)) in
     ap (λ (x : ℕ). x == 0) (h.marked.0 (next_list (radices t) b.tick j) r)
     ∙ bit_is_mark timer.serial (list_at (next_list (radices t) b.tick j) b.links.lists) serial (omega arith)
-    (weaker (λ u. IsPending b.last_tick b.tick b.last_serial (timer_in u)) (λ u. (timer_in u).serial < timer.serial)
+    (weaker (λ u. IsPending b.last_tick b.tick b.last_serial (row_timer u)) (λ u. (row_timer u).serial < timer.serial)
     (list_at (next_list (radices t) b.tick j) b.links.lists)
-    (λ u p. let q : (timer_in u).serial ≤ b.last_serial = p.serial in omega arith)
-    (all-list_at (λ u. IsPending b.last_tick b.tick b.last_serial (timer_in u)) b.slots b.links.lists b.sound.pending
+    (λ u p. let q : (row_timer u).serial ≤ b.last_serial = p.serial in omega arith)
+    (all-list_at (λ u. IsPending b.last_tick b.tick b.last_serial (row_timer u)) b.slots b.links.lists b.sound.pending
     (next_list (radices t) b.tick j) r)))
 
 -- A start.

@@ -11,7 +11,7 @@ use Rattle.timer_base.specs.WheelState.{IsPending}
 use Rattle.timer_links.specs.Lists.{list_at, with_row, without_key}
 use Rattle.timer_links.specs.declared.kept.Kept.{Ghosts}
 use Rattle.timer_wheels.specs.Bank.{IsBank}
-use Rattle.timer_wheels.specs.BucketLists.{timer_in, AreBuckets, EachRow}
+use Rattle.timer_wheels.specs.BucketLists.{row_timer, AreBuckets, EachRow}
 use Rattle.timer_wheels.specs.Buckets.{row_at}
 use Rattle.timer_wheels.specs.Digits.{IsTable, HasDigits, level}
 use Rattle.timer_wheels.specs.Smooth.{slot_in, smooth_list, next_list, moved_to, mark, descend_by, IsByLaw, IsSmooth}
@@ -51,11 +51,11 @@ module _ {N : Type 0} {kept : Ghosts N} (t : Table) (b : Buckets N kept) (words 
       (mark (radices t) b.tick (map (without_key handle.place) b.links.lists)) table digits b.slots
       (map (without_key handle.place) b.links.lists) mid_sound (stopped_placed t b words h handle b.last_serial mid_sound)
 
-  older : EachRow (λ s u. (timer_in u).serial < timer.serial) b.slots (map (without_key handle.place) b.links.lists)
-  older s k = weaker (λ u. IsPending b.last_tick b.tick b.last_serial (timer_in u)) (λ u. (timer_in u).serial < timer.serial)
+  older : EachRow (λ s u. (row_timer u).serial < timer.serial) b.slots (map (without_key handle.place) b.links.lists)
+  older s k = weaker (λ u. IsPending b.last_tick b.tick b.last_serial (row_timer u)) (λ u. (row_timer u).serial < timer.serial)
       (list_at s (map (without_key handle.place) b.links.lists))
-      (λ u p. let q : (timer_in u).serial ≤ b.last_serial = p.serial in omega arith)
-      (all-list_at (λ u. IsPending b.last_tick b.tick b.last_serial (timer_in u)) b.slots (map (without_key handle.place) b.links.lists)
+      (λ u p. let q : (row_timer u).serial ≤ b.last_serial = p.serial in omega arith)
+      (all-list_at (λ u. IsPending b.last_tick b.tick b.last_serial (row_timer u)) b.slots (map (without_key handle.place) b.links.lists)
       mid_sound.pending s k)
 
   -- a list that was empty stays so

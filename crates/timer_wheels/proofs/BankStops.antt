@@ -12,7 +12,7 @@ use Rattle.timer_base.specs.WheelState.{IsPending, held_at}
 use Rattle.timer_links.specs.Lists.{list_at, without_key, list_if_alone, AreApart, IsAloneIn, Row, Rows}
 use Rattle.timer_links.specs.declared.kept.Kept.{Ghosts}
 use Rattle.timer_wheels.specs.Bank.{IsBank, LeavesBits}
-use Rattle.timer_wheels.specs.BucketLists.{timer_in, timers_in, AreBuckets, EachRow}
+use Rattle.timer_wheels.specs.BucketLists.{row_timer, row_timers, AreBuckets, EachRow}
 use Rattle.timer_wheels.specs.Buckets.{state_of}
 use Rattle.timer_wheels.specs.Digits.{IsTable, HasDigits}
 use Rattle.timer_wheels.specs.Occupied.{AreMarked, Clears}
@@ -30,14 +30,14 @@ use Rattle.timer_wheels.proofs.WheelUpdates.{taken_out}
 use Rattle.timer_links.proofs.Rows.{stands_in}
 
 -- a mark only rises as rows leave
-filter_rises : (p : Row → Bool) (low : ℕ) (rows : Rows) → AllByRecursion (λ u. (timer_in u).serial ≤ LAST) rows → AreRising low (timers_in rows)
+filter_rises : (p : Row → Bool) (low : ℕ) (rows : Rows) → AllByRecursion (λ u. (row_timer u).serial ≤ LAST) rows → AreRising low (row_timers rows)
     → moved_to rows ≤ moved_to (filter p rows)
 filter_rises p low [] a r = omega arith
 filter_rises p low (x ∷ xs) a r = elim (either (p x)) [
   | inl k ↦ rw k (omega arith)
   | inr k ↦
-      let r0 : AreRising 0 (timers_in (x ∷ xs)) = AreRising-weaken low 0 (timers_in (x ∷ xs)) (omega arith) r in
-      rw k (omega (arith, (front_gone x xs a.0 r0).0, filter_rises p (timer_in x).serial xs a.1 r.1))
+      let r0 : AreRising 0 (row_timers (x ∷ xs)) = AreRising-weaken low 0 (row_timers (x ∷ xs)) (omega arith) r in
+      rw k (omega (arith, (front_gone x xs a.0 r0).0, filter_rises p (row_timer x).serial xs a.1 r.1))
 ]
 
 to_clears : (n l : ℕ) (front rest : Rows) (words words2 : List ℕ) → l < n → LeavesBits n (list_if_alone l front rest) words words2
@@ -68,10 +68,10 @@ module _ {N : Type 0} {kept : Ghosts N} (t : Table) (b : Buckets N kept) (words 
       let r : smooth_list (radices t) j (slot_in (radices t) j b.tick + 1) < b.slots =
       rw h.has_slots (lists_in_range t j (slot_in (radices t) j b.tick + 1) l) in
       let s : ℕ = next_list (radices t) b.tick j in
-      let known = weaker (λ u. IsPending b.last_tick b.tick b.last_serial (timer_in u)) (λ u. (timer_in u).serial ≤ LAST)
+      let known = weaker (λ u. IsPending b.last_tick b.tick b.last_serial (row_timer u)) (λ u. (row_timer u).serial ≤ LAST)
       (list_at (next_list (radices t) b.tick j) b.links.lists)
-      (λ u p. let q : (timer_in u).serial ≤ b.last_serial = p.serial in let m = b.sound.serial_in_range in omega arith)
-      (all-list_at (λ u. IsPending b.last_tick b.tick b.last_serial (timer_in u)) b.slots b.links.lists b.sound.pending
+      (λ u p. let q : (row_timer u).serial ≤ b.last_serial = p.serial in let m = b.sound.serial_in_range in omega arith)
+      (all-list_at (λ u. IsPending b.last_tick b.tick b.last_serial (row_timer u)) b.slots b.links.lists b.sound.pending
       (next_list (radices t) b.tick j) r) in
       omega (
         arith,

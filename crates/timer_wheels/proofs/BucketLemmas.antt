@@ -13,7 +13,7 @@ use Rattle.timer_links.specs.declared.kept.Node.{Node}
 use Rattle.timer_links.specs.Lists.{list_at, node_in, node_at, first_of, with_row, without_key, row_count, AreApart, KeyedLists, Row, Rows}
 use Rattle.timer_wheels.specs.BucketLaws.{timers_of-entries}
 use Rattle.timer_wheels.specs.Buckets.{IsListOf}
-use Rattle.timer_wheels.specs.BucketLists.{timer_in, timers_in, entry_of, entries_of, rows_below, pending_in, ArePending, AreDue, AreInOrder, EachRow}
+use Rattle.timer_wheels.specs.BucketLists.{row_timer, row_timers, entry_of, entries_of, rows_below, pending_in, ArePending, AreDue, AreInOrder, EachRow}
 use Rattle.timer_wheels.proofs.AllLemmas.{all-map, all-of_map}
 use Rattle.timer_wheels.proofs.RowLemmas.{all-append, all-front, all-rest, all-rows_below, IsInserted, list_at-without_key, timers-append, entries-append, filter-entries, AreDistinct-inserted}
 
@@ -26,17 +26,17 @@ module _ {row : Row} {old new : Rows} (i : IsInserted row old new) where
   entries_new : entries_of new ≡ entries_of i.front ++ entry_of row ∷ entries_of i.rest
   entries_new = ap entries_of i.new_is ∙ entries-append i.front (row ∷ i.rest)
 
-  timers_old : timers_in old ≡ timers_in i.front ++ timers_in i.rest
-  timers_old = ap timers_in i.old_is ∙ timers-append i.front i.rest
+  timers_old : row_timers old ≡ row_timers i.front ++ row_timers i.rest
+  timers_old = ap row_timers i.old_is ∙ timers-append i.front i.rest
 
-  timers_new : timers_in new ≡ timers_in i.front ++ timer_in row ∷ timers_in i.rest
-  timers_new = ap timers_in i.new_is ∙ timers-append i.front (row ∷ i.rest)
+  timers_new : row_timers new ≡ row_timers i.front ++ row_timer row ∷ row_timers i.rest
+  timers_new = ap row_timers i.new_is ∙ timers-append i.front (row ∷ i.rest)
 
   -- the newest timer, in whichever list
-  pub pending_in-newest : AreBelow (timer_in row).serial (timers_in old) → pending_in new ≡ put (entry_of row) (pending_in old)
+  pub pending_in-newest : AreBelow (row_timer row).serial (row_timers old) → pending_in new ≡ put (entry_of row) (pending_in old)
   pending_in-newest b =
-      let below : AreBelow (timer_in row).serial (map timer_of (entries_of i.front ++ entries_of i.rest)) =
-      subst (AreBelow (timer_in row).serial) (sym (timers_of-entries old) ∙ ap (map timer_of) entries_old) b in
+      let below : AreBelow (row_timer row).serial (map timer_of (entries_of i.front ++ entries_of i.rest)) =
+      subst (AreBelow (row_timer row).serial) (sym (timers_of-entries old) ∙ ap (map timer_of) entries_old) b in
       ap (in_order timer_of) entries_new ∙ (in_order-newest timer_of (entry_of row) (entries_of i.front) (entries_of i.rest) below
       ∙ ap (λ (y : List Entry). put (entry_of row) (in_order timer_of y)) (sym entries_old))
 
@@ -48,9 +48,9 @@ module _ {row : Row} {old new : Rows} (i : IsInserted row old new) where
         all-rest P i.front i.rest b,
       ))
 
-  pub distinct-inserted : IsNotAmong (timer_in row).serial (timers_in old) → AreDistinct (timers_in old) → AreDistinct (timers_in new)
-  distinct-inserted n d = subst AreDistinct (sym timers_new) (AreDistinct-inserted (timer_in row) (timers_in i.front) (timers_in i.rest)
-      (subst (IsNotAmong (timer_in row).serial) timers_old n) (subst AreDistinct timers_old d))
+  pub distinct-inserted : IsNotAmong (row_timer row).serial (row_timers old) → AreDistinct (row_timers old) → AreDistinct (row_timers new)
+  distinct-inserted n d = subst AreDistinct (sym timers_new) (AreDistinct-inserted (row_timer row) (row_timers i.front) (row_timers i.rest)
+      (subst (IsNotAmong (row_timer row).serial) timers_old n) (subst AreDistinct timers_old d))
 
 -- A part of the rows.
 
@@ -59,28 +59,28 @@ pub filter-pending_in : (p : Entry → Bool) (rows : Rows)
     → filter p (pending_in rows) ≡ pending_in (filter (λ r. p (entry_of r)) rows)
 filter-pending_in p rows = filter-in_order timer_of p (entries_of rows) ∙ ap (in_order timer_of) (filter-entries p rows)
 
-pub IsNotAmong-part : (serial : ℕ) (p : Row → Bool) (rows : Rows) → IsNotAmong serial (timers_in rows)
-    → IsNotAmong serial (timers_in (filter p rows))
+pub IsNotAmong-part : (serial : ℕ) (p : Row → Bool) (rows : Rows) → IsNotAmong serial (row_timers rows)
+    → IsNotAmong serial (row_timers (filter p rows))
 IsNotAmong-part serial p [] n = tt
 IsNotAmong-part serial p (x ∷ xs) n = elim (either (p x)) [
   | inl k ↦ rw k (n.0, IsNotAmong-part serial p xs n.1)
   | inr k ↦ rw k (IsNotAmong-part serial p xs n.1)
 ]
 
-pub AreDistinct-part : (p : Row → Bool) (rows : Rows) → AreDistinct (timers_in rows)
-    → AreDistinct (timers_in (filter p rows))
+pub AreDistinct-part : (p : Row → Bool) (rows : Rows) → AreDistinct (row_timers rows)
+    → AreDistinct (row_timers (filter p rows))
 AreDistinct-part p [] d = tt
 AreDistinct-part p (x ∷ xs) d = elim (either (p x)) [
-  | inl k ↦ rw k (IsNotAmong-part (timer_in x).serial p xs d.0, AreDistinct-part p xs d.1)
+  | inl k ↦ rw k (IsNotAmong-part (row_timer x).serial p xs d.0, AreDistinct-part p xs d.1)
   | inr k ↦ rw k (AreDistinct-part p xs d.1)
 ]
 
-pub AreRising-part : (p : Row → Bool) (low : ℕ) (rows : Rows) → AreRising low (timers_in rows)
-    → AreRising low (timers_in (filter p rows))
+pub AreRising-part : (p : Row → Bool) (low : ℕ) (rows : Rows) → AreRising low (row_timers rows)
+    → AreRising low (row_timers (filter p rows))
 AreRising-part p low [] r = tt
 AreRising-part p low (x ∷ xs) r = elim (either (p x)) [
-  | inl k ↦ rw k (r.0, AreRising-part p (timer_in x).serial xs r.1)
-  | inr k ↦ rw k (AreRising-part p low xs (AreRising-weaken (timer_in x).serial low (timers_in xs) (let r0 : low < (timer_in x).serial = r.0
+  | inl k ↦ rw k (r.0, AreRising-part p (row_timer x).serial xs r.1)
+  | inr k ↦ rw k (AreRising-part p low xs (AreRising-weaken (row_timer x).serial low (row_timers xs) (let r0 : low < (row_timer x).serial = r.0
       in omega arith) r.1))
 ]
 
@@ -90,17 +90,17 @@ newer : (last_tick now last high : ℕ) (t : Timer) → last < high → IsPendin
 newer last_tick now last high t h p = let q : t.serial ≤ last = p.serial in omega arith
 
 pub AreBelow-pending : (last_tick now last high : ℕ) (rows : Rows) → last < high → ArePending last_tick now last rows
-    → AreBelow high (timers_in rows)
-AreBelow-pending last_tick now last high rows h a = all-map timer_in (λ t. t.serial < high) rows
-    (All-weaken (λ row. IsPending last_tick now last (timer_in row)) (λ row. (timer_in row).serial < high) rows
-    (λ row p. newer last_tick now last high (timer_in row) h p) a)
+    → AreBelow high (row_timers rows)
+AreBelow-pending last_tick now last high rows h a = all-map row_timer (λ t. t.serial < high) rows
+    (All-weaken (λ row. IsPending last_tick now last (row_timer row)) (λ row. (row_timer row).serial < high) rows
+    (λ row p. newer last_tick now last high (row_timer row) h p) a)
 
 -- A newest row is pushed to the back of one list: each list stays in order.
-pub in_order-with_row : (m l : ℕ) (row : Row) (lists : KeyedLists) → l < length lists → 0 < (timer_in row).serial
-    → AreBelow (timer_in row).serial (timers_in (list_at l lists)) → AreInOrder m lists → AreInOrder m (with_row l row lists)
+pub in_order-with_row : (m l : ℕ) (row : Row) (lists : KeyedLists) → l < length lists → 0 < (row_timer row).serial
+    → AreBelow (row_timer row).serial (row_timers (list_at l lists)) → AreInOrder m lists → AreInOrder m (with_row l row lists)
 in_order-with_row m l row lists b z older o s h = elim (cases_eq s l) [
   | inl e ↦ rw (e, get_or-set_same lists l (list_at l lists ++ row ∷ []) [] b, timers-append (list_at l lists) (row ∷ []))
-      (AreRising-append 0 (timer_in row) (timers_in (list_at l lists)) (o l (rw (← e) h)) older z)
+      (AreRising-append 0 (row_timer row) (row_timers (list_at l lists)) (o l (rw (← e) h)) older z)
   | inr x ↦ rw (get_or-set_other lists l s (list_at l lists ++ row ∷ []) [] x) (o s h)
 ]
 
@@ -232,7 +232,7 @@ timers_past last_tick before now last (e ∷ es) a = elim (either (is_due_at now
 -- what became due at a tick was pending before it
 pub due_past : (last_tick before now last : ℕ) (es : List Entry) (rows : Rows)
     → AllByRecursion (IsPending last_tick before last) (timers_of es) → entries_of rows ≡ entries_due now es → AreDue now last rows
-due_past last_tick before now last es rows a e = all-of_map timer_in (IsDue now last) rows
+due_past last_tick before now last es rows a e = all-of_map row_timer (IsDue now last) rows
     (subst (AllByRecursion (IsDue now last)) (sym (ap timers_of e) ∙ timers_of-entries rows) (timers_past last_tick before now last es a))
 
 pub none_past : (now last : ℕ) (rows : Rows) → entries_of rows ≡ [] → AreDue now last rows

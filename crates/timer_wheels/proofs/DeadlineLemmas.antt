@@ -11,7 +11,7 @@ use Rattle.timer_base.specs.PlainState.{earliest}
 use Rattle.timer_base.specs.WakeUps.{next_deadline}
 use Rattle.timer_links.specs.Lists.{list_at, KeyedLists, Row, Rows}
 use Rattle.timer_links.specs.declared.kept.Kept.{Ghosts}
-use Rattle.timer_wheels.specs.BucketLists.{timer_in, timers_in, entry_of, pending_in, rows_below, EachRow}
+use Rattle.timer_wheels.specs.BucketLists.{row_timer, row_timers, entry_of, pending_in, rows_below, EachRow}
 use Rattle.timer_wheels.specs.Buckets.{state_of}
 use Rattle.timer_wheels.specs.declared.buckets.Buckets.{Buckets}
 use Rattle.timer_wheels.specs.FirstDeadline.{HasDeadline, IsLeast, IsLeastDeadline}
@@ -63,12 +63,12 @@ least-one t = record { has = inl refl; none_earlier = (omega arith, tt) }
 -- Several lists.
 
 pub least-more : (n : ℕ) (lists : KeyedLists) (least one more : Option ℕ) → n < length lists
-    → IsLeastDeadline least (timers_in (rows_below n lists)) → IsLeastDeadline one (timers_in (list_at n lists)) → more ≡ earliest least one
-    → IsLeastDeadline more (timers_in (rows_below (n + 1) lists))
+    → IsLeastDeadline least (row_timers (rows_below n lists)) → IsLeastDeadline one (row_timers (list_at n lists)) → more ≡ earliest least one
+    → IsLeastDeadline more (row_timers (rows_below (n + 1) lists))
 least-more n lists least one more b l m e =
     let s : n + 1 ≡ suc n = omega arith in
     rw (e, s, rows_below-more n lists b, timers-append (rows_below n lists) (list_at n lists))
-    (least-append least one (timers_in (rows_below n lists)) (timers_in (list_at n lists)) l m)
+    (least-append least one (row_timers (rows_below n lists)) (row_timers (list_at n lists)) l m)
 
 -- The least deadline is that of the first pending timer.
 
@@ -80,10 +80,10 @@ next-insert e (f ∷ es) = elim (either (is_before e.timer f.timer)) [
   | inr h ↦ rw h (ap Some (least_if_after e.timer f.timer h))
 ]
 
-pub next_is_least : (rows : Rows) → IsLeastDeadline (next_deadline (pending_in rows)) (timers_in rows)
+pub next_is_least : (rows : Rows) → IsLeastDeadline (next_deadline (pending_in rows)) (row_timers rows)
 next_is_least [] = refl
-next_is_least (r ∷ rs) = rw (next-insert (entry_of r) (pending_in rs)) (least-append (Some (timer_in r).deadline)
-    (next_deadline (pending_in rs)) (timer_in r ∷ []) (timers_in rs) (least-one (timer_in r)) (next_is_least rs))
+next_is_least (r ∷ rs) = rw (next-insert (entry_of r) (pending_in rs)) (least-append (Some (row_timer r).deadline)
+    (next_deadline (pending_in rs)) (row_timer r ∷ []) (row_timers rs) (least-one (row_timer r)) (next_is_least rs))
 
 -- There is but one.
 
@@ -100,8 +100,8 @@ one_least (Some a) (Some b) ts l m =
     let e : a ≡ b = omega (arith, at_most a b ts l.none_earlier m.has, at_most b a ts m.none_earlier l.has) in
     ap Some e
 
-pub least_is_next : (o : Option ℕ) (rows : Rows) → IsLeastDeadline o (timers_in rows) → o ≡ next_deadline (pending_in rows)
-least_is_next o rows l = one_least o (next_deadline (pending_in rows)) (timers_in rows) l (next_is_least rows)
+pub least_is_next : (o : Option ℕ) (rows : Rows) → IsLeastDeadline o (row_timers rows) → o ≡ next_deadline (pending_in rows)
+least_is_next o rows l = one_least o (next_deadline (pending_in rows)) (row_timers rows) l (next_is_least rows)
 
 -- Deadlines of buckets, for every table.
 
@@ -134,22 +134,22 @@ lowest_visit (r ∷ rs) a d l t n h e b =
 -- The first bucket with a timer.
 
 -- a row with the deadline
-row_with : (d : ℕ) (P : Row → Type 0) (rows : Rows) → AllByRecursion P rows → HasDeadline d (timers_in rows)
-    → (row : Row) × P row × ((timer_in row).deadline ≡ d)
+row_with : (d : ℕ) (P : Row → Type 0) (rows : Rows) → AllByRecursion P rows → HasDeadline d (row_timers rows)
+    → (row : Row) × P row × ((row_timer row).deadline ≡ d)
 row_with d P [] a h = absurd h
 row_with d P (r ∷ rs) a (inl e) = (r, a.0, e)
 row_with d P (r ∷ rs) a (inr h) = row_with d P rs a.1 h
 
 -- what one list has, all have together
-has_below : (d n l : ℕ) (lists : KeyedLists) → l < n → l < length lists → HasDeadline d (timers_in (list_at l lists))
-    → HasDeadline d (timers_in (rows_below n lists))
+has_below : (d n l : ℕ) (lists : KeyedLists) → l < n → l < length lists → HasDeadline d (row_timers (list_at l lists))
+    → HasDeadline d (row_timers (rows_below n lists))
 has_below d n l lists k m h =
     let w = around n l lists k m in
     rw (w.rows, timers-append w.front (list_at l lists ++ w.rest), timers-append (list_at l lists) w.rest)
-    (has-rest d (timers_in w.front) (timers_in (list_at l lists) ++ timers_in w.rest)
-    (has-front d (timers_in (list_at l lists)) (timers_in w.rest) h))
+    (has-rest d (row_timers w.front) (row_timers (list_at l lists) ++ row_timers w.rest)
+    (has-front d (row_timers (list_at l lists)) (row_timers w.rest) h))
 
-pub some_rows : (rows : Rows) → 0 < length rows → timers_in rows ≡ [] → ⊥
+pub some_rows : (rows : Rows) → 0 < length rows → row_timers rows ≡ [] → ⊥
 some_rows [] k e = absurd (omega arith)
 some_rows (r ∷ rs) k e = absurd (cc)
 
@@ -157,9 +157,9 @@ some_rows (r ∷ rs) k e = absurd (cc)
 record HasLeast (P : Row → Type 0) (rows : Rows) : Type 0 where
   row : Row
   is : P row
-  least : IsLeast (timer_in row).deadline (timers_in rows)
+  least : IsLeast (row_timer row).deadline (row_timers rows)
 
-has_least : (P : Row → Type 0) (rows : Rows) (o : Option ℕ) → 0 < length rows → AllByRecursion P rows → IsLeastDeadline o (timers_in rows)
+has_least : (P : Row → Type 0) (rows : Rows) (o : Option ℕ) → 0 < length rows → AllByRecursion P rows → IsLeastDeadline o (row_timers rows)
     → HasLeast P rows
 has_least P rows None k a m = absurd (some_rows rows k m)
 has_least P rows (Some d) k a m = let u = row_with d P rows a m.has in record { row = u.0; is = u.1; least = rw u.2 m }
@@ -178,22 +178,22 @@ module _ {N : Type 0} {kept : Ghosts N} {t : Table} {b : Buckets N kept} {words 
       (first_some h l f) (known h l first_below) (next_is_least (list_at l b.links.lists))
 
   abbrev first_deadline : ℕ
-  first_deadline = (timer_in first_least.row).deadline
+  first_deadline = (row_timer first_least.row).deadline
 
   -- a deadline of the first bucket with a timer is before those of the later buckets
-  not_later : (s : ℕ) (row : Row) → l < s → IsKnown (radices t) b.tick s row → first_deadline ≤ (timer_in row).deadline
+  not_later : (s : ℕ) (row : Row) → l < s → IsKnown (radices t) b.tick s row → first_deadline ≤ (row_timer row).deadline
   not_later s row c w =
-      let x = bucket_before (radices t) b.tick first_deadline (timer_in row).deadline (of_table t).is_table
+      let x = bucket_before (radices t) b.tick first_deadline (row_timer row).deadline (of_table t).is_table
       first_least.is.later w.later (omega (arith, first_least.is.placed, w.placed)) in
       omega arith
 
-  not_sooner : EachRow (λ s row. first_deadline ≤ (timer_in row).deadline) b.slots b.links.lists
+  not_sooner : EachRow (λ s row. first_deadline ≤ (row_timer row).deadline) b.slots b.links.lists
   not_sooner s k = elim (cases_lt s l) [
     | inl c ↦ rw (none_where h s k (f.2 s c)) tt
     | inr c ↦ elim (cases_eq s l) [
-      | inl e ↦ rw e (all-of_map timer_in (λ t. first_deadline ≤ t.deadline) (list_at l b.links.lists)
+      | inl e ↦ rw e (all-of_map row_timer (λ t. first_deadline ≤ t.deadline) (list_at l b.links.lists)
           first_least.least.none_earlier)
-      | inr n ↦ All-weaken (IsKnown (radices t) b.tick s) (λ row. first_deadline ≤ (timer_in row).deadline)
+      | inr n ↦ All-weaken (IsKnown (radices t) b.tick s) (λ row. first_deadline ≤ (row_timer row).deadline)
           (list_at s b.links.lists) (λ row w. not_later s row (omega arith) w) (known h s k)
     ]
   ]
@@ -202,14 +202,14 @@ module _ {N : Type 0} {kept : Ghosts N} {t : Table} {b : Buckets N kept} {words 
   least_of_all = least_is_next (Some first_deadline) (rows_below b.slots b.links.lists) (record {
     has = has_below first_deadline b.slots l b.links.lists first_below (omega (arith, first_below, b.sound.has_lists))
         first_least.least.has;
-    none_earlier = all-map timer_in (λ t. first_deadline ≤ t.deadline) (rows_below b.slots b.links.lists)
-        (all-rows_below (λ row. first_deadline ≤ (timer_in row).deadline) b.slots b.links.lists not_sooner);
+    none_earlier = all-map row_timer (λ t. first_deadline ≤ t.deadline) (rows_below b.slots b.links.lists)
+        (all-rows_below (λ row. first_deadline ≤ (row_timer row).deadline) b.slots b.links.lists not_sooner);
   })
 
   -- its least deadline is the first one of all
-  pub first_is_next : (o : Option ℕ) → IsLeastDeadline o (timers_in (list_at l b.links.lists)) → o ≡ next_deadline (state_of b).pending
+  pub first_is_next : (o : Option ℕ) → IsLeastDeadline o (row_timers (list_at l b.links.lists)) → o ≡ next_deadline (state_of b).pending
   first_is_next o m =
-      one_least o (Some first_deadline) (timers_in (list_at l b.links.lists)) m first_least.least ∙ least_of_all
+      one_least o (Some first_deadline) (row_timers (list_at l b.links.lists)) m first_least.least ∙ least_of_all
 
   -- and on the lowest wheel that is the tick of its visit
   pub visit_is_next : (visit : ℕ) → visit ≡ list_visit (radices t) l b.tick → l < lowest_radix (radices t)

@@ -9,7 +9,7 @@ use Rattle.timer_base.specs.declared.timer.Timer.{Timer}
 use Rattle.timer_base.proofs.Basics.{some_same}
 use Rattle.timer_links.specs.declared.kept.Node.{Node}
 use Rattle.timer_links.specs.Lists.{list_at, node_at, AreApart, KeyedLists, Rows}
-use Rattle.timer_wheels.specs.BucketLists.{timer_in, timers_in}
+use Rattle.timer_wheels.specs.BucketLists.{row_timer, row_timers}
 use Rattle.timer_wheels.specs.declared.first.First.{First}
 use Rattle.timer_wheels.specs.declared.first.First.TheVariants.{InOrder, Counted}
 use Rattle.timer_wheels.specs.FirstDeadline.{HasDeadline, IsLeast, IsLeastDeadline, has_deadline, deadline_count, StandByDeadline, IsFirstOf, IsKnown, IsKnownOf, entered_first, left_first, least_with}
@@ -64,7 +64,7 @@ abbrev pub front_of : List Timer → Option ℕ
 front_of [] = None
 front_of (t ∷ ts) = Some t.deadline
 
-pub front_is : (rows : Rows) → first_deadline rows ≡ front_of (timers_in rows)
+pub front_is : (rows : Rows) → first_deadline rows ≡ front_of (row_timers rows)
 front_is [] = refl
 front_is (row ∷ rows) = refl
 
@@ -163,7 +163,7 @@ counted_has d (t ∷ ts) h = elim (cases_eq t.deadline d) [
 ]
 
 -- that of the front, in order
-pub front_least : (latest : ℕ) (rows : Rows) → IsFirstOf (InOrder latest) (timers_in rows) → IsLeastDeadline (first_deadline rows) (timers_in rows)
+pub front_least : (latest : ℕ) (rows : Rows) → IsFirstOf (InOrder latest) (row_timers rows) → IsLeastDeadline (first_deadline rows) (row_timers rows)
 front_least latest [] h = refl
 front_least latest (row ∷ rows) h = record { has = inl refl; none_earlier = (omega arith, h.0.0) }
 
@@ -176,9 +176,9 @@ counted_least count bound ts k h = record {
 
 -- or one that the front has
 pub at_front_least : (count bound : ℕ) (rows : Rows) → option_eq eqb (first_deadline rows) (Some bound) ≡ true
-    → IsFirstOf (Counted count bound) (timers_in rows) → IsLeast bound (timers_in rows)
+    → IsFirstOf (Counted count bound) (row_timers rows) → IsLeast bound (row_timers rows)
 at_front_least count bound [] e h = absurd (cc)
-at_front_least count bound (row ∷ rows) e h = record { has = inl (eqb-true (timer_in row).deadline bound e); none_earlier = h.0 }
+at_front_least count bound (row ∷ rows) e h = record { has = inl (eqb-true (row_timer row).deadline bound e); none_earlier = h.0 }
 
 -- a least deadline, if it is one
 pub least_if_some : (o : Option ℕ) (ts : List Timer) → IsLeastDeadline o ts → IfSome o (λ d. IsLeast d ts)
@@ -189,10 +189,10 @@ least_if_some (Some d) ts h = h
 
 -- what is known of the rows that are behind
 abbrev pub IsSought : First → Rows → Type 0
-IsSought first rows = IsKnownOf first (timers_in rows)
+IsSought first rows = IsKnownOf first (row_timers rows)
 
 front_before : (key : ℕ) (node : Node) (past rest : Rows)
-    → first_deadline (past ++ (key, node) ∷ rest) ≡ front_of (timers_in (past ++ (key, node) ∷ []))
+    → first_deadline (past ++ (key, node) ∷ rest) ≡ front_of (row_timers (past ++ (key, node) ∷ []))
 front_before key node [] rest = refl
 front_before key node (row ∷ rows) rest = refl
 
@@ -205,11 +205,11 @@ sought_one {l} {step} {lists} {at} {first} g b a key e same node f more m n s =
     let w = next_row l step lists at key g.past g.walk e in
     let q : w.node ≡ node = some_same w.node node (sym (found l step lists b a key g.past w) ∙ n) in
     let d : same.timer.deadline ≡ node.timer.deadline = ap (λ (y : Node). y.timer.deadline) (some_same same node (f ∙ n)) in
-    let front : first_deadline (list_at l lists) ≡ front_of (timers_in (g.past ++ (key, node) ∷ [])) =
+    let front : first_deadline (list_at l lists) ≡ front_of (row_timers (g.past ++ (key, node) ∷ [])) =
     ap first_deadline w.rows ∙ (front_before key w.node g.past w.rest
-    ∙ ap (λ (y : Node). front_of (timers_in (g.past ++ (key, y) ∷ []))) q) in
+    ∙ ap (λ (y : Node). front_of (row_timers (g.past ++ (key, y) ∷ []))) q) in
     rw (m, d, front) (record {
-      first_of = rw (timers-append g.past ((key, node) ∷ [])) (entered_is first node.timer.deadline (timers_in g.past) node.timer refl
+      first_of = rw (timers-append g.past ((key, node) ∷ [])) (entered_is first node.timer.deadline (row_timers g.past) node.timer refl
           s.first_of);
-      is_known = entered_known first node.timer.deadline (front_of (timers_in (g.past ++ (key, node) ∷ []))) s.is_known;
+      is_known = entered_known first node.timer.deadline (front_of (row_timers (g.past ++ (key, node) ∷ []))) s.is_known;
     })

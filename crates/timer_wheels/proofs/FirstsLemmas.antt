@@ -6,7 +6,7 @@ use Rattle.timer_base.proofs.Basics.{either}
 use Rattle.timer_base.specs.declared.timer.Timer.{Timer}
 use Rattle.timer_links.specs.declared.kept.Node.{Node}
 use Rattle.timer_links.specs.Lists.{list_at, with_row, front_moved, list_if_alone, KeyedLists, Row, Rows}
-use Rattle.timer_wheels.specs.BucketLists.{timer_in, timers_in}
+use Rattle.timer_wheels.specs.BucketLists.{row_timer, row_timers}
 use Rattle.timer_wheels.specs.declared.first.First.{First}
 use Rattle.timer_wheels.specs.declared.first.First.TheVariants.{InOrder, Counted}
 use Rattle.timer_wheels.specs.FirstDeadline.{unknown_first, no_first, counts_of, entered_first, left_first, IsFirstOf}
@@ -18,12 +18,12 @@ use Rattle.timer_wheels.proofs.OccupiedLemmas.{moved_same, no_rows_there}
 use Rattle.timer_wheels.proofs.RowLemmas.{timers-append}
 
 -- a row comes to a list, which is the new one then
-entered_here : (first first2 : First) (d : ℕ) (row : Row) (rows new : Rows) → (timer_in row).deadline ≡ d → new ≡ rows ++ row ∷ []
-    → first2 ≡ entered_first d (first_deadline new) first → IsFirstOf first (timers_in rows) → IsFirstOf first2 (timers_in new)
+entered_here : (first first2 : First) (d : ℕ) (row : Row) (rows new : Rows) → (row_timer row).deadline ≡ d → new ≡ rows ++ row ∷ []
+    → first2 ≡ entered_first d (first_deadline new) first → IsFirstOf first (row_timers rows) → IsFirstOf first2 (row_timers new)
 entered_here first first2 d row rows new e at c h =
-    let front : first_deadline new ≡ front_of (timers_in rows ++ timer_in row ∷ []) =
-    front_is new ∙ ap front_of (ap (λ (y : Rows). timers_in y) at ∙ timers-append rows (row ∷ [])) in
-    rw (c, front, at, timers-append rows (row ∷ [])) (entered_is first d (timers_in rows) (timer_in row) e h)
+    let front : first_deadline new ≡ front_of (row_timers rows ++ row_timer row ∷ []) =
+    front_is new ∙ ap front_of (ap (λ (y : Rows). row_timers y) at ∙ timers-append rows (row ∷ [])) in
+    rw (c, front, at, timers-append rows (row ∷ [])) (entered_is first d (row_timers rows) (row_timer row) e h)
 
 module _ {lowest n : ℕ} {firsts : FirstsState} {lists : KeyedLists} (f : AreFirsts lowest n firsts lists) where
   -- the buckets stay
@@ -32,7 +32,7 @@ module _ {lowest n : ℕ} {firsts : FirstsState} {lists : KeyedLists} (f : AreFi
 
   -- all but one stay, of the lists and of the first deadlines
   but_one : (firsts2 : FirstsState) (l : ℕ) (new : KeyedLists) → ChangesOne l firsts firsts2
-      → ((s : ℕ) → s ≢ l → list_at s new ≡ list_at s lists) → (lowest ≤ l → IsFirstOf (first_at l firsts2) (timers_in (list_at l new)))
+      → ((s : ℕ) → s ≢ l → list_at s new ≡ list_at s lists) → (lowest ≤ l → IsFirstOf (first_at l firsts2) (row_timers (list_at l new)))
       → AreFirsts lowest n firsts2 new
   but_one firsts2 l new c e here = record {
     size = c.size ∙ f.size;
@@ -43,7 +43,7 @@ module _ {lowest n : ℕ} {firsts : FirstsState} {lists : KeyedLists} (f : AreFi
   }
 
   -- a row comes to a bucket
-  pub entered_firsts : (firsts2 : FirstsState) (l d : ℕ) (row : Row) → l < n → l < length lists → (timer_in row).deadline ≡ d
+  pub entered_firsts : (firsts2 : FirstsState) (l d : ℕ) (row : Row) → l < n → l < length lists → (row_timer row).deadline ≡ d
       → Enters lowest l d (first_deadline (list_at l (with_row l row lists))) firsts firsts2
       → AreFirsts lowest n firsts2 (with_row l row lists)
   entered_firsts firsts2 l d row h b e c = but_one firsts2 l (with_row l row lists) c.one
@@ -59,14 +59,14 @@ module _ {lowest n : ℕ} {firsts : FirstsState} {lists : KeyedLists} (f : AreFi
     left_here : list_at l new ≡ front ++ rest
     left_here = ap (list_at l) e ∙ get_or-set_same lists l (front ++ rest) [] b
 
-    was_here : lowest ≤ l → IsFirstOf (first_at l firsts) (timers_in front ++ node.timer ∷ timers_in rest)
+    was_here : lowest ≤ l → IsFirstOf (first_at l firsts) (row_timers front ++ node.timer ∷ row_timers rest)
     was_here k = rw (at, timers-append front ((key, node) ∷ rest)) at (f.each l k h)
 
     -- a row leaves a bucket, in which others stay
     left_some : (firsts2 : FirstsState) (d : ℕ) → node.timer.deadline ≡ d → Leaves lowest l d firsts firsts2
         → AreFirsts lowest n firsts2 new
     left_some firsts2 d q c = but_one firsts2 l new c.one others_stay
-        (λ k. rw (left_here, timers-append front rest, c.here k) (left_is (first_at l firsts) d (timers_in front) (timers_in rest)
+        (λ k. rw (left_here, timers-append front rest, c.here k) (left_is (first_at l firsts) d (row_timers front) (row_timers rest)
         node.timer q (was_here k)))
 
     -- it is the last one
@@ -94,13 +94,13 @@ all_above : (ts : List Timer) → AreNotBefore 0 ts
 all_above [] = tt
 all_above (t ∷ ts) = (omega arith, all_above ts)
 
-begun_here : (bit : ℕ) (first : First) (rows : Rows) → bit ≡ filled rows → first ≡ begun_first bit → IsFirstOf first (timers_in rows)
+begun_here : (bit : ℕ) (first : First) (rows : Rows) → bit ≡ filled rows → first ≡ begun_first bit → IsFirstOf first (row_timers rows)
 begun_here zero first rows e q = rw (q, no_rows_there rows (sym e)) (tt, tt)
-begun_here (suc n) first rows e q = rw q (all_above (timers_in rows), omega arith)
+begun_here (suc n) first rows e q = rw q (all_above (row_timers rows), omega arith)
 
 -- that of one bucket was found by a walk
 pub kept_firsts : {lowest n : ℕ} {firsts : FirstsState} {lists : KeyedLists} (f : AreFirsts lowest n firsts lists) (words : List ℕ)
-    (l : ℕ) (new : FirstsState) → AreMarked n words lists → Keeps words l firsts new → IsFirstOf (first_at l new) (timers_in (list_at l lists))
+    (l : ℕ) (new : FirstsState) → AreMarked n words lists → Keeps words l firsts new → IsFirstOf (first_at l new) (row_timers (list_at l lists))
     → AreFirsts lowest n new lists
 kept_firsts {firsts = firsts} {lists = lists} f words l new t k here = record {
   size = k.size ∙ f.size;
@@ -151,7 +151,7 @@ module _ {lowest n l : ℕ} {firsts : FirstsState} {lists : KeyedLists} (f : Are
     ) refl
 
     -- or it comes to another bucket
-    pub but_left : (firsts2 : FirstsState) → (timer_in row).deadline ≡ d
+    pub but_left : (firsts2 : FirstsState) → (row_timer row).deadline ≡ d
         → Enters lowest to d (first_deadline (list_at to new)) firsts firsts2
         → AreFirstsBut l lowest n firsts2 new
     but_left firsts2 q c = record {

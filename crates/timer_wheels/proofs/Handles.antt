@@ -12,7 +12,7 @@ use Rattle.timer_base.specs.Pending.{Entry, timer_of, has_handle, first_timer, f
 use Rattle.timer_base.specs.WheelState.{WheelState, IsPending, IsDue, NamesOne, timer_at, due_at, held_at, after_removal}
 use Rattle.timer_links.specs.declared.kept.Node.{Node}
 use Rattle.timer_links.specs.Lists.{list_at, node_in, node_at, first_of, without_key, AreApart, KeyedLists, Row, Rows}
-use Rattle.timer_wheels.specs.BucketLists.{timer_in, timers_in, entry_of, entries_of, rows_below, pending_in, wheel_state, AreBuckets}
+use Rattle.timer_wheels.specs.BucketLists.{row_timer, row_timers, entry_of, entries_of, rows_below, pending_in, wheel_state, AreBuckets}
 use Rattle.timer_wheels.proofs.RowLemmas.{rows_below-without_key, list_at-without_key}
 use Rattle.timer_wheels.proofs.BucketLemmas.{HasNode, node_at-parts, apart_list, apart_rows}
 
@@ -51,7 +51,7 @@ entries_named handle (Some node) =
 other_place : (handle : Handle) (e : Entry) → e.place ≢ handle.place → has_handle handle e ≡ false
 other_place handle e n = rw (ne_eqb e.place handle.place n) refl
 
-none_with : (handle : Handle) (rows : Rows) → IsNotAmong handle.serial (timers_in rows)
+none_with : (handle : Handle) (rows : Rows) → IsNotAmong handle.serial (row_timers rows)
     → filter (has_handle handle) (entries_of rows) ≡ []
 none_with handle [] n = refl
 none_with handle (x ∷ xs) n = rw (other_serial handle (entry_of x) n.0) (none_with handle xs n.1)
@@ -68,14 +68,14 @@ none_other handle node (x ∷ xs) n a =
     rw no (none_other handle node xs n a.1)
 
 named_in : (handle : Handle) (found : Option Node) (rows : Rows) → AllByRecursion (HasNode handle.place found) rows
-    → AreDistinct (timers_in rows) → filter (has_handle handle) (entries_of rows) ≡ entries_named handle (node_in handle.place rows)
+    → AreDistinct (row_timers rows) → filter (has_handle handle) (entries_of rows) ≡ entries_named handle (node_in handle.place rows)
 named_in handle found [] a d = refl
 named_in handle found (x ∷ xs) a d = elim (cases_eq x.0 handle.place) [
   | inl k ↦ elim (cases_eq x.1.timer.serial handle.serial) [
     | inl s ↦ rw (
       eq-eqb x.0 handle.place k,
       eq-eqb x.1.timer.serial handle.serial s,
-      none_with handle xs (subst (λ (y : ℕ). IsNotAmong y (timers_in xs)) s d.0),
+      none_with handle xs (subst (λ (y : ℕ). IsNotAmong y (row_timers xs)) s d.0),
     ) (ap (λ (p : ℕ). let e : Entry = record { place = p; timer = x.1.timer } in e ∷ []) k)
     | inr s ↦ rw (eq-eqb x.0 handle.place k, ne_eqb x.1.timer.serial handle.serial s)
         (none_other handle x.1 xs s (subst (λ (o : Option Node). AllByRecursion (HasNode handle.place o) xs) (sym (a.0 k)) a.1))
@@ -120,14 +120,14 @@ named_node handle t (Some node) e = elim (either (node.timer.serial == handle.se
 ]
 
 pending_named : (handle : Handle) (found : Option Node) (rows : Rows) → AllByRecursion (HasNode handle.place found) rows
-    → AreDistinct (timers_in rows) → first_timer (has_handle handle) (pending_in rows) ≡ timer_named handle (node_in handle.place rows)
+    → AreDistinct (row_timers rows) → first_timer (has_handle handle) (pending_in rows) ≡ timer_named handle (node_in handle.place rows)
 pending_named handle found rows a d =
     first_timer-filter (has_handle handle) (pending_in rows)
     ∙ (ap first_of_entries (filter-in_order timer_of (has_handle handle) (entries_of rows)
     ∙ ap (in_order timer_of) (named_in handle found rows a d)) ∙ one_in_order handle (node_in handle.place rows))
 
 due_named : (handle : Handle) (found : Option Node) (rows : Rows) → AllByRecursion (HasNode handle.place found) rows
-    → AreDistinct (timers_in rows) → first_timer (has_handle handle) (entries_of rows) ≡ timer_named handle (node_in handle.place rows)
+    → AreDistinct (row_timers rows) → first_timer (has_handle handle) (entries_of rows) ≡ timer_named handle (node_in handle.place rows)
 due_named handle found rows a d =
     first_timer-filter (has_handle handle) (entries_of rows)
     ∙ (ap first_of_entries (named_in handle found rows a d) ∙ one_first handle (node_in handle.place rows))
@@ -185,14 +185,14 @@ module _ {n last_tick now last : ℕ} {lists : KeyedLists} (b : AreBuckets n las
   past_have : AllByRecursion (HasNode handle.place found) past
   past_have = apart_list n handle.place lists (omega (arith, b.has_lists)) apart
 
-  past_distinct : AreDistinct (timers_in past)
-  past_distinct = AreDistinct-rising 0 (timers_in past) (b.in_order n (omega arith))
+  past_distinct : AreDistinct (row_timers past)
+  past_distinct = AreDistinct-rising 0 (row_timers past) (b.in_order n (omega arith))
 
   both : AreSides handle (node_in handle.place rows) (node_in handle.place past) found
   both = sides handle now (node_in handle.place rows) (node_in handle.place past) found (node_at-parts n handle.place lists b.has_lists)
-      (λ m e. (in_all (λ row. IsPending last_tick now last (timer_in row)) handle.place m rows b.pending e).later)
+      (λ m e. (in_all (λ row. IsPending last_tick now last (row_timer row)) handle.place m rows b.pending e).later)
       (λ m e. (
-        (in_all (λ row. IsDue now last (timer_in row)) handle.place m past b.due e).deadline,
+        (in_all (λ row. IsDue now last (row_timer row)) handle.place m past b.due e).deadline,
         in_all (HasNode handle.place found) handle.place m past past_have e refl,
       ))
 

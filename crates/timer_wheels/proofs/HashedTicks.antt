@@ -13,7 +13,7 @@ use Rattle.timer_base.proofs.TickLaws.{left_all}
 use Rattle.timer_base.specs.WheelState.{WheelState, IsPending, after_tick}
 use Rattle.timer_links.specs.Lists.{list_at, KeyedLists, Row, Rows}
 use Rattle.timer_wheels.specs.BucketLaws.{timers_of-entries, wheel_state-well_formed}
-use Rattle.timer_wheels.specs.BucketLists.{timer_in, timers_in, entry_of, entries_of, rows_below, pending_in, wheel_state, ArePending, AreInOrder, AreBuckets, EachRow}
+use Rattle.timer_wheels.specs.BucketLists.{row_timer, row_timers, entry_of, entries_of, rows_below, pending_in, wheel_state, ArePending, AreInOrder, AreBuckets, EachRow}
 use Rattle.timer_wheels.specs.Hashed.{IsInBucket, AreInBuckets, rounds_of}
 use Rattle.timer_wheels.specs.Sweep.{with_fewer_rounds, has_no_rounds, has_rounds, due_now, due_later, swept}
 use Rattle.timer_wheels.proofs.AllLemmas.{all-both, all-map}
@@ -68,25 +68,25 @@ pred_of k h = omega arith
 
 -- a row of the tick's bucket after the tick
 record IsSweptRow (n now : ℕ) (row : Row) : Type 0 where
-  due : row.1.rounds ≡ 0 → (timer_in row).deadline ≡ now + 1
-  later : row.1.rounds ≢ 0 → (now + 1 < (timer_in row).deadline) × (row.1.rounds - 1 ≡ rounds_of n (now + 1) (timer_in row))
+  due : row.1.rounds ≡ 0 → (row_timer row).deadline ≡ now + 1
+  later : row.1.rounds ≢ 0 → (now + 1 < (row_timer row).deadline) × (row.1.rounds - 1 ≡ rounds_of n (now + 1) (row_timer row))
 
-at_slot : (n now s : ℕ) (row : Row) → 0 < n → s ≡ (now + 1) % n → now < (timer_in row).deadline → IsInBucket n now s row
+at_slot : (n now s : ℕ) (row : Row) → 0 < n → s ≡ (now + 1) % n → now < (row_timer row).deadline → IsInBucket n now s row
     → IsSweptRow n now row
 at_slot n now s row z e h b =
-    let far = distance n now (timer_in row).deadline z h in
-    let none : ((timer_in row).deadline - now - 1) % n ≡ 0 = no_step n (now + 1) _ far.over (sym (same_slot far) ∙ (b.0 ∙ e)) in
+    let far = distance n now (row_timer row).deadline z h in
+    let none : ((row_timer row).deadline - now - 1) % n ≡ 0 = no_step n (now + 1) _ far.over (sym (same_slot far) ∙ (b.0 ∙ e)) in
     record {
       due = λ k. now_due far (sym b.1 ∙ k) none;
       later = λ k. let f = round_less (row.1.rounds - 1) z far none (sym b.1 ∙ pred_of row.1.rounds k) in (f.0, sym f.1);
     }
 
 -- a row of another bucket after it
-off_slot : (n now s : ℕ) (row : Row) → 0 < n → s ≢ (now + 1) % n → now < (timer_in row).deadline → IsInBucket n now s row
-    → (now + 1 < (timer_in row).deadline) × IsInBucket n (now + 1) s row
+off_slot : (n now s : ℕ) (row : Row) → 0 < n → s ≢ (now + 1) % n → now < (row_timer row).deadline → IsInBucket n now s row
+    → (now + 1 < (row_timer row).deadline) × IsInBucket n (now + 1) s row
 off_slot n now s row z e h b =
-    let r : ℕ = ((timer_in row).deadline - now - 1) % n in
-    let far = distance n now (timer_in row).deadline z h in
+    let r : ℕ = ((row_timer row).deadline - now - 1) % n in
+    let far = distance n now (row_timer row).deadline z h in
     let some : r ≢ 0 = λ (k : r ≡ 0). e (sym b.0 ∙ (same_slot far ∙ ap (λ (y : ℕ). y % n)
     (let i : now + 1 + r ≡ now + 1 = omega arith in i))) in
     let f = same_round (r - 1) far (pred_of r some) in
@@ -97,9 +97,9 @@ pub entries-fewer : (k : ℕ) (rows : Rows) → entries_of (map (with_fewer_roun
 entries-fewer k [] = refl
 entries-fewer k (x ∷ xs) = ap (λ (r : List Entry). entry_of x ∷ r) (entries-fewer k xs)
 
-pub timers-fewer : (k : ℕ) (rows : Rows) → timers_in (map (with_fewer_rounds k) rows) ≡ timers_in rows
+pub timers-fewer : (k : ℕ) (rows : Rows) → row_timers (map (with_fewer_rounds k) rows) ≡ row_timers rows
 timers-fewer k [] = refl
-timers-fewer k (x ∷ xs) = ap (λ (r : List Timer). timer_in x ∷ r) (timers-fewer k xs)
+timers-fewer k (x ∷ xs) = ap (λ (r : List Timer). row_timer x ∷ r) (timers-fewer k xs)
 
 -- the rows of a test are those of a test of their entries
 entries-test : (p : Row → Bool) (q : Entry → Bool) (rows : Rows) → AllByRecursion (λ row. p row ≡ q (entry_of row)) rows
@@ -111,10 +111,10 @@ entries-test p q (x ∷ xs) a = elim (either (q (entry_of x))) [
 ]
 
 -- a row has no rounds exactly if its timer is due
-due_with_none : (n now : ℕ) (row : Row) → IsSweptRow n now row → has_no_rounds row ≡ is_due_at (now + 1) (timer_in row)
+due_with_none : (n now : ℕ) (row : Row) → IsSweptRow n now row → has_no_rounds row ≡ is_due_at (now + 1) (row_timer row)
 due_with_none n now row s = elim (cases_eq row.1.rounds 0) [
-  | inl e ↦ eq-eqb row.1.rounds 0 e ∙ sym (is_due (now + 1) (timer_in row) (s.due e))
-  | inr e ↦ ne_eqb row.1.rounds 0 e ∙ sym (not_due_before (now + 1) (timer_in row) (s.later e).0)
+  | inl e ↦ eq-eqb row.1.rounds 0 e ∙ sym (is_due (now + 1) (row_timer row) (s.due e))
+  | inr e ↦ ne_eqb row.1.rounds 0 e ∙ sym (not_due_before (now + 1) (row_timer row) (s.later e).0)
 ]
 
 has_some : (row : Row) → has_rounds row ≡ true → row.1.rounds ≢ 0
@@ -122,7 +122,7 @@ has_some row k = grind (arith, nat_tests)
 
 -- a pending row after the tick
 abbrev pub StaysIn : ℕ → ℕ → ℕ → ℕ → ℕ → Row → Type 0
-StaysIn n last_tick now last s row = IsPending last_tick now last (timer_in row) × IsInBucket n now s row
+StaysIn n last_tick now last s row = IsPending last_tick now last (row_timer row) × IsInBucket n now s row
 
 still : (last_tick now last : ℕ) (t : Timer) → IsPending last_tick now last t → now + 1 < t.deadline → IsPending last_tick (now + 1) last t
 still last_tick now last t p h = record { later = h; in_range = p.in_range; serial = p.serial }
@@ -132,17 +132,17 @@ module _ (n now : ℕ) (rows : Rows) (a : AllByRecursion (IsSweptRow n now) rows
   entries-later : entries_of (due_later rows) ≡ entries_left (now + 1) (entries_of rows)
   entries-later = entries-fewer 1 (filter has_rounds rows)
       ∙ entries-test has_rounds (λ (entry : Entry). not (is_due_at (now + 1) entry.timer)) rows
-      (All-weaken (IsSweptRow n now) (λ row. has_rounds row ≡ not (is_due_at (now + 1) (timer_in row))) rows
+      (All-weaken (IsSweptRow n now) (λ row. has_rounds row ≡ not (is_due_at (now + 1) (row_timer row))) rows
       (λ row s. ap not (due_with_none n now row s)) a)
 
   -- and the others those that are
   entries-now : entries_of (due_now rows) ≡ entries_due (now + 1) (entries_of rows)
   entries-now = entries-test has_no_rounds (λ (entry : Entry). is_due_at (now + 1) entry.timer) rows
-      (All-weaken (IsSweptRow n now) (λ row. has_no_rounds row ≡ is_due_at (now + 1) (timer_in row)) rows (due_with_none n now) a)
+      (All-weaken (IsSweptRow n now) (λ row. has_no_rounds row ≡ is_due_at (now + 1) (row_timer row)) rows (due_with_none n now) a)
 
   all-due : AllAt (now + 1) (map timer_of (entries_of (due_now rows)))
-  all-due = rw (timers_of-entries (due_now rows)) (all-map timer_in (λ t. t.deadline ≡ now + 1) (due_now rows)
-      (All-filter (IsSweptRow n now) (λ row. (timer_in row).deadline ≡ now + 1) has_no_rounds rows
+  all-due = rw (timers_of-entries (due_now rows)) (all-map row_timer (λ t. t.deadline ≡ now + 1) (due_now rows)
+      (All-filter (IsSweptRow n now) (λ row. (row_timer row).deadline ≡ now + 1) has_no_rounds rows
       (λ row k s. s.due (eqb-true row.1.rounds 0 k)) a))
 
   stays-later : (last_tick last s : ℕ) → AllByRecursion (StaysIn n last_tick now last s) rows
@@ -150,11 +150,11 @@ module _ (n now : ℕ) (rows : Rows) (a : AllByRecursion (IsSweptRow n now) rows
   stays-later last_tick last s b = all-map (with_fewer_rounds 1) (StaysIn n last_tick (now + 1) last s) (filter has_rounds rows)
       (All-filter (λ row. IsSweptRow n now row × StaysIn n last_tick now last s row)
       (λ row. StaysIn n last_tick (now + 1) last s (with_fewer_rounds 1 row)) has_rounds rows
-      (λ row k w. let f = w.0.later (has_some row k) in (still last_tick now last (timer_in row) w.1.0 f.0, (w.1.1.0, f.1)))
+      (λ row k w. let f = w.0.later (has_some row k) in (still last_tick now last (row_timer row) w.1.0 f.0, (w.1.1.0, f.1)))
       (all-both (IsSweptRow n now) (StaysIn n last_tick now last s) (λ row. IsSweptRow n now row × StaysIn n last_tick now last s row) rows
       (λ row q w. (q, w)) a b))
 
-rising-later : (low : ℕ) (rows : Rows) → AreRising low (timers_in rows) → AreRising low (timers_in (due_later rows))
+rising-later : (low : ℕ) (rows : Rows) → AreRising low (row_timers rows) → AreRising low (row_timers (due_later rows))
 rising-later low rows r = rw (timers-fewer 1 (filter has_rounds rows)) (AreRising-part has_rounds low rows r)
 
 -- All lists.
@@ -175,12 +175,12 @@ entries_below f (suc n) (x ∷ xs) (y ∷ ys) none over e h =
 all_left : (n last_tick now last s : ℕ) (rows : Rows) → AllByRecursion (StaysIn n last_tick (now + 1) last s) rows
     → entries_left (now + 1) (entries_of rows) ≡ entries_of rows
 all_left n last_tick now last s rows a = left_all (now + 1) (entries_of rows) (all-map entry_of (λ entry. now + 1 < entry.timer.deadline) rows
-    (All-weaken (StaysIn n last_tick (now + 1) last s) (λ row. now + 1 < (timer_in row).deadline) rows (λ row q. q.0.later) a))
+    (All-weaken (StaysIn n last_tick (now + 1) last s) (λ row. now + 1 < (row_timer row).deadline) rows (λ row q. q.0.later) a))
 
 module _ (n last_tick now last : ℕ) (lists : KeyedLists) (f : EachRow (StaysIn n last_tick now last) n lists) where
   pub stays-pending : ArePending last_tick now last (rows_below n lists)
-  stays-pending = all-rows_below (λ row. IsPending last_tick now last (timer_in row)) n lists
-      (λ t h. All-weaken (StaysIn n last_tick now last t) (λ row. IsPending last_tick now last (timer_in row)) (list_at t lists)
+  stays-pending = all-rows_below (λ row. IsPending last_tick now last (row_timer row)) n lists
+      (λ t h. All-weaken (StaysIn n last_tick now last t) (λ row. IsPending last_tick now last (row_timer row)) (list_at t lists)
       (λ row q. q.0) (f t h))
 
   pub stays-in_buckets : AreInBuckets n now lists
@@ -188,9 +188,9 @@ module _ (n last_tick now last : ℕ) (lists : KeyedLists) (f : EachRow (StaysIn
 
 pub stays : (n last_tick now last : ℕ) (lists : KeyedLists) → ArePending last_tick now last (rows_below n lists) → AreInBuckets n now lists
     → EachRow (StaysIn n last_tick now last) n lists
-stays n last_tick now last lists p b t h = all-both (λ row. IsPending last_tick now last (timer_in row)) (IsInBucket n now t)
+stays n last_tick now last lists p b t h = all-both (λ row. IsPending last_tick now last (row_timer row)) (IsInBucket n now t)
     (StaysIn n last_tick now last t) (list_at t lists) (λ row q r. (q, r))
-    (all-list_at (λ row. IsPending last_tick now last (timer_in row)) n lists p t h) (b t h)
+    (all-list_at (λ row. IsPending last_tick now last (row_timer row)) n lists p t h) (b t h)
 
 module _ {n last_tick now last : ℕ} {lists : KeyedLists} (a : AreBuckets n last_tick now last lists) (z : 0 < n)
     (b : AreInBuckets n now lists) (none : list_at n lists ≡ []) where
@@ -216,7 +216,7 @@ module _ {n last_tick now last : ℕ} {lists : KeyedLists} (a : AreBuckets n las
 
   staying_rows : (t : ℕ) → t < n → t ≢ tick_slot → AllByRecursion (StaysIn n last_tick (now + 1) last t) (list_at t lists)
   staying_rows t h e = All-weaken (StaysIn n last_tick now last t) (StaysIn n last_tick (now + 1) last t) (list_at t lists)
-      (λ row q. let f = off_slot n now t row z e q.0.later q.1 in (still last_tick now last (timer_in row) q.0 f.0, f.1))
+      (λ row q. let f = off_slot n now t row z e q.0.later q.1 in (still last_tick now last (row_timer row) q.0 f.0, f.1))
       (stays n last_tick now last lists a.pending b t h)
 
   length-swept : length new ≡ length lists
@@ -246,9 +246,9 @@ module _ {n last_tick now last : ℕ} {lists : KeyedLists} (a : AreBuckets n las
     | inr x ↦ rw (at_other t h x) (sym (all_left n last_tick now last t (list_at t lists) (staying_rows t h x)))
   ]
 
-  none_other : (t : ℕ) → t < n → t ≢ tick_slot → AllByRecursion (λ row. is_due_at (now + 1) (timer_in row) ≡ false) (list_at t lists)
-  none_other t h e = All-weaken (StaysIn n last_tick (now + 1) last t) (λ row. is_due_at (now + 1) (timer_in row) ≡ false)
-      (list_at t lists) (λ row q. not_due_before (now + 1) (timer_in row) q.0.later) (staying_rows t h e)
+  none_other : (t : ℕ) → t < n → t ≢ tick_slot → AllByRecursion (λ row. is_due_at (now + 1) (row_timer row) ≡ false) (list_at t lists)
+  none_other t h e = All-weaken (StaysIn n last_tick (now + 1) last t) (λ row. is_due_at (now + 1) (row_timer row) ≡ false)
+      (list_at t lists) (λ row q. not_due_before (now + 1) (row_timer row) q.0.later) (staying_rows t h e)
 
   -- the rows that are left are those of the timers that are not due
   abbrev is_left : Entry → Bool
@@ -260,7 +260,7 @@ module _ {n last_tick now last : ℕ} {lists : KeyedLists} (a : AreBuckets n las
   pub ticked-in_buckets : AreInBuckets n (now + 1) new
   ticked-in_buckets = stays-in_buckets n last_tick (now + 1) last new each_after
 
-  rising_bucket : AreRising 0 (timers_in bucket)
+  rising_bucket : AreRising 0 (row_timers bucket)
   rising_bucket = a.in_order tick_slot (omega (arith, below))
 
   ticked-in_order : AreInOrder (n + 1) new
@@ -272,7 +272,7 @@ module _ {n last_tick now last : ℕ} {lists : KeyedLists} (a : AreBuckets n las
     ]
   ]
 
-  ticked-distinct : AreDistinct (timers_in (rows_below n new))
+  ticked-distinct : AreDistinct (row_timers (rows_below n new))
   ticked-distinct =
       let left : Rows = filter (λ (row : Row). is_left (entry_of row)) (rows_below n lists) in
       rw (sym (timers_of-entries (rows_below n new)) ∙ (ap (map timer_of) (rows_left ∙ filter-entries is_left (rows_below n lists))
@@ -283,7 +283,7 @@ module _ {n last_tick now last : ℕ} {lists : KeyedLists} (a : AreBuckets n las
   due_rows : entries_due (now + 1) (pending_in (rows_below n lists)) ≡ entries_of (due_now bucket)
   due_rows =
       filter-pending_in (λ (entry : Entry). is_due_at (now + 1) entry.timer) (rows_below n lists)
-      ∙ (ap pending_in (filter-one_list (λ (row : Row). is_due_at (now + 1) (timer_in row)) n tick_slot lists below
+      ∙ (ap pending_in (filter-one_list (λ (row : Row). is_due_at (now + 1) (row_timer row)) n tick_slot lists below
       in_lists none_other)
       ∙ (ap (in_order timer_of) (sym (filter-entries (λ (entry : Entry). is_due_at (now + 1) entry.timer) bucket)
       ∙ sym (entries-now n now bucket swept_rows))

@@ -23,7 +23,7 @@ use Rattle.timer_wheels.specs.Hier.{IsHier}
 use Rattle.timer_wheels.specs.Leap.{list_visit, timer_visit, AreNotVisitedBefore, Leaps}
 use Rattle.timer_wheels.specs.Occupied.{bit_of, filled, IsFirstSet}
 use Rattle.timer_wheels.specs.Placement.{IsPlaced, hops_of, levels_of}
-use Rattle.timer_wheels.specs.BucketLists.{timer_in, rows_below, wheel_state, ArePending, EachRow}
+use Rattle.timer_wheels.specs.BucketLists.{row_timer, rows_below, wheel_state, ArePending, EachRow}
 use Rattle.timer_wheels.proofs.LeapLemmas.{leapt, leapt_placed, leapt_pending, leaps_none, leaps_tick, leaps_on}
 use Rattle.timer_wheels.proofs.OccupiedLemmas.{no_rows_there}
 use Rattle.timer_wheels.proofs.RowLemmas.{all-list_at}
@@ -54,9 +54,9 @@ visit_past (r ∷ rs) now d end s t i h p e c =
 
 -- a row as the invariant knows it
 pub record IsKnown (table : List ℕ) (now s : ℕ) (row : Row) : Type 0 where
-  pub later : now < (timer_in row).deadline
-  pub digits : HasDigits table (timer_in row).deadline
-  pub placed : bucket table now (timer_in row).deadline ≡ s
+  pub later : now < (row_timer row).deadline
+  pub digits : HasDigits table (row_timer row).deadline
+  pub placed : bucket table now (row_timer row).deadline ≡ s
 
 module _ {N : Type 0} {kept : Ghosts N} {t : Table} {b : Buckets N kept} {words : List ℕ} (h : IsHier t b words) where
   pub last_digits : HasDigits (radices t) b.last_tick
@@ -66,14 +66,14 @@ module _ {N : Type 0} {kept : Ghosts N} {t : Table} {b : Buckets N kept} {words 
   slots_fit = omega (arith, h.has_slots, (of_table t).few_slots)
 
   pub known : (s : ℕ) → s < b.slots → AllByRecursion (IsKnown (radices t) b.tick s) (list_at s b.links.lists)
-  known s k = all-both (λ row. IsPending b.last_tick b.tick b.last_serial (timer_in row)) (IsPlaced (radices t) b.tick s)
+  known s k = all-both (λ row. IsPending b.last_tick b.tick b.last_serial (row_timer row)) (IsPlaced (radices t) b.tick s)
       (IsKnown (radices t) b.tick s) (list_at s b.links.lists)
       (λ row p q. record {
         later = p.later;
-        digits = digits_down (radices t) (timer_in row).deadline b.last_tick (of_table t).is_table p.in_range last_digits;
+        digits = digits_down (radices t) (row_timer row).deadline b.last_tick (of_table t).is_table p.in_range last_digits;
         placed = q.0;
       })
-      (all-list_at (λ row. IsPending b.last_tick b.tick b.last_serial (timer_in row)) b.slots b.links.lists b.sound.pending s k) (h.placed s k)
+      (all-list_at (λ row. IsPending b.last_tick b.tick b.last_serial (row_timer row)) b.slots b.links.lists b.sound.pending s k) (h.placed s k)
 
   pub none_where : (s : ℕ) → s < b.slots → bit_of words s ≡ 0 → list_at s b.links.lists ≡ []
   none_where s k z = no_rows_there (list_at s b.links.lists) (sym (h.marked.0 s k) ∙ z)
@@ -107,9 +107,9 @@ module _ {N : Type 0} {kept : Ghosts N} {t : Table} {b : Buckets N kept} {words 
       → AreNotVisitedBefore (radices t) b.slots b.tick visit b.links.lists
   first_ahead l visit e f s k = elim (cases_lt s l) [
     | inl c ↦ rw (none_where s k (f.2 s c)) tt
-    | inr c ↦ All-weaken (IsKnown (radices t) b.tick s) (λ row. visit ≤ timer_visit (radices t) b.tick (timer_in row).deadline)
+    | inr c ↦ All-weaken (IsKnown (radices t) b.tick s) (λ row. visit ≤ timer_visit (radices t) b.tick (row_timer row).deadline)
         (list_at s b.links.lists)
-        (λ row w. rw e (list_first (radices t) l b.tick (timer_in row).deadline (of_table t).is_table w.digits w.later
+        (λ row w. rw e (list_first (radices t) l b.tick (row_timer row).deadline (of_table t).is_table w.digits w.later
         (omega (arith, w.placed))))
         (known s k)
   ]
@@ -119,9 +119,9 @@ module _ {N : Type 0} {kept : Ghosts N} {t : Table} {b : Buckets N kept} {words 
       → ((s : ℕ) → s ≤ end % lowest_radix (radices t) → bit_of words s ≡ 0)
       → AreNotVisitedBefore (radices t) b.slots b.tick (end + 1) b.links.lists
   quiet_to end e f s k = elim (cases_lt (end % lowest_radix (radices t)) s) [
-    | inl c ↦ All-weaken (IsKnown (radices t) b.tick s) (λ row. end + 1 ≤ timer_visit (radices t) b.tick (timer_in row).deadline)
+    | inl c ↦ All-weaken (IsKnown (radices t) b.tick s) (λ row. end + 1 ≤ timer_visit (radices t) b.tick (row_timer row).deadline)
         (list_at s b.links.lists)
-        (λ row w. visit_past (radices t) b.tick (timer_in row).deadline end s (of_table t).is_table w.digits w.later w.placed e c)
+        (λ row w. visit_past (radices t) b.tick (row_timer row).deadline end s (of_table t).is_table w.digits w.later w.placed e c)
         (known s k)
     | inr c ↦ rw (none_where s k (f s c)) tt
   ]
@@ -130,10 +130,10 @@ module _ {N : Type 0} {kept : Ghosts N} {t : Table} {b : Buckets N kept} {words 
       → b.tick < list_visit (radices t) l b.tick
   later_by l [] e a = absurd (omega arith)
   later_by l (r ∷ rs) e a =
-      let q : list_visit (radices t) l b.tick ≡ timer_visit (radices t) b.tick (timer_in r).deadline =
+      let q : list_visit (radices t) l b.tick ≡ timer_visit (radices t) b.tick (row_timer r).deadline =
       ap (λ (x : ℕ). list_visit (radices t) x b.tick) (sym a.0.placed)
-      ∙ list_is (radices t) b.tick (timer_in r).deadline (of_table t).is_table a.0.digits a.0.later in
-      omega (arith, visit_later (radices t) b.tick (timer_in r).deadline (of_table t).is_table a.0.later)
+      ∙ list_is (radices t) b.tick (row_timer r).deadline (of_table t).is_table a.0.digits a.0.later in
+      omega (arith, visit_later (radices t) b.tick (row_timer r).deadline (of_table t).is_table a.0.later)
 
   pub first_later : (l visit : ℕ) → visit ≡ list_visit (radices t) l b.tick → IsFirstSet MOST_BUCKETS words (Some l) → b.tick < visit
   first_later l visit e f =
@@ -144,9 +144,9 @@ module _ {N : Type 0} {kept : Ghosts N} {t : Table} {b : Buckets N kept} {words 
   first_wakes l visit e f =
       wakes b.slots b.last_tick b.tick b.last_serial b.links.lists visit l (first_in l f.0 f.1)
       (first_some l f) (first_later l visit e f)
-      (λ s k. All-weaken (λ row. visit ≤ timer_visit (radices t) b.tick (timer_in row).deadline) (λ row. visit ≤ (timer_in row).deadline)
+      (λ s k. All-weaken (λ row. visit ≤ timer_visit (radices t) b.tick (row_timer row).deadline) (λ row. visit ≤ (row_timer row).deadline)
       (list_at s b.links.lists)
-      (λ row q. omega (arith, visit_in_time (radices t) b.tick (timer_in row).deadline (of_table t).is_table))
+      (λ row q. omega (arith, visit_in_time (radices t) b.tick (row_timer row).deadline (of_table t).is_table))
       (first_ahead l visit e f s k))
 
   pub none_wakes : ((s : ℕ) → s < MOST_BUCKETS → bit_of words s ≡ 0) → (state_of b).pending ≡ []

@@ -13,7 +13,7 @@ use Rattle.timer_wheels.specs.Digits.{IsTable, HasDigits, level, lowest, slots_b
 use Rattle.timer_wheels.proofs.DigitLaws.{bucket_at_tick, digits_down, emptied_in_range}
 use Rattle.timer_wheels.proofs.AllLemmas.{all-both, all-map, filter_none, filter_rest}
 use Rattle.timer_wheels.specs.BucketLaws.{wheel_state-well_formed}
-use Rattle.timer_wheels.specs.BucketLists.{timer_in, timers_in, entry_of, entries_of, rows_below, pending_in, ArePending, AreInOrder, AreBuckets, EachRow, wheel_state}
+use Rattle.timer_wheels.specs.BucketLists.{row_timer, row_timers, entry_of, entries_of, rows_below, pending_in, ArePending, AreInOrder, AreBuckets, EachRow, wheel_state}
 use Rattle.timer_wheels.specs.Placement.{IsPlaced, hops_of, levels_of}
 use Rattle.timer_wheels.specs.Migration.{target, migrated, due_rows, left_rows, MayMigrate, IsOfTick}
 use Rattle.timer_wheels.proofs.RowLemmas.{all-append, all-front, all-rest, all-rows_below, all-list_at, IsAround, around, append-nil}
@@ -33,8 +33,8 @@ pub record IsBefore (table : List ℕ) (last_tick a last_serial : ℕ) (lists : 
 -- the invariant of each row of a bucket before the tick
 record KnownRow (table : List ℕ) (last_tick a last_serial s : ℕ) (row : Row) : Type 0 where
   placed : IsPlaced table a s row
-  pending : IsPending last_tick a last_serial (timer_in row)
-  bucket_at_tick : BucketAtTick table a (timer_in row).deadline
+  pending : IsPending last_tick a last_serial (row_timer row)
+  bucket_at_tick : BucketAtTick table a (row_timer row).deadline
 
 -- a list that can have no row is empty
 none_known : (P : Row → Type 0) (xs : Rows) → AllByRecursion P xs → ((x : Row) → P x → ⊥) → xs ≡ []
@@ -45,15 +45,15 @@ none_known P (x ∷ xs) a f = absurd (f x a.0)
 
 -- a row of the list that is emptied becomes due
 record BecomesDue (table : List ℕ) (a : ℕ) (row : Row) : Type 0 where
-  deadline : (timer_in row).deadline ≡ a + 1
-  due : is_due_at (a + 1) (timer_in row) ≡ true
+  deadline : (row_timer row).deadline ≡ a + 1
+  due : is_due_at (a + 1) (row_timer row) ≡ true
   to : target table (a + 1) row ≡ slots table
 
 -- or it moves below the wheels that have timers
 record GoesLower (table : List ℕ) (a m : ℕ) (row : Row) : Type 0 where
-  later : (timer_in row).deadline ≢ a + 1
-  not_due : is_due_at (a + 1) (timer_in row) ≡ false
-  falls : level table (a + 1) (timer_in row).deadline < level table a (timer_in row).deadline
+  later : (row_timer row).deadline ≢ a + 1
+  not_due : is_due_at (a + 1) (row_timer row) ≡ false
+  falls : level table (a + 1) (row_timer row).deadline < level table a (row_timer row).deadline
   to : target table (a + 1) row < m
 
 abbrev RowLeaves : List ℕ → ℕ → ℕ → Row → Type 0
@@ -61,21 +61,21 @@ RowLeaves table a m row = BecomesDue table a row ⊎ GoesLower table a m row
 
 -- a row of another list stays
 record RowStays (table : List ℕ) (a s : ℕ) (row : Row) : Type 0 where
-  later : (timer_in row).deadline ≢ a + 1
-  level : level table (a + 1) (timer_in row).deadline ≡ level table a (timer_in row).deadline
-  bucket : bucket table (a + 1) (timer_in row).deadline ≡ s
+  later : (row_timer row).deadline ≢ a + 1
+  level : level table (a + 1) (row_timer row).deadline ≡ level table a (row_timer row).deadline
+  bucket : bucket table (a + 1) (row_timer row).deadline ≡ s
 
 row_leaves : (table : List ℕ) (last_tick a last_serial : ℕ) (row : Row)
     → KnownRow table last_tick a last_serial (emptied table (a + 1)) row → RowLeaves table a (slots_below (lowest table (a + 1)) table) row
-row_leaves table last_tick a last_serial row h = elim (cases_eq (timer_in row).deadline (a + 1)) [
+row_leaves table last_tick a last_serial row h = elim (cases_eq (row_timer row).deadline (a + 1)) [
   | inl e ↦
-      let due = is_due (a + 1) (timer_in row) e in
+      let due = is_due (a + 1) (row_timer row) e in
       inl (record { deadline = e; due = due; to = target_due table (a + 1) row due })
   | inr n ↦ elim h.bucket_at_tick.is [
     | inl y ↦ elim y.1 [
       | inl e ↦ absurd (n e)
       | inr z ↦
-          let left = is_not_due (a + 1) (timer_in row) n in
+          let left = is_not_due (a + 1) (row_timer row) n in
           inr (record { later = n; not_due = left; falls = z.0; to = rw (target_left table (a + 1) row left) z.1 })
     ]
     | inr y ↦ absurd (y.0 h.placed.0)
@@ -97,19 +97,19 @@ not_above table a m s row h b (inr g) = ne_eqb (target table (a + 1) row) s (λ 
 
 -- the due rows are those that move to the last list
 last_test : (table : List ℕ) (a m : ℕ) (row : Row) → m ≤ slots table → RowLeaves table a m row
-    → (target table (a + 1) row == slots table) ≡ is_due_at (a + 1) (timer_in row)
+    → (target table (a + 1) row == slots table) ≡ is_due_at (a + 1) (row_timer row)
 last_test table a m row h (inl d) = eq-eqb (target table (a + 1) row) (slots table) d.to ∙ sym d.due
 last_test table a m row h (inr g) = ne_eqb (target table (a + 1) row) (slots table) (λ e. omega (arith, g.to)) ∙ sym g.not_due
 
-all_due_at : (tick : ℕ) (xs : Rows) → AllAt tick (timers_in (due_rows tick xs))
+all_due_at : (tick : ℕ) (xs : Rows) → AllAt tick (row_timers (due_rows tick xs))
 all_due_at tick [] = tt
-all_due_at tick (x ∷ xs) = elim (either (is_due_at tick (timer_in x))) [
-  | inl k ↦ rw k (eqb-true (timer_in x).deadline tick k, all_due_at tick xs)
+all_due_at tick (x ∷ xs) = elim (either (is_due_at tick (row_timer x))) [
+  | inl k ↦ rw k (eqb-true (row_timer x).deadline tick k, all_due_at tick xs)
   | inr k ↦ rw k (all_due_at tick xs)
 ]
 
-pending_in-rows : (rows : Rows) → pending_in rows ≡ entries_of (in_order timer_in rows)
-pending_in-rows rows = sym (map-in_order timer_in timer_of entry_of (λ x. refl) rows)
+pending_in-rows : (rows : Rows) → pending_in rows ≡ entries_of (in_order row_timer rows)
+pending_in-rows rows = sym (map-in_order row_timer timer_of entry_of (λ x. refl) rows)
 
 -- Hops.
 
@@ -148,17 +148,17 @@ hops_of-in_order table a k [] = refl
 hops_of-in_order table a k (x ∷ xs) = omega (arith, hops-insert table a k x (in_order timer_of xs), hops_of-in_order table a k xs)
 
 abbrev HasNoHop : List ℕ → ℕ → Row → Type 0
-HasNoHop table a row = hops table a 1 (timer_in row).deadline ≡ 0
+HasNoHop table a row = hops table a 1 (row_timer row).deadline ≡ 0
 
 no_row_hops : (table : List ℕ) (a : ℕ) (xs : Rows) → AllByRecursion (HasNoHop table a) xs → row_hops table a xs ≡ 0
 no_row_hops table a [] h = refl
 no_row_hops table a (x ∷ xs) h = omega (arith, h.0, no_row_hops table a xs h.1)
 
 -- those that are not due
-all_row_hops : (table : List ℕ) (a : ℕ) (xs : Rows) → AllByRecursion (λ row. hops table a 1 (timer_in row).deadline
-    ≡ (if is_due_at (a + 1) (timer_in row) then 0 else 1)) xs → row_hops table a xs ≡ length (left_rows (a + 1) xs)
+all_row_hops : (table : List ℕ) (a : ℕ) (xs : Rows) → AllByRecursion (λ row. hops table a 1 (row_timer row).deadline
+    ≡ (if is_due_at (a + 1) (row_timer row) then 0 else 1)) xs → row_hops table a xs ≡ length (left_rows (a + 1) xs)
 all_row_hops table a [] h = refl
-all_row_hops table a (x ∷ xs) h = elim (either (is_due_at (a + 1) (timer_in x))) [
+all_row_hops table a (x ∷ xs) h = elim (either (is_due_at (a + 1) (row_timer x))) [
   | inl k ↦ rw (h.0, k) (omega (arith, all_row_hops table a xs h.1))
   | inr k ↦ rw (h.0, k) (omega (arith, all_row_hops table a xs h.1))
 ]
@@ -215,7 +215,7 @@ module _ {table : List ℕ} {last_tick a last_serial : ℕ} {lists : KeyedLists}
   new_rows = rows_below (slots table) (migrated table (a + 1) (emptied table (a + 1)) lists)
 
   abbrev Pending : Row → Type 0
-  Pending row = IsPending last_tick a last_serial (timer_in row)
+  Pending row = IsPending last_tick a last_serial (row_timer row)
 
   abbrev Known : ℕ → Row → Type 0
   Known s row = KnownRow table last_tick a last_serial s row
@@ -236,8 +236,8 @@ module _ {table : List ℕ} {last_tick a last_serial : ℕ} {lists : KeyedLists}
   known_row s row p q = record {
     placed = p;
     pending = q;
-    bucket_at_tick = bucket_at_tick table a (timer_in row).deadline b.is_table
-        (digits_down table (timer_in row).deadline last_tick b.is_table q.in_range b.digits) q.later;
+    bucket_at_tick = bucket_at_tick table a (row_timer row).deadline b.is_table
+        (digits_down table (row_timer row).deadline last_tick b.is_table q.in_range b.digits) q.later;
   }
 
   known_rows : (s : ℕ) → s < slots table → AllByRecursion (Known s) (list_at s lists)
@@ -289,14 +289,14 @@ module _ {table : List ℕ} {last_tick a last_serial : ℕ} {lists : KeyedLists}
   due_list = list_at-after (slots table) (omega arith)
       ∙ (ap (λ (r : Rows). r ++ to_list table (a + 1) (slots table) rows_l)
       (list_at-base (slots table) (λ e. omega (arith, l_in_range)) ∙ b.none_due)
-      ∙ filter_same (λ row. target table (a + 1) row == slots table) (λ row. is_due_at (a + 1) (timer_in row)) rows_l
-      (all_leaving (λ row. (target table (a + 1) row == slots table) ≡ is_due_at (a + 1) (timer_in row))
+      ∙ filter_same (λ row. target table (a + 1) row == slots table) (λ row. is_due_at (a + 1) (row_timer row)) rows_l
+      (all_leaving (λ row. (target table (a + 1) row == slots table) ≡ is_due_at (a + 1) (row_timer row))
       (λ row. last_test table a m row (omega (arith, l_in_range, not_below_m)))))
 
   -- Each list is in order of starting.
 
   abbrev Rising : Rows → Type 0
-  Rising rows = AreRising 0 (timers_in rows)
+  Rising rows = AreRising 0 (row_timers rows)
 
   rising_l : Rising rows_l
   rising_l = b.sound.in_order l (omega (arith, l_in_range))
@@ -310,16 +310,16 @@ module _ {table : List ℕ} {last_tick a last_serial : ℕ} {lists : KeyedLists}
       | inr j ↦
           let e : slots table ≡ s = omega arith in
           subst Rising (sym (ap (λ (v : ℕ). list_at v after) (sym e) ∙ due_list))
-          (AreRising-part (λ row. is_due_at (a + 1) (timer_in row)) 0 rows_l rising_l)
+          (AreRising-part (λ row. is_due_at (a + 1) (row_timer row)) 0 rows_l rising_l)
     ]
   ]
 
   -- Each row stands where it belongs.
 
   abbrev Fits : ℕ → Row → Type 0
-  Fits s row = IsPlaced table (a + 1) s row × IsPending last_tick (a + 1) last_serial (timer_in row)
+  Fits s row = IsPlaced table (a + 1) s row × IsPending last_tick (a + 1) last_serial (row_timer row)
 
-  later : (row : Row) → Pending row → (timer_in row).deadline ≢ a + 1 → IsPending last_tick (a + 1) last_serial (timer_in row)
+  later : (row : Row) → Pending row → (row_timer row).deadline ≢ a + 1 → IsPending last_tick (a + 1) last_serial (row_timer row)
   later row p n = record { later = omega (arith, p.later); in_range = p.in_range; serial = p.serial }
 
   fits_staying : (s : ℕ) → s ≢ l → (row : Row) → Known s row → Fits s row
@@ -349,8 +349,8 @@ module _ {table : List ℕ} {last_tick a last_serial : ℕ} {lists : KeyedLists}
   after-placed s h = All-weaken (Fits s) (IsPlaced table (a + 1) s) (list_at s after) (λ row f. f.0) (after_fits s h)
 
   after-pending : ArePending last_tick (a + 1) last_serial new_rows
-  after-pending = all-rows_below (λ row. IsPending last_tick (a + 1) last_serial (timer_in row)) (slots table) after
-      (λ s h. All-weaken (Fits s) (λ row. IsPending last_tick (a + 1) last_serial (timer_in row)) (list_at s after) (λ row f. f.1)
+  after-pending = all-rows_below (λ row. IsPending last_tick (a + 1) last_serial (row_timer row)) (slots table) after
+      (λ s h. All-weaken (Fits s) (λ row. IsPending last_tick (a + 1) last_serial (row_timer row)) (list_at s after) (λ row f. f.1)
       (after_fits s h))
 
   -- The pending timers, and the due ones.
@@ -370,11 +370,11 @@ module _ {table : List ℕ} {last_tick a last_serial : ℕ} {lists : KeyedLists}
       (all-front P around_l.front around_l.rest both, all-rest P around_l.front around_l.rest both)
 
   abbrev NotDue : Row → Type 0
-  NotDue row = is_due_at (a + 1) (timer_in row) ≡ false
+  NotDue row = is_due_at (a + 1) (row_timer row) ≡ false
 
   not_due : AllByRecursion NotDue around_l.front × AllByRecursion NotDue around_l.rest
   not_due = all_around NotDue (λ s h. All-weaken (Fits s) NotDue (list_at s base)
-      (λ row f. not_due_before (a + 1) (timer_in row) f.1.later) (base_fits s h))
+      (λ row f. not_due_before (a + 1) (row_timer row) f.1.later) (base_fits s h))
 
   distinct_around : Distinct (around_l.front ++ (rows_l ++ around_l.rest))
   distinct_around = subst Distinct around_l.rows b.sound.distinct
@@ -394,25 +394,25 @@ module _ {table : List ℕ} {last_tick a last_serial : ℕ} {lists : KeyedLists}
 
   left_parts : left_rows (a + 1) rows ≡ around_l.front ++ (left_rows (a + 1) rows_l ++ around_l.rest)
   left_parts = rw (
-    parts (λ row. not (is_due_at (a + 1) (timer_in row))),
-    filter_rest (λ row. is_due_at (a + 1) (timer_in row)) around_l.front not_due.0,
-    filter_rest (λ row. is_due_at (a + 1) (timer_in row)) around_l.rest not_due.1,
+    parts (λ row. not (is_due_at (a + 1) (row_timer row))),
+    filter_rest (λ row. is_due_at (a + 1) (row_timer row)) around_l.front not_due.0,
+    filter_rest (λ row. is_due_at (a + 1) (row_timer row)) around_l.rest not_due.1,
   ) refl
 
   due_parts : due_rows (a + 1) rows ≡ due_rows (a + 1) rows_l
   due_parts = rw (
-    parts (λ row. is_due_at (a + 1) (timer_in row)),
-    filter_none (λ row. is_due_at (a + 1) (timer_in row)) around_l.front not_due.0,
-    filter_none (λ row. is_due_at (a + 1) (timer_in row)) around_l.rest not_due.1,
+    parts (λ row. is_due_at (a + 1) (row_timer row)),
+    filter_none (λ row. is_due_at (a + 1) (row_timer row)) around_l.front not_due.0,
+    filter_none (λ row. is_due_at (a + 1) (row_timer row)) around_l.rest not_due.1,
   ) (append-nil (due_rows (a + 1) rows_l))
 
-  left_ordered : in_order timer_in new_rows ≡ in_order timer_in (left_rows (a + 1) rows)
+  left_ordered : in_order row_timer new_rows ≡ in_order row_timer (left_rows (a + 1) rows)
   left_ordered =
       keeps.pending
-      ∙ (ap (λ (r : Rows). in_order timer_in (left_rows (a + 1) rows_l ++ r)) base_rows
+      ∙ (ap (λ (r : Rows). in_order row_timer (left_rows (a + 1) rows_l ++ r)) base_rows
       ∙ (sym (in_order-pulled around_l.front (left_rows (a + 1) rows_l) around_l.rest
-      (subst Distinct left_parts (AreDistinct-part (λ row. not (is_due_at (a + 1) (timer_in row))) rows b.sound.distinct)))
-      ∙ ap (in_order timer_in) (sym left_parts)))
+      (subst Distinct left_parts (AreDistinct-part (λ row. not (is_due_at (a + 1) (row_timer row))) rows b.sound.distinct)))
+      ∙ ap (in_order row_timer) (sym left_parts)))
 
   after-left : pending_in new_rows ≡ entries_left (a + 1) (pending_in rows)
   after-left =
@@ -421,32 +421,32 @@ module _ {table : List ℕ} {last_tick a last_serial : ℕ} {lists : KeyedLists}
       ∙ (sym (pending_in-rows (left_rows (a + 1) rows))
       ∙ sym (filter-pending_in (λ entry. not (is_due_at (a + 1) entry.timer)) rows)))
 
-  due_ordered : in_order timer_in (due_rows (a + 1) rows_l) ≡ due_rows (a + 1) rows_l
-  due_ordered = in_order-same timer_in (a + 1) 0 (due_rows (a + 1) rows_l) (all_due_at (a + 1) rows_l)
-      (AreRising-part (λ row. is_due_at (a + 1) (timer_in row)) 0 rows_l rising_l)
+  due_ordered : in_order row_timer (due_rows (a + 1) rows_l) ≡ due_rows (a + 1) rows_l
+  due_ordered = in_order-same row_timer (a + 1) 0 (due_rows (a + 1) rows_l) (all_due_at (a + 1) rows_l)
+      (AreRising-part (λ row. is_due_at (a + 1) (row_timer row)) 0 rows_l rising_l)
 
   after-due : entries_of (list_at (slots table) after) ≡ entries_due (a + 1) (pending_in rows)
   after-due =
-      ap entries_of (due_list ∙ (sym due_ordered ∙ ap (in_order timer_in) (sym due_parts)))
+      ap entries_of (due_list ∙ (sym due_ordered ∙ ap (in_order row_timer) (sym due_parts)))
       ∙ (sym (pending_in-rows (due_rows (a + 1) rows)) ∙ sym (filter-pending_in (λ entry. is_due_at (a + 1) entry.timer) rows))
 
   -- How many timers move, and what is left to move.
 
-  going_hop : (row : Row) → Known l row → hops table a 1 (timer_in row).deadline ≡ (if is_due_at (a + 1) (timer_in row) then 0 else 1)
+  going_hop : (row : Row) → Known l row → hops table a 1 (row_timer row).deadline ≡ (if is_due_at (a + 1) (row_timer row) then 0 else 1)
   going_hop row h = elim (row_leaves table last_tick a last_serial row h) [
-    | inl d ↦ rw d.due (no_hop_due table a (timer_in row).deadline d.deadline)
-    | inr g ↦ rw g.not_due (hop_when table a (timer_in row).deadline (omega (arith, g.later, h.pending.later)) g.falls)
+    | inl d ↦ rw d.due (no_hop_due table a (row_timer row).deadline d.deadline)
+    | inr g ↦ rw g.not_due (hop_when table a (row_timer row).deadline (omega (arith, g.later, h.pending.later)) g.falls)
   ]
 
   base_hop : (s : ℕ) → s < slots table → AllByRecursion (HasNoHop table a) (list_at s base)
   base_hop = each_base (λ s rows. s < slots table → AllByRecursion (HasNoHop table a) rows) (λ h. tt)
       (λ s n h. All-weaken (Known s) (HasNoHop table a) (list_at s lists)
-      (λ row k. no_hop_same table a (timer_in row).deadline (row_stays table last_tick a last_serial s row n k).level) (known_rows s h))
+      (λ row k. no_hop_same table a (row_timer row).deadline (row_stays table last_tick a last_serial s row n k).level) (known_rows s h))
 
   after-moves : length (left_rows (a + 1) rows_l) ≡ hops_of table a 1 (pending_in rows)
   after-moves =
       let none = all_around (HasNoHop table a) base_hop in
-      let moving = All-weaken (Known l) (λ row. hops table a 1 (timer_in row).deadline ≡ (if is_due_at (a + 1) (timer_in row) then 0 else 1))
+      let moving = All-weaken (Known l) (λ row. hops table a 1 (row_timer row).deadline ≡ (if is_due_at (a + 1) (row_timer row) then 0 else 1))
       rows_l going_hop (known_rows l l_in_range) in
       omega (
         arith,
@@ -463,8 +463,8 @@ module _ {table : List ℕ} {last_tick a last_serial : ℕ} {lists : KeyedLists}
       ≤ levels_of table a (pending_in rows)
   levels_fall = levels_pay table a (pending_in rows) (All-in_order timer_of (FallsAt table a) (entries_of rows)
       (all-map entry_of (FallsAt table a) rows (All-weaken Pending (λ row. FallsAt table a (entry_of row)) rows
-      (λ row p. (bucket_at_tick table a (timer_in row).deadline b.is_table
-      (digits_down table (timer_in row).deadline last_tick b.is_table p.in_range b.digits) p.later).falls) b.sound.pending)))
+      (λ row p. (bucket_at_tick table a (row_timer row).deadline b.is_table
+      (digits_down table (row_timer row).deadline last_tick b.is_table p.in_range b.digits) p.later).falls) b.sound.pending)))
 
   next_here : IsNext table (slots table) last_tick a last_serial (length (left_rows (a + 1) rows_l)) lists after
   next_here = record {

@@ -11,7 +11,7 @@ use Rattle.timer_links.specs.Lists.{list_at, KeyedLists, Row}
 use Rattle.timer_wheels.specs.Digits.{IsTable, HasDigits, level, hops}
 use Rattle.timer_wheels.specs.Leap.{timer_visit, AreNotVisitedBefore, Leaps}
 use Rattle.timer_wheels.specs.Placement.{IsPlaced, hops_of, levels_of}
-use Rattle.timer_wheels.specs.BucketLists.{timer_in, entry_of, entries_of, rows_below, pending_in, wheel_state, ArePending, EachRow}
+use Rattle.timer_wheels.specs.BucketLists.{row_timer, entry_of, entries_of, rows_below, pending_in, wheel_state, ArePending, EachRow}
 use Rattle.timer_wheels.proofs.AllLemmas.{all-both, all-map}
 use Rattle.timer_wheels.proofs.DigitLaws.{digits_down, bucket_by_level}
 use Rattle.timer_wheels.proofs.RowLemmas.{all-rows_below, all-list_at}
@@ -58,7 +58,7 @@ module _ (table : List ℕ) (last a visit n : ℕ) (i : IsTable table) (h : HasD
   EntryWaits entry = Waits table last a visit entry.timer.deadline
 
   abbrev RowWaits : Row → Type 0
-  RowWaits row = Waits table last a visit (timer_in row).deadline
+  RowWaits row = Waits table last a visit (row_timer row).deadline
 
   keeps_level : (d : ℕ) → Waits table last a visit d → (c : ℕ) → a ≤ c → c ≤ a + n → level table c d ≡ level table a d
   keeps_level d w c p q = level_stays table a c d i (digits_down table d last i w.in_range h) w.later p (omega (arith, w.not_before))
@@ -79,9 +79,9 @@ module _ (table : List ℕ) (last a visit n : ℕ) (i : IsTable table) (h : HasD
   module _ (k last_serial : ℕ) (lists : KeyedLists) (p : ArePending last a last_serial (rows_below k lists))
       (q : AreNotVisitedBefore table k a visit lists) where
     each_waits : EachRow (λ s. RowWaits) k lists
-    each_waits s b = all-both (λ row. IsPending last a last_serial (timer_in row)) (λ row. visit ≤ timer_visit table a (timer_in row).deadline)
+    each_waits s b = all-both (λ row. IsPending last a last_serial (row_timer row)) (λ row. visit ≤ timer_visit table a (row_timer row).deadline)
         RowWaits (list_at s lists) (λ row x y. record { later = x.later; in_range = x.in_range; not_before = y })
-        (all-list_at (λ row. IsPending last a last_serial (timer_in row)) k lists p s b) (q s b)
+        (all-list_at (λ row. IsPending last a last_serial (row_timer row)) k lists p s b) (q s b)
 
     all_wait : AllByRecursion RowWaits (rows_below k lists)
     all_wait = all-rows_below RowWaits k lists each_waits
@@ -97,16 +97,16 @@ module _ (table : List ℕ) (last a visit n : ℕ) (i : IsTable table) (h : HasD
     pub leapt_placed : EachRow (IsPlaced table a) k lists → EachRow (IsPlaced table (a + n)) k lists
     leapt_placed f s b = all-both RowWaits (IsPlaced table a s) (IsPlaced table (a + n) s) (list_at s lists)
         (λ row x y. (
-          bucket_by_level table (a + n) (timer_in row).deadline (level table a (timer_in row).deadline)
-              (keeps_level (timer_in row).deadline x (a + n) (omega arith) (omega arith)) ∙ y.0,
+          bucket_by_level table (a + n) (row_timer row).deadline (level table a (row_timer row).deadline)
+              (keeps_level (row_timer row).deadline x (a + n) (omega arith) (omega arith)) ∙ y.0,
           y.1,
         ))
         (each_waits s b) (f s b)
 
     pub leapt_pending : ArePending last (a + n) last_serial (rows_below k lists)
-    leapt_pending = all-both RowWaits (λ row. IsPending last a last_serial (timer_in row))
-        (λ row. IsPending last (a + n) last_serial (timer_in row)) (rows_below k lists)
-        (λ row x y. record { later = still_later (timer_in row).deadline x; in_range = y.in_range; serial = y.serial }) all_wait p
+    leapt_pending = all-both RowWaits (λ row. IsPending last a last_serial (row_timer row))
+        (λ row. IsPending last (a + n) last_serial (row_timer row)) (rows_below k lists)
+        (λ row x y. record { later = still_later (row_timer row).deadline x; in_range = y.in_range; serial = y.serial }) all_wait p
 
     -- only the clock advances
     pub leapt : (wheel_state k last a last_serial lists).due ≡ []

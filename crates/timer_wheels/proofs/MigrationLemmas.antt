@@ -8,18 +8,18 @@ use Rattle.timer_base.proofs.OrderLaws.{in_order-anywhere}
 use Rattle.timer_base.specs.Pending.{is_due_at}
 use Rattle.timer_links.specs.Lists.{list_at, with_row, KeyedLists, Row, Rows}
 use Rattle.timer_wheels.specs.Digits.{slots, bucket}
-use Rattle.timer_wheels.specs.BucketLists.{timer_in, timers_in, rows_below}
+use Rattle.timer_wheels.specs.BucketLists.{row_timer, row_timers, rows_below}
 use Rattle.timer_wheels.specs.Migration.{target, migrate_rows, left_rows}
 use Rattle.timer_wheels.proofs.BucketLemmas.{IsNotAmong-part}
 use Rattle.timer_wheels.proofs.RowLemmas.{rows_below-above, rows_below-with_row, append-nil, timers-append, AreDistinct-taken, IsNotAmong-others}
 
 -- Where the rows of the emptied list go.
 
-pub target_due : (table : List ℕ) (tick : ℕ) (row : Row) → is_due_at tick (timer_in row) ≡ true → target table tick row ≡ slots table
+pub target_due : (table : List ℕ) (tick : ℕ) (row : Row) → is_due_at tick (row_timer row) ≡ true → target table tick row ≡ slots table
 target_due table tick row h = rw h refl
 
-pub target_left : (table : List ℕ) (tick : ℕ) (row : Row) → is_due_at tick (timer_in row) ≡ false
-    → target table tick row ≡ bucket table tick (timer_in row).deadline
+pub target_left : (table : List ℕ) (tick : ℕ) (row : Row) → is_due_at tick (row_timer row) ≡ false
+    → target table tick row ≡ bucket table tick (row_timer row).deadline
 target_left table tick row h = rw h refl
 
 pub migrate_rows-length : (table : List ℕ) (tick : ℕ) (rows : Rows) (lists : KeyedLists)
@@ -56,75 +56,75 @@ list_at-migrate_rows table tick s (x ∷ xs) lists b =
 -- The order of the rows does not matter.
 
 module _ (serial : ℕ) where
-  among-append : (xs ys : Rows) → IsNotAmong serial (timers_in xs) → IsNotAmong serial (timers_in ys)
-      → IsNotAmong serial (timers_in (xs ++ ys))
+  among-append : (xs ys : Rows) → IsNotAmong serial (row_timers xs) → IsNotAmong serial (row_timers ys)
+      → IsNotAmong serial (row_timers (xs ++ ys))
   among-append [] ys a b = b
   among-append (x ∷ xs) ys a b = (a.0, among-append xs ys a.1 b)
 
-  among-front : (xs ys : Rows) → IsNotAmong serial (timers_in (xs ++ ys)) → IsNotAmong serial (timers_in xs)
+  among-front : (xs ys : Rows) → IsNotAmong serial (row_timers (xs ++ ys)) → IsNotAmong serial (row_timers xs)
   among-front [] ys a = tt
   among-front (x ∷ xs) ys a = (a.0, among-front xs ys a.1)
 
-  among-rest : (xs ys : Rows) → IsNotAmong serial (timers_in (xs ++ ys)) → IsNotAmong serial (timers_in ys)
+  among-rest : (xs ys : Rows) → IsNotAmong serial (row_timers (xs ++ ys)) → IsNotAmong serial (row_timers ys)
   among-rest [] ys a = a
   among-rest (x ∷ xs) ys a = among-rest xs ys a.1
 
-  among-pulled : (front xs rest : Rows) → IsNotAmong serial (timers_in (front ++ (xs ++ rest)))
-      → IsNotAmong serial (timers_in (xs ++ (front ++ rest)))
+  among-pulled : (front xs rest : Rows) → IsNotAmong serial (row_timers (front ++ (xs ++ rest)))
+      → IsNotAmong serial (row_timers (xs ++ (front ++ rest)))
   among-pulled front xs rest a =
       let b = among-rest front (xs ++ rest) a in
       among-append xs (front ++ rest) (among-front xs rest b) (among-append front rest (among-front front (xs ++ rest) a)
       (among-rest xs rest b))
 
 abbrev pub Distinct : Rows → Type 0
-Distinct rows = AreDistinct (timers_in rows)
+Distinct rows = AreDistinct (row_timers rows)
 
 -- removing a row
 distinct-taken : (xs : Rows) (x : Row) (ys : Rows) → Distinct (xs ++ x ∷ ys)
-    → IsNotAmong (timer_in x).serial (timers_in (xs ++ ys)) × Distinct (xs ++ ys)
+    → IsNotAmong (row_timer x).serial (row_timers (xs ++ ys)) × Distinct (xs ++ ys)
 distinct-taken xs x ys d =
-    let e : timers_in (xs ++ ys) ≡ timers_in xs ++ timers_in ys = timers-append xs ys in
-    let d2 : AreDistinct (timers_in xs ++ timer_in x ∷ timers_in ys) = subst AreDistinct (timers-append xs (x ∷ ys)) d in (
-      subst (IsNotAmong (timer_in x).serial) (sym e) (IsNotAmong-others (timer_in x) (timers_in xs) (timers_in ys) d2),
-      subst AreDistinct (sym e) (AreDistinct-taken (timer_in x) (timers_in xs) (timers_in ys) d2),
+    let e : row_timers (xs ++ ys) ≡ row_timers xs ++ row_timers ys = timers-append xs ys in
+    let d2 : AreDistinct (row_timers xs ++ row_timer x ∷ row_timers ys) = subst AreDistinct (timers-append xs (x ∷ ys)) d in (
+      subst (IsNotAmong (row_timer x).serial) (sym e) (IsNotAmong-others (row_timer x) (row_timers xs) (row_timers ys) d2),
+      subst AreDistinct (sym e) (AreDistinct-taken (row_timer x) (row_timers xs) (row_timers ys) d2),
     )
 
 -- inserting a row anywhere
 distinct-inserted : (xs : Rows) (x : Row) (ys : Rows) → Distinct (x ∷ (xs ++ ys)) → Distinct (xs ++ x ∷ ys)
 distinct-inserted [] x ys d = d
 distinct-inserted (z ∷ zs) x ys d =
-    let a = among-front (timer_in z).serial zs ys d.1.0 in
-    let b = among-rest (timer_in z).serial zs ys d.1.0 in
-    (among-append (timer_in z).serial zs (x ∷ ys) a ((λ e. d.0.0 (sym e)), b), distinct-inserted zs x ys (d.0.1, d.1.1))
+    let a = among-front (row_timer z).serial zs ys d.1.0 in
+    let b = among-rest (row_timer z).serial zs ys d.1.0 in
+    (among-append (row_timer z).serial zs (x ∷ ys) a ((λ e. d.0.0 (sym e)), b), distinct-inserted zs x ys (d.0.1, d.1.1))
 
 -- moving rows to the front
 pub in_order-pulled : (front xs rest : Rows) → Distinct (front ++ (xs ++ rest))
-    → in_order timer_in (front ++ (xs ++ rest)) ≡ in_order timer_in (xs ++ (front ++ rest))
+    → in_order row_timer (front ++ (xs ++ rest)) ≡ in_order row_timer (xs ++ (front ++ rest))
 in_order-pulled front [] rest d = refl
 in_order-pulled front (x ∷ xs) rest d =
     let t = distinct-taken front x (xs ++ rest) d in
-    in_order-anywhere timer_in x front (xs ++ rest) (among-front (timer_in x).serial front (xs ++ rest) t.0)
-    ∙ ap (insert_in_order timer_in x) (in_order-pulled front xs rest t.1)
+    in_order-anywhere row_timer x front (xs ++ rest) (among-front (row_timer x).serial front (xs ++ rest) t.0)
+    ∙ ap (insert_in_order row_timer x) (in_order-pulled front xs rest t.1)
 
 pub distinct-pulled : (front xs rest : Rows) → Distinct (front ++ (xs ++ rest)) → Distinct (xs ++ (front ++ rest))
 distinct-pulled front [] rest d = d
 distinct-pulled front (x ∷ xs) rest d =
     let t = distinct-taken front x (xs ++ rest) d in
-    (among-pulled (timer_in x).serial front xs rest t.0, distinct-pulled front xs rest t.1)
+    (among-pulled (row_timer x).serial front xs rest t.0, distinct-pulled front xs rest t.1)
 
 -- What is pending afterwards, in order.
 
 pub record AreMigrated (table : List ℕ) (tick : ℕ) (rows : Rows) (lists : KeyedLists) : Type 0 where
-  pub distinct : AreDistinct (timers_in (rows_below (slots table) (migrate_rows table tick rows lists)))
-  pub pending : in_order timer_in (rows_below (slots table) (migrate_rows table tick rows lists))
-      ≡ in_order timer_in (left_rows tick rows ++ rows_below (slots table) lists)
+  pub distinct : AreDistinct (row_timers (rows_below (slots table) (migrate_rows table tick rows lists)))
+  pub pending : in_order row_timer (rows_below (slots table) (migrate_rows table tick rows lists))
+      ≡ in_order row_timer (left_rows tick rows ++ rows_below (slots table) lists)
 
 -- where a row that is not due goes to
 abbrev pub GoesDown : List ℕ → ℕ → Row → Type 0
-GoesDown table tick row = is_due_at tick (timer_in row) ≡ false → bucket table tick (timer_in row).deadline < slots table
+GoesDown table tick row = is_due_at tick (row_timer row) ≡ false → bucket table tick (row_timer row).deadline < slots table
 
 migrate_rows_due : (table : List ℕ) (tick : ℕ) (x : Row) (xs : Rows) (lists : KeyedLists)
-    → is_due_at tick (timer_in x) ≡ true → Distinct ((x ∷ xs) ++ rows_below (slots table) lists)
+    → is_due_at tick (row_timer x) ≡ true → Distinct ((x ∷ xs) ++ rows_below (slots table) lists)
     → (Distinct (xs ++ rows_below (slots table) (with_row (slots table) x lists))
     → AreMigrated table tick xs (with_row (slots table) x lists)) → AreMigrated table tick (x ∷ xs) lists
 migrate_rows_due table tick x xs lists k d ih =
@@ -133,15 +133,15 @@ migrate_rows_due table tick x xs lists k d ih =
     let s = ih (subst (λ (rows : Rows). Distinct (xs ++ rows)) (sym e) d.1) in
     record {
       distinct = rw k s.distinct;
-      pending = rw k (s.pending ∙ ap (λ (rows : Rows). in_order timer_in (left_rows tick xs ++ rows)) e);
+      pending = rw k (s.pending ∙ ap (λ (rows : Rows). in_order row_timer (left_rows tick xs ++ rows)) e);
     }
 
-kept_left : (tick : ℕ) (x : Row) (xs rows : Rows) → is_due_at tick (timer_in x) ≡ false
-    → in_order timer_in (left_rows tick (x ∷ xs) ++ rows) ≡ insert_in_order timer_in x (in_order timer_in (left_rows tick xs ++ rows))
+kept_left : (tick : ℕ) (x : Row) (xs rows : Rows) → is_due_at tick (row_timer x) ≡ false
+    → in_order row_timer (left_rows tick (x ∷ xs) ++ rows) ≡ insert_in_order row_timer x (in_order row_timer (left_rows tick xs ++ rows))
 kept_left tick x xs rows k = rw k refl
 
 migrate_rows_left : (table : List ℕ) (tick : ℕ) (x : Row) (xs : Rows) (lists : KeyedLists) (l : ℕ)
-    → l ≡ bucket table tick (timer_in x).deadline → l < slots table → length lists ≡ slots table + 1 → is_due_at tick (timer_in x) ≡ false
+    → l ≡ bucket table tick (row_timer x).deadline → l < slots table → length lists ≡ slots table + 1 → is_due_at tick (row_timer x) ≡ false
     → Distinct ((x ∷ xs) ++ rows_below (slots table) lists)
     → (Distinct (xs ++ rows_below (slots table) (with_row l x lists)) → AreMigrated table tick xs (with_row l x lists))
     → AreMigrated table tick (x ∷ xs) lists
@@ -155,22 +155,22 @@ migrate_rows_left table tick x xs lists l le b len k d ih =
     append_assoc xs i.front (x ∷ i.rest) ∙ ap (λ (rows : Rows). xs ++ rows) (sym i.new_is) in
     let s = ih (subst Distinct e3 d3) in
     let ls : Rows = left_rows tick xs in
-    let n1 = IsNotAmong-part (timer_in x).serial (λ row. not (is_due_at tick (timer_in row))) xs
-    (among-front (timer_in x).serial xs (i.front ++ i.rest) d1.0) in
-    let n2 = among-front (timer_in x).serial i.front i.rest (among-rest (timer_in x).serial xs (i.front ++ i.rest) d1.0) in
+    let n1 = IsNotAmong-part (row_timer x).serial (λ row. not (is_due_at tick (row_timer row))) xs
+    (among-front (row_timer x).serial xs (i.front ++ i.rest) d1.0) in
+    let n2 = among-front (row_timer x).serial i.front i.rest (among-rest (row_timer x).serial xs (i.front ++ i.rest) d1.0) in
     let w : with_row (target table tick x) x lists ≡ with_row l x lists =
     ap (λ (v : ℕ). with_row v x lists) (target_left table tick x k ∙ sym le) in
     let moved = λ (ys : KeyedLists). rows_below (slots table) (migrate_rows table tick xs ys) in
     record {
       distinct = subst (λ (ys : KeyedLists). Distinct (moved ys)) (sym w) s.distinct;
       pending =
-          ap (λ (ys : KeyedLists). in_order timer_in (moved ys)) w
+          ap (λ (ys : KeyedLists). in_order row_timer (moved ys)) w
           ∙ (s.pending
-          ∙ (ap (λ (rows : Rows). in_order timer_in (ls ++ rows)) i.new_is
-          ∙ (ap (in_order timer_in) (sym (append_assoc ls i.front (x ∷ i.rest)))
-          ∙ (in_order-anywhere timer_in x (ls ++ i.front) i.rest (among-append (timer_in x).serial ls i.front n1 n2)
-          ∙ (ap (λ (rows : Rows). insert_in_order timer_in x (in_order timer_in rows)) (append_assoc ls i.front i.rest)
-          ∙ (ap (λ (rows : Rows). insert_in_order timer_in x (in_order timer_in (ls ++ rows))) (sym i.old_is)
+          ∙ (ap (λ (rows : Rows). in_order row_timer (ls ++ rows)) i.new_is
+          ∙ (ap (in_order row_timer) (sym (append_assoc ls i.front (x ∷ i.rest)))
+          ∙ (in_order-anywhere row_timer x (ls ++ i.front) i.rest (among-append (row_timer x).serial ls i.front n1 n2)
+          ∙ (ap (λ (rows : Rows). insert_in_order row_timer x (in_order row_timer rows)) (append_assoc ls i.front i.rest)
+          ∙ (ap (λ (rows : Rows). insert_in_order row_timer x (in_order row_timer (ls ++ rows))) (sym i.old_is)
           ∙ sym (kept_left tick x xs (rows_below (slots table) lists) k)))))));
     }
 
@@ -178,12 +178,12 @@ pub migrate_rows_keeps : (table : List ℕ) (tick : ℕ) (rows : Rows) (lists : 
     → length lists ≡ slots table + 1 → AllByRecursion (GoesDown table tick) rows → Distinct (rows ++ rows_below (slots table) lists)
     → AreMigrated table tick rows lists
 migrate_rows_keeps table tick [] lists len g d = record { distinct = d; pending = refl }
-migrate_rows_keeps table tick (x ∷ xs) lists len g d = elim (either (is_due_at tick (timer_in x))) [
+migrate_rows_keeps table tick (x ∷ xs) lists len g d = elim (either (is_due_at tick (row_timer x))) [
   | inl k ↦ migrate_rows_due table tick x xs lists k d
       (λ d2. migrate_rows_keeps table tick xs (with_row (slots table) x lists)
       (length-set lists (slots table) (list_at (slots table) lists ++ x ∷ []) ∙ len) g.1 d2)
   | inr k ↦
-      let l : ℕ = bucket table tick (timer_in x).deadline in
+      let l : ℕ = bucket table tick (row_timer x).deadline in
       migrate_rows_left table tick x xs lists l refl (g.0 k) len k d
       (λ d2. migrate_rows_keeps table tick xs (with_row l x lists) (length-set lists l (list_at l lists ++ x ∷ []) ∙ len) g.1 d2)
 ]

@@ -9,7 +9,7 @@ use Rattle.timer_base.specs.Pending.{is_due_at}
 use Rattle.timer_links.specs.declared.kept.Node.{Node}
 use Rattle.timer_links.specs.Lists.{list_at, with_row, row_count, front_moved, first_row_moved, appended, node_at, first_key, AreApart, IsNext, KeyedLists, Row, Rows}
 use Rattle.timer_wheels.specs.Digits.{slots, bucket}
-use Rattle.timer_wheels.specs.BucketLists.{timer_in}
+use Rattle.timer_wheels.specs.BucketLists.{row_timer}
 use Rattle.timer_wheels.specs.Migration.{target, migrate_rows, migrated, left_rows, first_deadline, second_deadline, MayMigrate, IsOfTick}
 use Rattle.timer_wheels.proofs.MigrationLemmas.{target_due, target_left}
 use Rattle.timer_wheels.proofs.RowLemmas.{append-nil, set_twice, set_swapped}
@@ -60,11 +60,11 @@ module _ (table : List ℕ) (l tick : ℕ) (lists : KeyedLists) (row : Row) (res
   length_same : length after ≡ length lists
   length_same = length-set (slice_set lists l rest) to (list_at to (slice_set lists l rest) ++ row ∷ []) ∙ length-set lists l rest
 
-due_more : (tick : ℕ) (row : Row) (rest : Rows) → is_due_at tick (timer_in row) ≡ true
+due_more : (tick : ℕ) (row : Row) (rest : Rows) → is_due_at tick (row_timer row) ≡ true
     → length (left_rows tick (row ∷ rest)) ≡ length (left_rows tick rest)
 due_more tick row rest k = rw k refl
 
-left_more : (tick : ℕ) (row : Row) (rest : Rows) → is_due_at tick (timer_in row) ≡ false
+left_more : (tick : ℕ) (row : Row) (rest : Rows) → is_due_at tick (row_timer row) ≡ false
     → length (left_rows tick (row ∷ rest)) ≡ suc (length (left_rows tick rest))
 left_more tick row rest k = rw k refl
 
@@ -73,7 +73,7 @@ pub record IsFirstRow (table : List ℕ) (l tick d : ℕ) (lists : KeyedLists) :
   pub row : Row
   pub rest : Rows
   pub at : list_at l lists ≡ row ∷ rest
-  pub deadline : (timer_in row).deadline ≡ d
+  pub deadline : (row_timer row).deadline ≡ d
   pub first : MayMigrate table tick l row
   pub others : AllByRecursion (MayMigrate table tick l) rest
 
@@ -84,7 +84,7 @@ first_in table l tick d lists (row ∷ rest) at a e = record {
   row = row;
   rest = rest;
   at = at;
-  deadline = some_same (timer_in row).deadline d e;
+  deadline = some_same (row_timer row).deadline d e;
   first = a.0;
   others = a.1;
 }
@@ -95,7 +95,7 @@ first_row {table} {l} {tick} {moves} {d} {old} {lists} s e = first_in table l ti
 
 none_first : (rows : Rows) → first_deadline rows ≡ None → rows ≡ []
 none_first [] e = refl
-none_first (x ∷ xs) e = absurd (some_none (timer_in x).deadline e)
+none_first (x ∷ xs) e = absurd (some_none (row_timer x).deadline e)
 
 pub record IsEmptied (table : List ℕ) (l tick moves : ℕ) (old lists : KeyedLists) : Type 0 where
   pub lists_are : lists ≡ migrated table tick l old
@@ -146,11 +146,11 @@ module _ {table : List ℕ} {l tick moves d : ℕ} {old lists : KeyedLists} (new
         few = omega (arith, s.few, count_is, ap (λ (y : Rows). length y) r);
       }
 
-  is_due_row : d ≡ tick → is_due_at tick (timer_in f.row) ≡ true
-  is_due_row e = eq-eqb (timer_in f.row).deadline tick (f.deadline ∙ e)
+  is_due_row : d ≡ tick → is_due_at tick (row_timer f.row) ≡ true
+  is_due_row e = eq-eqb (row_timer f.row).deadline tick (f.deadline ∙ e)
 
-  is_left_row : d ≢ tick → is_due_at tick (timer_in f.row) ≡ false
-  is_left_row n = ne_eqb (timer_in f.row).deadline tick (λ e. n (sym f.deadline ∙ e))
+  is_left_row : d ≢ tick → is_due_at tick (row_timer f.row) ≡ false
+  is_left_row n = ne_eqb (row_timer f.row).deadline tick (λ e. n (sym f.deadline ∙ e))
 
   -- the list that it goes to
   pub due_target : (to : ℕ) → to ≡ slots table → d ≡ tick → to ≡ target table tick f.row
@@ -192,7 +192,7 @@ migrate_rows_whole : (table : List ℕ) (tick : ℕ) (rows : Rows) (lists : Keye
 migrate_rows_whole table tick [] lists b a = sym (ap (slice_set lists (slots table)) (append-nil (list_at (slots table) lists))
     ∙ set-get_or lists (slots table) [])
 migrate_rows_whole table tick (x ∷ xs) lists b a =
-    let to : target table tick x ≡ slots table = target_due table tick x (eq-eqb (timer_in x).deadline tick a.0) in
+    let to : target table tick x ≡ slots table = target_due table tick x (eq-eqb (row_timer x).deadline tick a.0) in
     let had : Rows = list_at (slots table) lists in
     let more : KeyedLists = with_row (slots table) x lists in
     let b2 : slots table < length more = rw (length-set lists (slots table) (list_at (slots table) lists ++ x ∷ [])) b in
@@ -217,7 +217,7 @@ append_whole table k tick l lists e b h a =
 
 pub none_left_over : (tick : ℕ) (rows : Rows) → AllByRecursion (IsOfTick tick) rows → left_rows tick rows ≡ []
 none_left_over tick [] a = refl
-none_left_over tick (x ∷ xs) a = rw (eq-eqb (timer_in x).deadline tick a.0) (none_left_over tick xs a.1)
+none_left_over tick (x ∷ xs) a = rw (eq-eqb (row_timer x).deadline tick a.0) (none_left_over tick xs a.1)
 
 -- The first two rows, by their keys.
 

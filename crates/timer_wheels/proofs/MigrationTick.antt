@@ -6,7 +6,7 @@ use Rattle.std.proofs.lemmas.Nat.{div-mul-add, mod-mul-add}
 use Rattle.timer_base.specs.WheelState.{IsPending}
 use Rattle.timer_links.specs.Lists.{list_at, KeyedLists, Rows}
 use Rattle.timer_links.specs.declared.kept.Kept.{Ghosts}
-use Rattle.timer_wheels.specs.BucketLists.{timer_in}
+use Rattle.timer_wheels.specs.BucketLists.{row_timer}
 use Rattle.timer_wheels.specs.declared.table.TheConstants.{MOST_BUCKETS}
 use Rattle.timer_wheels.specs.declared.table.Table.{Table}
 use Rattle.timer_wheels.specs.Buckets.{state_of}
@@ -49,11 +49,11 @@ visit_empties (r ∷ rs) a d t i h = elim (cases_eq (a / r) (d / r)) [
 
 module _ {N : Type 0} {kept : Ghosts N} {t : Table} {b : Buckets N kept} {words : List ℕ} (h : IsHier t b words) where
   first_row_is : (l : ℕ) (rows : Rows) → filled rows ≡ 1
-      → AllByRecursion (λ row. IsPending b.last_tick b.tick b.last_serial (timer_in row)) rows
+      → AllByRecursion (λ row. IsPending b.last_tick b.tick b.last_serial (row_timer row)) rows
       → AllByRecursion (IsPlaced (radices t) b.tick l) rows → l ≡ emptied (radices t) (list_visit (radices t) l b.tick)
   first_row_is l [] e p q = absurd (omega arith)
   first_row_is l (r ∷ rs) e p q =
-      let d : ℕ = (timer_in r).deadline in
+      let d : ℕ = (row_timer r).deadline in
       let i : HasDigits (radices t) d =
       digits_down (radices t) d b.last_tick (of_table t).is_table p.0.in_range (last_digits h) in
       let v : list_visit (radices t) l b.tick ≡ timer_visit (radices t) b.tick d =
@@ -67,7 +67,7 @@ module _ {N : Type 0} {kept : Ghosts N} {t : Table} {b : Buckets N kept} {words 
   first_empties l visit e f =
       let c = first_in h l f.0 f.1 in
       first_row_is l (list_at l b.links.lists) (sym (h.marked.0 l c) ∙ f.1)
-      (all-list_at (λ row. IsPending b.last_tick b.tick b.last_serial (timer_in row)) b.slots b.links.lists b.sound.pending l c)
+      (all-list_at (λ row. IsPending b.last_tick b.tick b.last_serial (row_timer row)) b.slots b.links.lists b.sound.pending l c)
       (h.placed l c) ∙ ap (emptied (radices t)) (sym e)
 
 module _ {N : Type 0} {kept : Ghosts N} {t : Table} {b : Buckets N kept} {words : List ℕ} (h : IsHier t b words) (z : (state_of b).due ≡ []) (l : b.tick < b.last_tick) where

@@ -6,7 +6,7 @@ use Rattle.timer_links.specs.Lists.{list_at, row_count, KeyedLists}
 use Rattle.timer_wheels.specs.Bank.{next_len, potential_of, OthersShrink}
 use Rattle.timer_wheels.specs.Digits.{IsTable, weight, lowest_radix}
 use Rattle.timer_wheels.specs.Paces.{pace_at, sum_below, pace_sum, pace_for, FitPaces, HasMoved}
-use Rattle.timer_wheels.specs.Smooth.{slot_in, next_list, ticks_left}
+use Rattle.timer_wheels.specs.Smooth.{slot_in, next_list, ticks_to_half}
 use Rattle.timer_wheels.specs.Tables.{radices}
 use Rattle.timer_links.specs.declared.ring.TheConstants.{INDEXES}
 use Rattle.timer_links.specs.declared.kept.Kept.{Ghosts}
@@ -74,10 +74,10 @@ one_of_rows (suc l) (rows ∷ lists) = omega (arith, one_of_rows l lists)
 -- it is enough for all timers that are held
 pub enough : {N : Type 0} {kept : Ghosts N} (t : Table) (b : Buckets N kept) (k n : ℕ) → 0 < k → n ≡ row_count b.links.lists
     → slot_in (radices t) k b.tick * weight k (radices t) ≡ b.tick
-    → next_len t b k ≤ pace_for (radices t) n k * ticks_left (radices t) b.tick k
+    → next_len t b k ≤ pace_for (radices t) n k * ticks_to_half (radices t) b.tick k
 enough t b k n z e h =
     let half = halves t k (of_table t).is_table z in
-    let p : n ≤ pace_for (radices t) n k * ticks_left (radices t) b.tick k =
+    let p : n ≤ pace_for (radices t) n k * ticks_to_half (radices t) b.tick k =
     pace_begun (radices t) k b.tick n half.half half.is half.some h in
     let one = one_of_rows (next_list (radices t) b.tick k) b.links.lists in
     omega arith
@@ -148,6 +148,6 @@ none_to_move t b paces e k l =
 -- the paces of the wheels up to w are fixed
 pub record AreFixed {N : Type 0} {kept : Ghosts N} (t : Table) (b : Buckets N kept) (paces paces2 : List ℕ) (w : ℕ) : Type 0 where
   pub begun : (k : ℕ) → 0 < k → k < w → k < length (radices t) → slot_in (radices t) k b.tick * weight k (radices t) ≡ b.tick
-      → next_len t b k ≤ pace_at paces2 k * ticks_left (radices t) b.tick k
+      → next_len t b k ≤ pace_at paces2 k * ticks_to_half (radices t) b.tick k
   pub others : (k : ℕ) → slot_in (radices t) k b.tick * weight k (radices t) ≢ b.tick → pace_at paces2 k ≡ pace_at paces k
   pub fit : (n : ℕ) → row_count b.links.lists ≤ n → FitPaces (radices t) n paces → FitPaces (radices t) n paces2

@@ -11,7 +11,7 @@ use Rattle.timer_base.specs.WheelState.{IsPassing, WheelState, IsPending, Advanc
 use Rattle.timer_base.proofs.TickLaws.{after_ticks-now, after_ticks-last, after_ticks-add, passing_quiet}
 use Rattle.timer_links.specs.Lists.{list_at, KeyedLists, Row, Rows}
 use Rattle.timer_wheels.specs.BucketLaws.{timers_of-entries}
-use Rattle.timer_wheels.specs.BucketLists.{timer_in, timers_in, entry_of, entries_of, rows_below, pending_in, wheel_state, ArePending, AreInOrder, AreBuckets, EachRow}
+use Rattle.timer_wheels.specs.BucketLists.{row_timer, row_timers, entry_of, entries_of, rows_below, pending_in, wheel_state, ArePending, AreInOrder, AreBuckets, EachRow}
 use Rattle.timer_wheels.specs.Hashed.{AreInBuckets}
 use Rattle.timer_wheels.specs.Sweep.{HasRoundsLeft, with_fewer_rounds}
 use Rattle.timer_wheels.proofs.AllLemmas.{all-both, all-map}
@@ -39,17 +39,17 @@ same_slot_after n now k tick e = ap (λ (y : ℕ). y % n) e ∙ add-mul-mod_self
 after_row : (n last_tick now last k s tick : ℕ) (row : Row) → 0 < n → tick ≡ now + k * n → StaysIn n last_tick now last s row
     → HasRoundsLeft k row → StaysIn n last_tick tick last s (with_fewer_rounds k row)
 after_row n last_tick now last k s tick row z e c h =
-    let q : ℕ = ((timer_in row).deadline - now - 1) / n in
+    let q : ℕ = ((row_timer row).deadline - now - 1) / n in
     let rounds : row.1.rounds ≡ q = c.1.1 in
-    let f = fewer_rounds k tick (distance n now (timer_in row).deadline z c.0.later) (omega arith) e in
+    let f = fewer_rounds k tick (distance n now (row_timer row).deadline z c.0.later) (omega arith) e in
     let less : row.1.rounds - k ≡ q - k = ap (λ (y : ℕ). y - k) rounds in
     (record { later = f.0; in_range = c.0.in_range; serial = c.0.serial }, (c.1.0, less ∙ sym f.1))
 
 -- pending timers are after now, and after each tick before it
 later_entries : (last_tick now last tick : ℕ) (rows : Rows) → tick ≤ now → ArePending last_tick now last rows → AreAfter tick (pending_in rows)
 later_entries last_tick now last tick rows h p = All-in_order timer_of (λ entry. tick < entry.timer.deadline) (entries_of rows)
-    (all-map entry_of (λ entry. tick < entry.timer.deadline) rows (All-weaken (λ row. IsPending last_tick now last (timer_in row))
-    (λ row. tick < (timer_in row).deadline) rows (λ row q. omega (arith, q.later)) p))
+    (all-map entry_of (λ entry. tick < entry.timer.deadline) rows (All-weaken (λ row. IsPending last_tick now last (row_timer row))
+    (λ row. tick < (row_timer row).deadline) rows (λ row q. omega (arith, q.later)) p))
 
 pub quiet_now : (n last_tick now last : ℕ) (lists : KeyedLists) → ArePending last_tick now last (rows_below n lists)
     → AreAfter (now + 0) (pending_in (rows_below n lists))
@@ -70,7 +70,7 @@ module _ {n last_tick now last : ℕ} {old : KeyedLists} (a : AreBuckets n last_
   entries = entries_below (λ (es : List Entry). es) n old new refl (λ xs ys. refl) (sym len)
       (λ s h. ap entries_of (counted s h) ∙ entries-fewer k (list_at s old))
 
-  timers : timers_in (rows_below n new) ≡ timers_in (rows_below n old)
+  timers : row_timers (rows_below n new) ≡ row_timers (rows_below n old)
   timers = sym (timers_of-entries (rows_below n new)) ∙ (ap (map timer_of) entries ∙ timers_of-entries (rows_below n old))
 
   pub skipped : wheel_state n last_tick tick last new ≡ record (wheel_state n last_tick now last old) { now = tick }

@@ -11,7 +11,7 @@ use Rattle.timer_base.proofs.OrderLaws.{All-weaken}
 pub use Rattle.timer_base.proofs.OrderLaws.{All-append as all-append}
 use Rattle.timer_base.specs.Pending.{Entry}
 use Rattle.timer_links.specs.Lists.{list_at, with_row, without_key, KeyedLists, Row, Rows}
-use Rattle.timer_wheels.specs.BucketLists.{timer_in, timers_in, entry_of, entries_of, rows_below}
+use Rattle.timer_wheels.specs.BucketLists.{row_timer, row_timers, entry_of, entries_of, rows_below}
 
 -- Facts of every row.
 
@@ -123,8 +123,8 @@ list_at-without_key (suc s) key (x ∷ xs) = list_at-without_key s key xs
 
 -- Rows, entries and timers.
 
-pub timers-append : (xs ys : Rows) → timers_in (xs ++ ys) ≡ timers_in xs ++ timers_in ys
-timers-append xs ys = map-append timer_in xs ys
+pub timers-append : (xs ys : Rows) → row_timers (xs ++ ys) ≡ row_timers xs ++ row_timers ys
+timers-append xs ys = map-append row_timer xs ys
 
 pub entries-append : (xs ys : Rows) → entries_of (xs ++ ys) ≡ entries_of xs ++ entries_of ys
 entries-append xs ys = map-append entry_of xs ys
@@ -177,12 +177,12 @@ rows_below-more (suc n) (x ∷ xs) h = ap (λ (y : Rows). x ++ y) (rows_below-mo
 
 -- the timers copied from one more list
 pub timers_below-more : (n : ℕ) (lists : KeyedLists) (old new : List Timer) → n < length lists
-    → old ≡ timers_in (rows_below n lists) → new ≡ old ++ timers_in (list_at n lists) → new ≡ timers_in (rows_below (n + 1) lists)
+    → old ≡ row_timers (rows_below n lists) → new ≡ old ++ row_timers (list_at n lists) → new ≡ row_timers (rows_below (n + 1) lists)
 timers_below-more n lists old new h a b =
     let e : n + 1 ≡ suc n = omega arith in
-    b ∙ (ap (λ (y : List Timer). y ++ timers_in (list_at n lists)) a
+    b ∙ (ap (λ (y : List Timer). y ++ row_timers (list_at n lists)) a
     ∙ (sym (timers-append (rows_below n lists) (list_at n lists))
-    ∙ ap timers_in (sym (ap (λ (y : ℕ). rows_below y lists) e ∙ rows_below-more n lists h))))
+    ∙ ap row_timers (sym (ap (λ (y : ℕ). rows_below y lists) e ∙ rows_below-more n lists h))))
 
 -- more lists have as many rows at least
 pub length-rows_below : (n m : ℕ) (lists : KeyedLists) → n ≤ m → length (rows_below n lists) ≤ length (rows_below m lists)

@@ -10,9 +10,9 @@ use Rattle.timer_base.proofs.OrderLaws.{insert_in_order-commutes, in_order-same,
 use Rattle.timer_base.specs.Pending.{Entry, timer_of}
 use Rattle.timer_base.specs.WheelState.{WheelState}
 use Rattle.timer_links.specs.Lists.{list_at, KeyedLists, Row, Rows}
-use Rattle.timer_wheels.specs.BucketLists.{timer_in, timers_in, entries_of, rows_below, pending_in, wheel_state, AreInOrder, EachRow}
+use Rattle.timer_wheels.specs.BucketLists.{row_timer, row_timers, entries_of, rows_below, pending_in, wheel_state, AreInOrder, EachRow}
 use Rattle.timer_wheels.specs.BucketLaws.{timers_of-entries}
-use Rattle.timer_wheels.specs.Shown.{without_deadline, by_serial, row_of, entries_at, ShowsBuckets}
+use Rattle.timer_wheels.specs.Shown.{without_deadline, by_serial, row_of_entry, entries_at, ShowsBuckets}
 use Rattle.timer_wheels.proofs.AllLemmas.{filter_none, filter_each}
 use Rattle.timer_wheels.proofs.RowLemmas.{append-nil, filter-append}
 use Rattle.timer_wheels.proofs.BucketLemmas.{filter-pending_in}
@@ -73,54 +73,54 @@ at_zero : (rows : Rows) → AllAt 0 (map without_deadline (entries_of rows))
 at_zero [] = tt
 at_zero (x ∷ xs) = (refl, at_zero xs)
 
-rising_too : (low : ℕ) (rows : Rows) → AreRising low (timers_in rows) → AreRising low (map without_deadline (entries_of rows))
+rising_too : (low : ℕ) (rows : Rows) → AreRising low (row_timers rows) → AreRising low (map without_deadline (entries_of rows))
 rising_too low [] r = tt
-rising_too low (x ∷ xs) r = (r.0, rising_too (timer_in x).serial xs r.1)
+rising_too low (x ∷ xs) r = (r.0, rising_too (row_timer x).serial xs r.1)
 
 -- rows in order of starting are by serial
-pub by_serial-pending_in : (rows : Rows) → AreRising 0 (timers_in rows) → by_serial (pending_in rows) ≡ entries_of rows
+pub by_serial-pending_in : (rows : Rows) → AreRising 0 (row_timers rows) → by_serial (pending_in rows) ≡ entries_of rows
 by_serial-pending_in rows r =
-    by_serial-in_order (entries_of rows) (rw (timers_of-entries rows) (AreDistinct-rising 0 (timers_in rows) r))
+    by_serial-in_order (entries_of rows) (rw (timers_of-entries rows) (AreDistinct-rising 0 (row_timers rows) r))
     ∙ in_order-same without_deadline 0 0 (entries_of rows) (at_zero rows) (rising_too 0 rows r)
 
 -- Each row stands in its timer's bucket.
 
 -- the invariant of a row of bucket s
 abbrev pub IsAt : (Timer → ℕ) → (Timer → ℕ) → ℕ → Row → Type 0
-IsAt bucket_of rounds_of s row = (bucket_of (timer_in row) ≡ s) × (row.1.rounds ≡ rounds_of (timer_in row))
+IsAt bucket_of rounds_of s row = (bucket_of (row_timer row) ≡ s) × (row.1.rounds ≡ rounds_of (row_timer row))
 
 rows_again : (bucket_of rounds_of : Timer → ℕ) (s : ℕ) (rows : Rows) → AllByRecursion (IsAt bucket_of rounds_of s) rows
-    → map (row_of rounds_of) (entries_of rows) ≡ rows
+    → map (row_of_entry rounds_of) (entries_of rows) ≡ rows
 rows_again bucket_of rounds_of s [] a = refl
 rows_again bucket_of rounds_of s (x ∷ xs) a =
-    ap (λ (k : ℕ). (x.0, record x.1 { rounds = k }) ∷ map (row_of rounds_of) (entries_of xs)) (sym a.0.1)
+    ap (λ (k : ℕ). (x.0, record x.1 { rounds = k }) ∷ map (row_of_entry rounds_of) (entries_of xs)) (sym a.0.1)
     ∙ ap (λ (r : Rows). x ∷ r) (rows_again bucket_of rounds_of s xs a.1)
 
 module _ (n : ℕ) (bucket_of rounds_of : Timer → ℕ) (lists : KeyedLists) (len : length lists
     ≡ n + 1) (each : EachRow (IsAt bucket_of rounds_of) n lists) where
-  other_rows : (s t : ℕ) → t < n → t ≢ s → AllByRecursion (λ row. (bucket_of (timer_in row) == s) ≡ false) (list_at t lists)
-  other_rows s t h e = All-weaken (IsAt bucket_of rounds_of t) (λ row. (bucket_of (timer_in row) == s)
-      ≡ false) (list_at t lists) (λ row a. ne_eqb (bucket_of (timer_in row)) s (λ (q : bucket_of (timer_in row) ≡ s). e (sym a.0 ∙ q)))
+  other_rows : (s t : ℕ) → t < n → t ≢ s → AllByRecursion (λ row. (bucket_of (row_timer row) == s) ≡ false) (list_at t lists)
+  other_rows s t h e = All-weaken (IsAt bucket_of rounds_of t) (λ row. (bucket_of (row_timer row) == s)
+      ≡ false) (list_at t lists) (λ row a. ne_eqb (bucket_of (row_timer row)) s (λ (q : bucket_of (row_timer row) ≡ s). e (sym a.0 ∙ q)))
       (each t h)
 
-  these_rows : (s : ℕ) → s < n → AllByRecursion (λ row. (bucket_of (timer_in row) == s) ≡ true) (list_at s lists)
-  these_rows s h = All-weaken (IsAt bucket_of rounds_of s) (λ row. (bucket_of (timer_in row) == s)
-      ≡ true) (list_at s lists) (λ row a. eq-eqb (bucket_of (timer_in row)) s a.0) (each s h)
+  these_rows : (s : ℕ) → s < n → AllByRecursion (λ row. (bucket_of (row_timer row) == s) ≡ true) (list_at s lists)
+  these_rows s h = All-weaken (IsAt bucket_of rounds_of s) (λ row. (bucket_of (row_timer row) == s)
+      ≡ true) (list_at s lists) (λ row a. eq-eqb (bucket_of (row_timer row)) s a.0) (each s h)
 
   -- the pending timers of one bucket are those of its list
   pub entries_at-pending : (s : ℕ) → s < n → entries_at bucket_of s (pending_in (rows_below n lists)) ≡ pending_in (list_at s lists)
   entries_at-pending s h =
       filter-pending_in (λ (entry : Entry). bucket_of entry.timer == s) (rows_below n lists)
-      ∙ ap pending_in (filter-one_list (λ (row : Row). bucket_of (timer_in row) == s) n s lists h (omega arith) (other_rows s)
-      ∙ filter_each (λ (row : Row). bucket_of (timer_in row) == s) (list_at s lists) (these_rows s h))
+      ∙ ap pending_in (filter-one_list (λ (row : Row). bucket_of (row_timer row) == s) n s lists h (omega arith) (other_rows s)
+      ∙ filter_each (λ (row : Row). bucket_of (row_timer row) == s) (list_at s lists) (these_rows s h))
 
   pub shows : (last_tick now last : ℕ) → AreInOrder (n + 1) lists
       → ShowsBuckets n bucket_of rounds_of (wheel_state n last_tick now last lists) lists
   shows last_tick now last o = record {
     count = len;
     buckets = λ s h. sym (
-        ap (λ (y : List Entry). map (row_of rounds_of) (by_serial y)) (entries_at-pending s h)
-        ∙ (ap (map (row_of rounds_of)) (by_serial-pending_in (list_at s lists) (o s (omega arith)))
+        ap (λ (y : List Entry). map (row_of_entry rounds_of) (by_serial y)) (entries_at-pending s h)
+        ∙ (ap (map (row_of_entry rounds_of)) (by_serial-pending_in (list_at s lists) (o s (omega arith)))
         ∙ rows_again bucket_of rounds_of s (list_at s lists) (each s h)));
     due = refl;
   }
@@ -132,5 +132,5 @@ pub some_at : (n : ℕ) (bucket_of rounds_of : Timer → ℕ) (w : WheelState) (
 some_at n bucket_of rounds_of w lists h s b k =
     let entries : List Entry = entries_at bucket_of s w.pending in
     let x : length (list_at s lists) ≡ length entries = ap length (h.buckets s b)
-    ∙ (length-map (by_serial entries) (row_of rounds_of) ∙ length-in_order without_deadline entries) in
+    ∙ (length-map (by_serial entries) (row_of_entry rounds_of) ∙ length-in_order without_deadline entries) in
     omega arith

@@ -8,11 +8,11 @@ use Rattle.timer_base.specs.WheelState.{IsPending}
 use Rattle.timer_links.specs.Lists.{list_at, Row, Rows}
 use Rattle.timer_links.specs.declared.kept.Kept.{Ghosts}
 use Rattle.timer_wheels.specs.Bank.{IsBank, next_len}
-use Rattle.timer_wheels.specs.BucketLists.{timer_in, EachRow}
+use Rattle.timer_wheels.specs.BucketLists.{row_timer, EachRow}
 use Rattle.timer_wheels.specs.Digits.{IsTable, HasDigits, weight, radix}
 use Rattle.timer_wheels.specs.Occupied.{bit_of}
 use Rattle.timer_wheels.specs.Smooth.{slot_in, smooth_list, next_list, mark, IsSmooth, Stands, IsAheadOf}
-use Rattle.timer_wheels.specs.SmoothAhead.{IsFirst, event_tick, IsEventFrom}
+use Rattle.timer_wheels.specs.SmoothAhead.{IsFirstFilledSlot, event_tick, IsEventFrom}
 use Rattle.timer_wheels.specs.Tables.{radices}
 use Rattle.timer_wheels.specs.declared.buckets.Buckets.{Buckets}
 use Rattle.timer_wheels.specs.declared.table.Table.{Table}
@@ -61,21 +61,21 @@ module _ {N : Type 0} {kept : Ghosts N} (t : Table) (b : Buckets N kept) (words 
   placed = to_relation (radices t) b.last_tick b.tick b.last_serial (mark (radices t) b.tick b.links.lists) table digits b.slots b.links.lists
       b.sound h.placed
 
-  on_own : (k s : ℕ) (row : Row) → Stands (radices t) b.tick (mark (radices t) b.tick b.links.lists) s k (timer_in row)
-      → IsOn (radices t) b.tick k (timer_in row)
+  on_own : (k s : ℕ) (row : Row) → Stands (radices t) b.tick (mark (radices t) b.tick b.links.lists) s k (row_timer row)
+      → IsOn (radices t) b.tick k (row_timer row)
   on_own k s row st = record {
     ahead = st.ahead;
-    within = ahead_within (radices t) b.tick k (timer_in row).deadline table (record { wheel = st.wheel; ahead = st.ahead; near = st.near });
+    within = ahead_within (radices t) b.tick k (row_timer row).deadline table (record { wheel = st.wheel; ahead = st.ahead; near = st.near });
   }
 
   -- a row of a list of wheel k stands there
   pub on_wheel : (s k i : ℕ) (row : Row) → k < length (radices t) → s ≡ smooth_list (radices t) k i
       → IsSmooth (radices t) b.tick (mark (radices t) b.tick b.links.lists) s row
-      → IsOn (radices t) b.tick k (timer_in row)
+      → IsOn (radices t) b.tick k (row_timer row)
   on_wheel s k i row l e p =
-      let w : p.on ≡ k = one_wheel (radices t) p.on k (slot_in (radices t) p.on (timer_in row).deadline) i table (turns_of_table t) p.stands.wheel l
+      let w : p.on ≡ k = one_wheel (radices t) p.on k (slot_in (radices t) p.on (row_timer row).deadline) i table (turns_of_table t) p.stands.wheel l
       (sym p.stands.at_list ∙ e) in
-      subst (λ (x : ℕ). IsOn (radices t) b.tick x (timer_in row)) w (on_own p.on s row p.stands)
+      subst (λ (x : ℕ). IsOn (radices t) b.tick x (row_timer row)) w (on_own p.on s row p.stands)
 
   same_rests : (x y z : ℕ) → smooth_list (radices t) x y ≡ smooth_list (radices t) x z
       → y % (2 * radix x (radices t)) ≡ z % (2 * radix x (radices t))
@@ -83,21 +83,21 @@ module _ {N : Type 0} {kept : Ghosts N} (t : Table) (b : Buckets N kept) (words 
 
   at_own : (s k i : ℕ) (row : Row) → k < length (radices t) → s ≡ smooth_list (radices t) k i
       → IsSmooth (radices t) b.tick (mark (radices t) b.tick b.links.lists) s row
-      → s ≡ smooth_list (radices t) k (slot_in (radices t) k (timer_in row).deadline)
+      → s ≡ smooth_list (radices t) k (slot_in (radices t) k (row_timer row).deadline)
   at_own s k i row l e p =
-      let w : p.on ≡ k = one_wheel (radices t) p.on k (slot_in (radices t) p.on (timer_in row).deadline) i table (turns_of_table t) p.stands.wheel l
+      let w : p.on ≡ k = one_wheel (radices t) p.on k (slot_in (radices t) p.on (row_timer row).deadline) i table (turns_of_table t) p.stands.wheel l
       (sym p.stands.at_list ∙ e) in
-      p.stands.at_list ∙ ap (λ (x : ℕ). smooth_list (radices t) x (slot_in (radices t) x (timer_in row).deadline)) w
+      p.stands.at_list ∙ ap (λ (x : ℕ). smooth_list (radices t) x (slot_in (radices t) x (row_timer row).deadline)) w
 
   -- and if the slot is within two revolutions, it is in that slot
   pub in_slot : (s k i : ℕ) (row : Row) → k < length (radices t) → s ≡ smooth_list (radices t) k i → slot_in (radices t) k b.tick < i
       → i < slot_in (radices t) k b.tick + 2 * radix k (radices t)
-      → IsSmooth (radices t) b.tick (mark (radices t) b.tick b.links.lists) s row → slot_in (radices t) k (timer_in row).deadline ≡ i
+      → IsSmooth (radices t) b.tick (mark (radices t) b.tick b.links.lists) s row → slot_in (radices t) k (row_timer row).deadline ≡ i
   in_slot s k i row l e a c p =
       let o = on_wheel s k i row l e p in
-      same_rest_of (2 * radix k (radices t)) (slot_in (radices t) k b.tick) (slot_in (radices t) k (timer_in row).deadline) i
+      same_rest_of (2 * radix k (radices t)) (slot_in (radices t) k b.tick) (slot_in (radices t) k (row_timer row).deadline) i
       (omega (arith, radix_above (radices t) k table)) o.ahead a o.within c
-      (same_rests k (slot_in (radices t) k (timer_in row).deadline) i (sym (at_own s k i row l e p) ∙ e))
+      (same_rests k (slot_in (radices t) k (row_timer row).deadline) i (sym (at_own s k i row l e p) ∙ e))
 
   -- First slots.
 
@@ -129,15 +129,15 @@ module _ {N : Type 0} {kept : Ghosts N} (t : Table) (b : Buckets N kept) (words 
   begun_by : (k i : ℕ) (rows : Rows) → k < length (radices t) → slot_in (radices t) k b.tick < i
       → i < slot_in (radices t) k b.tick + 2 * radix k (radices t) → 0 < length rows
       → AllByRecursion (IsSmooth (radices t) b.tick (mark (radices t) b.tick b.links.lists) (smooth_list (radices t) k i)) rows
-      → AllByRecursion (λ row. IsPending b.last_tick b.tick b.last_serial (timer_in row)) rows → i * weight k (radices t) ≤ b.last_tick
+      → AllByRecursion (λ row. IsPending b.last_tick b.tick b.last_serial (row_timer row)) rows → i * weight k (radices t) ≤ b.last_tick
   begun_by k i [] l a c z p q = absurd (omega arith)
   begun_by k i (x ∷ xs) l a c z p q =
-      let e : slot_in (radices t) k (timer_in x).deadline ≡ i = in_slot (smooth_list (radices t) k i) k i x l refl a c p.0 in
-      let f : slot_in (radices t) k (timer_in x).deadline * weight k (radices t) ≡ i * weight k (radices t) =
+      let e : slot_in (radices t) k (row_timer x).deadline ≡ i = in_slot (smooth_list (radices t) k i) k i x l refl a c p.0 in
+      let f : slot_in (radices t) k (row_timer x).deadline * weight k (radices t) ≡ i * weight k (radices t) =
       ap (λ (y : ℕ). y * weight k (radices t)) e in
-      let g : slot_in (radices t) k (timer_in x).deadline * weight k (radices t) ≤ (timer_in x).deadline =
-      div-mul-le_self (timer_in x).deadline (weight k (radices t)) in
-      let r : (timer_in x).deadline ≤ b.last_tick = q.0.in_range in
+      let g : slot_in (radices t) k (row_timer x).deadline * weight k (radices t) ≤ (row_timer x).deadline =
+      div-mul-le_self (row_timer x).deadline (weight k (radices t)) in
+      let r : (row_timer x).deadline ≤ b.last_tick = q.0.in_range in
       omega arith
 
   pub begins_in_range : (k i : ℕ) → k < length (radices t) → slot_in (radices t) k b.tick < i
@@ -145,15 +145,15 @@ module _ {N : Type 0} {kept : Ghosts N} (t : Table) (b : Buckets N kept) (words 
       → i * weight k (radices t) ≤ b.last_tick
   begins_in_range k i l a c z = begun_by k i (list_at (smooth_list (radices t) k i) b.links.lists) l a c z
       (placed (smooth_list (radices t) k i) (ranges k i l))
-      (all-list_at (λ row. IsPending b.last_tick b.tick b.last_serial (timer_in row)) b.slots b.links.lists b.sound.pending
+      (all-list_at (λ row. IsPending b.last_tick b.tick b.last_serial (row_timer row)) b.slots b.links.lists b.sound.pending
       (smooth_list (radices t) k i) (ranges k i l))
 
   -- a row is in the first slot of its wheel or a later one
-  pub not_before : (k slot s : ℕ) (row : Row) → IsFirst (radices t) b.tick k b.links.lists slot → k < length (radices t)
-      → s ≡ smooth_list (radices t) k (slot_in (radices t) k (timer_in row).deadline) → 0 < length (list_at s b.links.lists)
-      → IsSmooth (radices t) b.tick (mark (radices t) b.tick b.links.lists) s row → slot ≤ slot_in (radices t) k (timer_in row).deadline
+  pub not_before : (k slot s : ℕ) (row : Row) → IsFirstFilledSlot (radices t) b.tick k b.links.lists slot → k < length (radices t)
+      → s ≡ smooth_list (radices t) k (slot_in (radices t) k (row_timer row).deadline) → 0 < length (list_at s b.links.lists)
+      → IsSmooth (radices t) b.tick (mark (radices t) b.tick b.links.lists) s row → slot ≤ slot_in (radices t) k (row_timer row).deadline
   not_before k slot s row f l e z p =
-      let i : ℕ = slot_in (radices t) k (timer_in row).deadline in
+      let i : ℕ = slot_in (radices t) k (row_timer row).deadline in
       let o = on_wheel s k i row l e p in
       elim (cases_lt i slot) [
         | inl c ↦ absurd (none_in (list_at s b.links.lists) z
@@ -175,19 +175,19 @@ module _ {N : Type 0} {kept : Ghosts N} (t : Table) (b : Buckets N kept) (words 
     each_both [] p q = tt
     each_both (x ∷ xs) p q = (record { smooth = p.0; before = q.0 }, each_both xs p.1 q.1)
 
-  pub events_some : (tick tick2 w slot : ℕ) → w < length (radices t) → IsFirst (radices t) b.tick w b.links.lists slot → tick2 ≤ tick
+  pub events_some : (tick tick2 w slot : ℕ) → w < length (radices t) → IsFirstFilledSlot (radices t) b.tick w b.links.lists slot → tick2 ≤ tick
       → tick2 ≤ event_tick (radices t) w slot → EachRow (IsEventFrom (radices t) tick w) b.slots b.links.lists
       → EachRow (IsEventFrom (radices t) tick2 (w + 1)) b.slots b.links.lists
   events_some tick tick2 w slot l f a c g s m = each_with_rows (Seen tick w s) (IsEventFrom (radices t) tick2 (w + 1) s)
       (list_at s b.links.lists) (λ z row p k d n e. elim (cases_eq k w) [
         | inl q ↦
-            let at : s ≡ smooth_list (radices t) w (slot_in (radices t) w (timer_in row).deadline) =
-            e ∙ ap (λ (x : ℕ). smooth_list (radices t) x (slot_in (radices t) x (timer_in row).deadline)) q in
-            let le : slot ≤ slot_in (radices t) w (timer_in row).deadline = not_before w slot s row f l at z p.smooth in
-            let ev : event_tick (radices t) w slot ≤ event_tick (radices t) w (slot_in (radices t) w (timer_in row).deadline) =
-            event_mono (radices t) w slot (slot_in (radices t) w (timer_in row).deadline) le in
-            subst (λ (x : ℕ). tick2 ≤ event_tick (radices t) x (slot_in (radices t) x (timer_in row).deadline)) (sym q)
-            (let r : tick2 ≤ event_tick (radices t) w (slot_in (radices t) w (timer_in row).deadline) = omega arith in r)
+            let at : s ≡ smooth_list (radices t) w (slot_in (radices t) w (row_timer row).deadline) =
+            e ∙ ap (λ (x : ℕ). smooth_list (radices t) x (slot_in (radices t) x (row_timer row).deadline)) q in
+            let le : slot ≤ slot_in (radices t) w (row_timer row).deadline = not_before w slot s row f l at z p.smooth in
+            let ev : event_tick (radices t) w slot ≤ event_tick (radices t) w (slot_in (radices t) w (row_timer row).deadline) =
+            event_mono (radices t) w slot (slot_in (radices t) w (row_timer row).deadline) le in
+            subst (λ (x : ℕ). tick2 ≤ event_tick (radices t) x (slot_in (radices t) x (row_timer row).deadline)) (sym q)
+            (let r : tick2 ≤ event_tick (radices t) w (slot_in (radices t) w (row_timer row).deadline) = omega arith in r)
         | inr x ↦ let r = p.before k (omega arith) n e in omega arith
       ]) (seen tick w g s m)
 
@@ -198,16 +198,16 @@ module _ {N : Type 0} {kept : Ghosts N} (t : Table) (b : Buckets N kept) (words 
   events_without tick w l f g s m = each_with_rows (Seen tick w s) (IsEventFrom (radices t) tick (w + 1) s)
       (list_at s b.links.lists) (λ z row p k d n e. elim (cases_eq k w) [
         | inl q ↦
-            let at : s ≡ smooth_list (radices t) w (slot_in (radices t) w (timer_in row).deadline) =
-            e ∙ ap (λ (x : ℕ). smooth_list (radices t) x (slot_in (radices t) x (timer_in row).deadline)) q in
-            let o = on_wheel s w (slot_in (radices t) w (timer_in row).deadline) row l at p.smooth in
+            let at : s ≡ smooth_list (radices t) w (slot_in (radices t) w (row_timer row).deadline) =
+            e ∙ ap (λ (x : ℕ). smooth_list (radices t) x (slot_in (radices t) x (row_timer row).deadline)) q in
+            let o = on_wheel s w (slot_in (radices t) w (row_timer row).deadline) row l at p.smooth in
             absurd (none_in (list_at s b.links.lists) z (ap (λ (x : ℕ). list_at x b.links.lists) at
-            ∙ f (slot_in (radices t) w (timer_in row).deadline) o.ahead o.within))
+            ∙ f (slot_in (radices t) w (row_timer row).deadline) o.ahead o.within))
         | inr x ↦ p.before k (omega arith) n e
       ]) (seen tick w g s m)
 
   -- the event of a first slot is ahead, if the next bucket has no timers
-  pub event_later : (k slot : ℕ) → k < length (radices t) → IsFirst (radices t) b.tick k b.links.lists slot
+  pub event_later : (k slot : ℕ) → k < length (radices t) → IsFirstFilledSlot (radices t) b.tick k b.links.lists slot
       → (0 < k → next_len t b k ≡ 0) → b.tick < event_tick (radices t) k slot
   event_later zero slot l f z = let a = f.later in omega (arith, slot_low (radices t) b.tick)
   event_later (suc k) slot l f z = elim (cases_eq slot (slot_in (radices t) (suc k) b.tick + 1)) [
@@ -230,21 +230,21 @@ module _ {N : Type 0} {kept : Ghosts N} (t : Table) (b : Buckets N kept) (words 
   -- the events of a wheel and of those above are not before the end of that wheel's present slot, if no next bucket has timers
   after_present : (tick k : ℕ) (row : Row) (s : ℕ) → 0 < k → k < length (radices t) → next_len t b k ≡ 0 → b.tick < tick
       → slot_in (radices t) k (tick - 1) ≤ slot_in (radices t) k b.tick
-      → s ≡ smooth_list (radices t) k (slot_in (radices t) k (timer_in row).deadline) → 0 < length (list_at s b.links.lists)
-      → slot_in (radices t) k b.tick < slot_in (radices t) k (timer_in row).deadline
-      → tick ≤ event_tick (radices t) k (slot_in (radices t) k (timer_in row).deadline)
+      → s ≡ smooth_list (radices t) k (slot_in (radices t) k (row_timer row).deadline) → 0 < length (list_at s b.links.lists)
+      → slot_in (radices t) k b.tick < slot_in (radices t) k (row_timer row).deadline
+      → tick ≤ event_tick (radices t) k (slot_in (radices t) k (row_timer row).deadline)
   after_present tick zero row s z l none later c e some ahead = absurd (omega arith)
   after_present tick (suc k) row s z l none later c e some ahead =
-      elim (cases_eq (slot_in (radices t) (suc k) (timer_in row).deadline) (slot_in (radices t) (suc k) b.tick + 1)) [
+      elim (cases_eq (slot_in (radices t) (suc k) (row_timer row).deadline) (slot_in (radices t) (suc k) b.tick + 1)) [
         | inl q ↦
             let n : length (list_at s b.links.lists) ≡ next_len t b (suc k) =
             ap (λ (x : ℕ). length (list_at x b.links.lists)) (e ∙ ap (smooth_list (radices t) (suc k)) q) in
             absurd (omega (arith, none))
         | inr q ↦
             let m : (slot_in (radices t) (suc k) b.tick + 1) * weight (suc k) (radices t)
-            ≤ (slot_in (radices t) (suc k) (timer_in row).deadline - 1) * weight (suc k) (radices t) =
+            ≤ (slot_in (radices t) (suc k) (row_timer row).deadline - 1) * weight (suc k) (radices t) =
             mul-le-mul_right (weight (suc k) (radices t))
-            (let r : slot_in (radices t) (suc k) b.tick + 1 ≤ slot_in (radices t) (suc k) (timer_in row).deadline - 1 = omega arith in r) in
+            (let r : slot_in (radices t) (suc k) b.tick + 1 ≤ slot_in (radices t) (suc k) (row_timer row).deadline - 1 = omega arith in r) in
             let end : tick - 1 < (slot_in (radices t) (suc k) b.tick + 1) * weight (suc k) (radices t) =
             slot_begins_later (radices t) (suc k) (tick - 1) (slot_in (radices t) (suc k) b.tick + 1) table (omega arith) in
             omega arith
@@ -258,7 +258,7 @@ module _ {N : Type 0} {kept : Ghosts N} (t : Table) (b : Buckets N kept) (words 
       (list_at s b.links.lists) (λ some row p k d n e. elim (cases_lt k w) [
         | inl q ↦ p.before k q n e
         | inr q ↦
-            let o = on_wheel s k (slot_in (radices t) k (timer_in row).deadline) row n e p.smooth in
+            let o = on_wheel s k (slot_in (radices t) k (row_timer row).deadline) row n e p.smooth in
             after_present tick k row s (omega arith) n (none k (omega arith) n) later (slots_mono (radices t) w k b.tick (tick - 1) table q c) e some
             o.ahead
       ]) (seen tick w g s m)
@@ -293,10 +293,10 @@ module _ {N : Type 0} {kept : Ghosts N} (t : Table) (b : Buckets N kept) (words 
     pub ahead_of : EachRow (IsAheadOf (radices t) tick) b.slots b.links.lists
     ahead_of s l = weaker (Seen event (length (radices t)) s) (IsAheadOf (radices t) tick s) (list_at s b.links.lists)
         (λ row p k n e.
-        let o = on_wheel s k (slot_in (radices t) k (timer_in row).deadline) row n e p.smooth in
+        let o = on_wheel s k (slot_in (radices t) k (row_timer row).deadline) row n e p.smooth in
         let a = o.ahead in
         let q = p.before k n n e in
-        slot_ahead k (slot_in (radices t) k (timer_in row).deadline) tick (omega arith) (omega arith))
+        slot_ahead k (slot_in (radices t) k (row_timer row).deadline) tick (omega arith) (omega arith))
         (seen event (length (radices t)) events s l)
 
     -- a next bucket of that tick has no timers
@@ -309,8 +309,8 @@ module _ {N : Type 0} {kept : Ghosts N} (t : Table) (b : Buckets N kept) (words 
         let o = on_wheel (smooth_list (radices t) k (slot_in (radices t) k tick + 1)) k (slot_in (radices t) k tick + 1) x l refl p.0.smooth in
         let at = at_own (smooth_list (radices t) k (slot_in (radices t) k tick + 1)) k (slot_in (radices t) k tick + 1) x l refl p.0.smooth in
         let q = p.0.before k l l at in
-        let n : slot_in (radices t) k tick + 1 < slot_in (radices t) k (timer_in x).deadline =
-        next_ahead k (slot_in (radices t) k (timer_in x).deadline) tick z (omega arith) in
+        let n : slot_in (radices t) k tick + 1 < slot_in (radices t) k (row_timer x).deadline =
+        next_ahead k (slot_in (radices t) k (row_timer x).deadline) tick z (omega arith) in
         let m : slot_in (radices t) k b.tick ≤ slot_in (radices t) k tick = slots_later (radices t) k b.tick tick table later in
         let w = o.within in
         let same = in_slot (smooth_list (radices t) k (slot_in (radices t) k tick + 1)) k (slot_in (radices t) k tick + 1) x l refl (omega arith)

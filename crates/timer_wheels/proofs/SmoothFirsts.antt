@@ -12,13 +12,13 @@ use Rattle.timer_base.specs.WakeUps.{IsWakeUp, next_deadline}
 use Rattle.timer_links.specs.Lists.{list_at, KeyedLists, Row, Rows}
 use Rattle.timer_links.specs.declared.kept.Kept.{Ghosts}
 use Rattle.timer_wheels.specs.Bank.{IsBank}
-use Rattle.timer_wheels.specs.BucketLists.{timer_in, timers_in, entry_of, entries_of, pending_in, rows_below, EachRow}
+use Rattle.timer_wheels.specs.BucketLists.{row_timer, row_timers, entry_of, entries_of, pending_in, rows_below, EachRow}
 use Rattle.timer_wheels.specs.Buckets.{state_of}
 use Rattle.timer_wheels.specs.FirstDeadline.{HasDeadline, IsLeast, IsLeastDeadline}
 use Rattle.timer_wheels.specs.Digits.{IsTable, HasDigits, weight, radix, level}
 use Rattle.timer_wheels.specs.Leap.{timer_visit}
 use Rattle.timer_wheels.specs.Smooth.{slot_in, smooth_list, mark, IsSmooth}
-use Rattle.timer_wheels.specs.SmoothAhead.{IsFirst, IsNotBefore, IsInPresent, IsFoundBelow, IsPendingDeadline, IsBegin}
+use Rattle.timer_wheels.specs.SmoothAhead.{IsFirstFilledSlot, IsNotBefore, IsInPresent, IsFoundBelow, IsPendingDeadline, IsBegin}
 use Rattle.timer_wheels.specs.Tables.{radices}
 use Rattle.timer_wheels.specs.WakeUps.{next_visit}
 use Rattle.timer_wheels.specs.declared.buckets.Buckets.{Buckets}
@@ -52,18 +52,18 @@ earlier_has fact (Some a) v h f = elim (cases_lt a v) [
 ]
 
 -- a deadline of one list is one of all
-pub has_in_list : (n s d : ℕ) (lists : KeyedLists) → s < n → s < length lists → HasDeadline d (timers_in (list_at s lists))
-    → HasDeadline d (timers_in (rows_below n lists))
+pub has_in_list : (n s d : ℕ) (lists : KeyedLists) → s < n → s < length lists → HasDeadline d (row_timers (list_at s lists))
+    → HasDeadline d (row_timers (rows_below n lists))
 has_in_list n s d lists l b h =
     let a = around n s lists l b in
-    let all : timers_in (rows_below n lists) ≡ timers_in a.front ++ (timers_in (list_at s lists) ++ timers_in a.rest) =
-    ap timers_in a.rows ∙ (timers-append a.front (list_at s lists ++ a.rest)
-    ∙ ap (λ (x : List Timer). timers_in a.front ++ x) (timers-append (list_at s lists) a.rest)) in
-    subst (HasDeadline d) (sym all) (has-rest d (timers_in a.front) (timers_in (list_at s lists) ++ timers_in a.rest)
-    (has-front d (timers_in (list_at s lists)) (timers_in a.rest) h))
+    let all : row_timers (rows_below n lists) ≡ row_timers a.front ++ (row_timers (list_at s lists) ++ row_timers a.rest) =
+    ap row_timers a.rows ∙ (timers-append a.front (list_at s lists ++ a.rest)
+    ∙ ap (λ (x : List Timer). row_timers a.front ++ x) (timers-append (list_at s lists) a.rest)) in
+    subst (HasDeadline d) (sym all) (has-rest d (row_timers a.front) (row_timers (list_at s lists) ++ row_timers a.rest)
+    (has-front d (row_timers (list_at s lists)) (row_timers a.rest) h))
 
 -- what holds of each timer holds of one with a given deadline
-pub deadline_of : (P : ℕ → Type 0) (rows : Rows) (d : ℕ) → AllByRecursion (λ row. P (timer_in row).deadline) rows → HasDeadline d (timers_in rows) → P d
+pub deadline_of : (P : ℕ → Type 0) (rows : Rows) (d : ℕ) → AllByRecursion (λ row. P (row_timer row).deadline) rows → HasDeadline d (row_timers rows) → P d
 deadline_of P [] d a h = absurd h
 deadline_of P (x ∷ xs) d a (inl e) = subst P e a.0
 deadline_of P (x ∷ xs) d a (inr h) = deadline_of P xs d a.1 h
@@ -80,34 +80,34 @@ module _ {N : Type 0} {kept : Ghosts N} (t : Table) (b : Buckets N kept) (words 
 
   -- what is known of the timers of one wheel
   abbrev pub OnWheel : ℕ → (ℕ → Type 0) → Type 0
-  OnWheel w P = EachRow (λ s row. s ≡ smooth_list (radices t) w (slot_in (radices t) w (timer_in row).deadline)
-      → P (timer_in row).deadline) b.slots b.links.lists
+  OnWheel w P = EachRow (λ s row. s ≡ smooth_list (radices t) w (slot_in (radices t) w (row_timer row).deadline)
+      → P (row_timer row).deadline) b.slots b.links.lists
 
   on_rows : (w : ℕ) (P : ℕ → Type 0) → ((s : ℕ) → s < b.slots → 0 < length (list_at s b.links.lists) → (row : Row)
       → IsSmooth (radices t) b.tick (mark (radices t) b.tick b.links.lists) s row
-      → s ≡ smooth_list (radices t) w (slot_in (radices t) w (timer_in row).deadline) → P (timer_in row).deadline) → OnWheel w P
+      → s ≡ smooth_list (radices t) w (slot_in (radices t) w (row_timer row).deadline) → P (row_timer row).deadline) → OnWheel w P
   on_rows w P f s l = each_with_rows (IsSmooth (radices t) b.tick (mark (radices t) b.tick b.links.lists) s)
-      (λ row. s ≡ smooth_list (radices t) w (slot_in (radices t) w (timer_in row).deadline) → P (timer_in row).deadline)
+      (λ row. s ≡ smooth_list (radices t) w (slot_in (radices t) w (row_timer row).deadline) → P (row_timer row).deadline)
       (list_at s b.links.lists) (f s l) (placed t b words h s l)
 
   weaker_on : (w : ℕ) (P Q : ℕ → Type 0) → ((d : ℕ) → P d → Q d) → OnWheel w P → OnWheel w Q
   weaker_on w P Q f o s l = weaker
-      (λ row. s ≡ smooth_list (radices t) w (slot_in (radices t) w (timer_in row).deadline) → P (timer_in row).deadline)
-      (λ row. s ≡ smooth_list (radices t) w (slot_in (radices t) w (timer_in row).deadline) → Q (timer_in row).deadline)
-      (list_at s b.links.lists) (λ row g e. f (timer_in row).deadline (g e)) (o s l)
+      (λ row. s ≡ smooth_list (radices t) w (slot_in (radices t) w (row_timer row).deadline) → P (row_timer row).deadline)
+      (λ row. s ≡ smooth_list (radices t) w (slot_in (radices t) w (row_timer row).deadline) → Q (row_timer row).deadline)
+      (list_at s b.links.lists) (λ row g e. f (row_timer row).deadline (g e)) (o s l)
 
   not_before_up : (first : Option ℕ) (v d : ℕ) → IsNotBefore first v → v ≤ d → IsNotBefore first d
   not_before_up None v d n l = absurd n
   not_before_up (Some a) v d n l = (let x : a ≤ v = n in omega arith)
 
   -- the timers of a wheel are not before its first slot
-  slot_bound : (w slot : ℕ) → w < length (radices t) → IsFirst (radices t) b.tick w b.links.lists slot
+  slot_bound : (w slot : ℕ) → w < length (radices t) → IsFirstFilledSlot (radices t) b.tick w b.links.lists slot
       → OnWheel w (λ d. slot * weight w (radices t) ≤ d)
   slot_bound w slot l f = on_rows w (λ d. slot * weight w (radices t) ≤ d) (λ s m z row p e.
-      let le : slot ≤ slot_in (radices t) w (timer_in row).deadline = not_before t b words h w slot s row f l e z p in
-      let g : slot_in (radices t) w (timer_in row).deadline * weight w (radices t) ≤ (timer_in row).deadline =
-      div-mul-le_self (timer_in row).deadline (weight w (radices t)) in
-      let mono : slot * weight w (radices t) ≤ slot_in (radices t) w (timer_in row).deadline * weight w (radices t) =
+      let le : slot ≤ slot_in (radices t) w (row_timer row).deadline = not_before t b words h w slot s row f l e z p in
+      let g : slot_in (radices t) w (row_timer row).deadline * weight w (radices t) ≤ (row_timer row).deadline =
+      div-mul-le_self (row_timer row).deadline (weight w (radices t)) in
+      let mono : slot * weight w (radices t) ≤ slot_in (radices t) w (row_timer row).deadline * weight w (radices t) =
       mul-le-mul_right (weight w (radices t)) le in
       omega arith)
 
@@ -127,7 +127,7 @@ module _ {N : Type 0} {kept : Ghosts N} (t : Table) (b : Buckets N kept) (words 
       has = tt;
       least = λ s l. weaker (IsSmooth (radices t) b.tick (mark (radices t) b.tick b.links.lists) s)
           (λ row. (k : ℕ) → k < 0 → k < length (radices t)
-          → s ≡ smooth_list (radices t) k (slot_in (radices t) k (timer_in row).deadline) → IsNotBefore None (timer_in row).deadline)
+          → s ≡ smooth_list (radices t) k (slot_in (radices t) k (row_timer row).deadline) → IsNotBefore None (row_timer row).deadline)
           (list_at s b.links.lists) (λ row p k a. absurd (omega arith)) (placed t b words h s l);
     }
 
@@ -138,13 +138,13 @@ module _ {N : Type 0} {kept : Ghosts N} (t : Table) (b : Buckets N kept) (words 
       has = has;
       least = λ s m. all-both
           (λ row. (k : ℕ) → k < w → k < length (radices t)
-          → s ≡ smooth_list (radices t) k (slot_in (radices t) k (timer_in row).deadline) → IsNotBefore first (timer_in row).deadline)
-          (λ row. s ≡ smooth_list (radices t) w (slot_in (radices t) w (timer_in row).deadline) → IsNotBefore second (timer_in row).deadline)
+          → s ≡ smooth_list (radices t) k (slot_in (radices t) k (row_timer row).deadline) → IsNotBefore first (row_timer row).deadline)
+          (λ row. s ≡ smooth_list (radices t) w (slot_in (radices t) w (row_timer row).deadline) → IsNotBefore second (row_timer row).deadline)
           (λ row. (k : ℕ) → k < w + 1 → k < length (radices t)
-          → s ≡ smooth_list (radices t) k (slot_in (radices t) k (timer_in row).deadline) → IsNotBefore second (timer_in row).deadline)
+          → s ≡ smooth_list (radices t) k (slot_in (radices t) k (row_timer row).deadline) → IsNotBefore second (row_timer row).deadline)
           (list_at s b.links.lists) (λ row p q k a n e. elim (cases_eq k w) [
-            | inl y ↦ q (e ∙ ap (λ (x : ℕ). smooth_list (radices t) x (slot_in (radices t) x (timer_in row).deadline)) y)
-            | inr x ↦ low (timer_in row).deadline (p k (omega arith) n e)
+            | inl y ↦ q (e ∙ ap (λ (x : ℕ). smooth_list (radices t) x (slot_in (radices t) x (row_timer row).deadline)) y)
+            | inr x ↦ low (row_timer row).deadline (p k (omega arith) n e)
           ]) (f.least s m) (on s m);
     }
 
@@ -158,13 +158,13 @@ module _ {N : Type 0} {kept : Ghosts N} (t : Table) (b : Buckets N kept) (words 
         → ((i : ℕ) → slot_in (radices t) w b.tick < i → i < slot_in (radices t) w b.tick + 2 * radix w (radices t)
         → list_at (smooth_list (radices t) w i) b.links.lists ≡ []) → IsFoundBelow fact t b (w + 1) first
     found_without w first l f none = more w first first f f.has (λ d n. n) (on_rows w (IsNotBefore first) (λ s m z row p e.
-        let o = on_wheel t b words h s w (slot_in (radices t) w (timer_in row).deadline) row l e p in
+        let o = on_wheel t b words h s w (slot_in (radices t) w (row_timer row).deadline) row l e p in
         absurd (none_in (list_at s b.links.lists) z (ap (λ (x : ℕ). list_at x b.links.lists) e
-        ∙ none (slot_in (radices t) w (timer_in row).deadline) o.ahead o.within))))
+        ∙ none (slot_in (radices t) w (row_timer row).deadline) o.ahead o.within))))
 
     -- a first deadline at or before the begin of a wheel's first slot stays the first
     pub found_skip : (w slot : ℕ) (first : Option ℕ) → w < length (radices t) → IsFoundBelow fact t b w first
-        → IsFirst (radices t) b.tick w b.links.lists slot → IsNotBefore first (slot * weight w (radices t)) → IsFoundBelow fact t b (w + 1) first
+        → IsFirstFilledSlot (radices t) b.tick w b.links.lists slot → IsNotBefore first (slot * weight w (radices t)) → IsFoundBelow fact t b (w + 1) first
     found_skip w slot first l f g n = more w first first f f.has (λ d k. k) (weaker_on w (λ d. slot * weight w (radices t) ≤ d) (IsNotBefore first)
         (λ d k. not_before_up first (slot * weight w (radices t)) d n k) (slot_bound w slot l g))
 
@@ -175,14 +175,14 @@ module _ {N : Type 0} {kept : Ghosts N} (t : Table) (b : Buckets N kept) (words 
       has = f.has;
       least = λ s m. all-both
           (λ row. (k : ℕ) → k < w → k < length (radices t)
-          → s ≡ smooth_list (radices t) k (slot_in (radices t) k (timer_in row).deadline) → IsNotBefore (Some first) (timer_in row).deadline)
+          → s ≡ smooth_list (radices t) k (slot_in (radices t) k (row_timer row).deadline) → IsNotBefore (Some first) (row_timer row).deadline)
           (IsSmooth (radices t) b.tick (mark (radices t) b.tick b.links.lists) s)
           (λ row. (k : ℕ) → k < length (radices t) → k < length (radices t)
-          → s ≡ smooth_list (radices t) k (slot_in (radices t) k (timer_in row).deadline) → IsNotBefore (Some first) (timer_in row).deadline)
+          → s ≡ smooth_list (radices t) k (slot_in (radices t) k (row_timer row).deadline) → IsNotBefore (Some first) (row_timer row).deadline)
           (list_at s b.links.lists) (λ row p q k a n e. elim (cases_lt k w) [
             | inl y ↦ p k y n e
-            | inr y ↦ in_slots_before k first (timer_in row).deadline (slots_mono (radices t) w k b.tick first table y c)
-                (on_wheel t b words h s k (slot_in (radices t) k (timer_in row).deadline) row n e q).ahead
+            | inr y ↦ in_slots_before k first (row_timer row).deadline (slots_mono (radices t) w k b.tick first table y c)
+                (on_wheel t b words h s k (slot_in (radices t) k (row_timer row).deadline) row n e q).ahead
           ]) (f.least s m) (placed t b words h s m);
     }
 
@@ -192,26 +192,26 @@ module _ {N : Type 0} {kept : Ghosts N} (t : Table) (b : Buckets N kept) (words 
     found_rest w (Some first) f c = found_before w first f c
 
   -- the timers of the first slot's list are in that slot
-  in_first : (w slot : ℕ) → w < length (radices t) → IsFirst (radices t) b.tick w b.links.lists slot
-      → AllByRecursion (λ row. slot_in (radices t) w (timer_in row).deadline ≡ slot) (list_at (smooth_list (radices t) w slot) b.links.lists)
+  in_first : (w slot : ℕ) → w < length (radices t) → IsFirstFilledSlot (radices t) b.tick w b.links.lists slot
+      → AllByRecursion (λ row. slot_in (radices t) w (row_timer row).deadline ≡ slot) (list_at (smooth_list (radices t) w slot) b.links.lists)
   in_first w slot l f = weaker (IsSmooth (radices t) b.tick (mark (radices t) b.tick b.links.lists) (smooth_list (radices t) w slot))
-      (λ row. slot_in (radices t) w (timer_in row).deadline ≡ slot) (list_at (smooth_list (radices t) w slot) b.links.lists)
+      (λ row. slot_in (radices t) w (row_timer row).deadline ≡ slot) (list_at (smooth_list (radices t) w slot) b.links.lists)
       (λ row p. in_slot t b words h (smooth_list (radices t) w slot) w slot row l refl f.later f.near p)
       (placed t b words h (smooth_list (radices t) w slot) (ranges w slot l))
 
   -- some timer of that list
   record SomeIn (w slot : ℕ) : Type 0 where
     deadline : ℕ
-    has : HasDeadline deadline (timers_in (list_at (smooth_list (radices t) w slot) b.links.lists))
+    has : HasDeadline deadline (row_timers (list_at (smooth_list (radices t) w slot) b.links.lists))
 
   some_in : (w slot : ℕ) (rows : Rows) → list_at (smooth_list (radices t) w slot) b.links.lists ≡ rows → 0 < length rows → SomeIn w slot
   some_in w slot [] e z = absurd (omega arith)
   some_in w slot (x ∷ xs) e z = record {
-    deadline = (timer_in x).deadline;
-    has = subst (λ (r : Rows). HasDeadline (timer_in x).deadline (timers_in r)) (sym e) (inl refl);
+    deadline = (row_timer x).deadline;
+    has = subst (λ (r : Rows). HasDeadline (row_timer x).deadline (row_timers r)) (sym e) (inl refl);
   }
 
-  pending_in_list : (w slot d : ℕ) → w < length (radices t) → HasDeadline d (timers_in (list_at (smooth_list (radices t) w slot) b.links.lists))
+  pending_in_list : (w slot d : ℕ) → w < length (radices t) → HasDeadline d (row_timers (list_at (smooth_list (radices t) w slot) b.links.lists))
       → IsPendingDeadline b d
   pending_in_list w slot d l e = has_in_list b.slots (smooth_list (radices t) w slot) d b.links.lists (ranges w slot l)
       (let r = ranges w slot l in omega (arith, b.sound.has_lists)) e
@@ -220,7 +220,7 @@ module _ {N : Type 0} {kept : Ghosts N} (t : Table) (b : Buckets N kept) (words 
 
   -- of the lowest wheel it is the slot
   pub found_low : (slot : ℕ) (first : Option ℕ) → IsFoundBelow (IsPendingDeadline b) t b 0 first
-      → IsFirst (radices t) b.tick 0 b.links.lists slot → IsFoundBelow (IsPendingDeadline b) t b 1 (earliest first (Some slot))
+      → IsFirstFilledSlot (radices t) b.tick 0 b.links.lists slot → IsFoundBelow (IsPendingDeadline b) t b 1 (earliest first (Some slot))
   found_low slot first f g =
       let l : 0 < length (radices t) = (of_table t).more_wheels in
       let some = some_in 0 slot (list_at (smooth_list (radices t) 0 slot) b.links.lists) refl g.some in
@@ -229,48 +229,48 @@ module _ {N : Type 0} {kept : Ghosts N} (t : Table) (b : Buckets N kept) (words 
       let q : some.deadline ≡ slot = sym (slot_low (radices t) some.deadline) ∙ e in
       found_with (IsPendingDeadline b) 0 slot first f (subst (IsPendingDeadline b) q (pending_in_list 0 slot some.deadline l some.has))
       (on_rows 0 (λ d. slot ≤ d) (λ s m z row p i.
-      let le : slot ≤ slot_in (radices t) 0 (timer_in row).deadline = not_before t b words h 0 slot s row g l i z p in
-      omega (arith, slot_low (radices t) (timer_in row).deadline)))
+      let le : slot ≤ slot_in (radices t) 0 (row_timer row).deadline = not_before t b words h 0 slot s row g l i z p in
+      omega (arith, slot_low (radices t) (row_timer row).deadline)))
 
   -- of a higher one it is the least of the first slot's list
-  least_on_wheel : (w slot v : ℕ) → w < length (radices t) → IsFirst (radices t) b.tick w b.links.lists slot
-      → IsLeast v (timers_in (list_at (smooth_list (radices t) w slot) b.links.lists)) → OnWheel w (λ d. v ≤ d)
+  least_on_wheel : (w slot v : ℕ) → w < length (radices t) → IsFirstFilledSlot (radices t) b.tick w b.links.lists slot
+      → IsLeast v (row_timers (list_at (smooth_list (radices t) w slot) b.links.lists)) → OnWheel w (λ d. v ≤ d)
   least_on_wheel w slot v l f least s m = elim (cases_eq s (smooth_list (radices t) w slot)) [
-    | inl q ↦ weaker (λ row. v ≤ (timer_in row).deadline)
-        (λ row. s ≡ smooth_list (radices t) w (slot_in (radices t) w (timer_in row).deadline) → v ≤ (timer_in row).deadline)
+    | inl q ↦ weaker (λ row. v ≤ (row_timer row).deadline)
+        (λ row. s ≡ smooth_list (radices t) w (slot_in (radices t) w (row_timer row).deadline) → v ≤ (row_timer row).deadline)
         (list_at s b.links.lists) (λ row a e. a)
-        (subst (λ (x : ℕ). AllByRecursion (λ row. v ≤ (timer_in row).deadline) (list_at x b.links.lists)) (sym q)
-        (all-of_map timer_in (λ x. v ≤ x.deadline) (list_at (smooth_list (radices t) w slot) b.links.lists) least.none_earlier))
+        (subst (λ (x : ℕ). AllByRecursion (λ row. v ≤ (row_timer row).deadline) (list_at x b.links.lists)) (sym q)
+        (all-of_map row_timer (λ x. v ≤ x.deadline) (list_at (smooth_list (radices t) w slot) b.links.lists) least.none_earlier))
     | inr n ↦ each_with_rows (IsSmooth (radices t) b.tick (mark (radices t) b.tick b.links.lists) s)
-        (λ row. s ≡ smooth_list (radices t) w (slot_in (radices t) w (timer_in row).deadline) → v ≤ (timer_in row).deadline)
+        (λ row. s ≡ smooth_list (radices t) w (slot_in (radices t) w (row_timer row).deadline) → v ≤ (row_timer row).deadline)
         (list_at s b.links.lists) (λ z row p e.
-        let le : slot ≤ slot_in (radices t) w (timer_in row).deadline = not_before t b words h w slot s row f l e z p in
-        let apart : slot_in (radices t) w (timer_in row).deadline ≢ slot =
-        λ (y : slot_in (radices t) w (timer_in row).deadline ≡ slot). n (e ∙ ap (smooth_list (radices t) w) y) in
+        let le : slot ≤ slot_in (radices t) w (row_timer row).deadline = not_before t b words h w slot s row f l e z p in
+        let apart : slot_in (radices t) w (row_timer row).deadline ≢ slot =
+        λ (y : slot_in (radices t) w (row_timer row).deadline ≡ slot). n (e ∙ ap (smooth_list (radices t) w) y) in
         let v_in : slot_in (radices t) w v ≡ slot = deadline_of (λ d. slot_in (radices t) w d ≡ slot)
         (list_at (smooth_list (radices t) w slot) b.links.lists) v (in_first w slot l f) least.has in
-        let later : v < (timer_in row).deadline = tick_ahead (radices t) w v (timer_in row).deadline table (omega arith) in
+        let later : v < (row_timer row).deadline = tick_ahead (radices t) w v (row_timer row).deadline table (omega arith) in
         omega arith) (placed t b words h s m)
   ]
 
   pub found_high : (w slot : ℕ) (first one : Option ℕ) → w < length (radices t) → IsFoundBelow (IsPendingDeadline b) t b w first
-      → IsFirst (radices t) b.tick w b.links.lists slot
-      → IsLeastDeadline one (timers_in (list_at (smooth_list (radices t) w slot) b.links.lists))
+      → IsFirstFilledSlot (radices t) b.tick w b.links.lists slot
+      → IsLeastDeadline one (row_timers (list_at (smooth_list (radices t) w slot) b.links.lists))
       → IsFoundBelow (IsPendingDeadline b) t b (w + 1) (earliest first one)
   found_high w slot first None l f g e = absurd (no_timers (list_at (smooth_list (radices t) w slot) b.links.lists) g.some e) where
-    no_timers : (rows : Rows) → 0 < length rows → timers_in rows ≡ [] → ⊥
+    no_timers : (rows : Rows) → 0 < length rows → row_timers rows ≡ [] → ⊥
     no_timers [] z q = omega arith
-    no_timers (x ∷ xs) z q = let y : suc (length (timers_in xs)) ≡ 0 = ap (λ (r : List Timer). length r) q in omega arith
+    no_timers (x ∷ xs) z q = let y : suc (length (row_timers xs)) ≡ 0 = ap (λ (r : List Timer). length r) q in omega arith
   found_high w slot first (Some v) l f g e = found_with (IsPendingDeadline b) w v first f
       (pending_in_list w slot v l e.has) (least_on_wheel w slot v l g e)
 
   -- of all wheels
   each_row : (fact : ℕ → Type 0) (first : Option ℕ) → IsFoundBelow fact t b (length (radices t)) first
-      → EachRow (λ s row. IsNotBefore first (timer_in row).deadline) b.slots b.links.lists
+      → EachRow (λ s row. IsNotBefore first (row_timer row).deadline) b.slots b.links.lists
   each_row fact first f s l = all-both (IsSmooth (radices t) b.tick (mark (radices t) b.tick b.links.lists) s)
       (λ row. (k : ℕ) → k < length (radices t) → k < length (radices t)
-      → s ≡ smooth_list (radices t) k (slot_in (radices t) k (timer_in row).deadline) → IsNotBefore first (timer_in row).deadline)
-      (λ row. IsNotBefore first (timer_in row).deadline) (list_at s b.links.lists)
+      → s ≡ smooth_list (radices t) k (slot_in (radices t) k (row_timer row).deadline) → IsNotBefore first (row_timer row).deadline)
+      (λ row. IsNotBefore first (row_timer row).deadline) (list_at s b.links.lists)
       (λ row p q. q p.on p.stands.wheel p.stands.wheel p.stands.at_list) (placed t b words h s l) (f.least s l)
 
   no_rows_of : (rows : Rows) → AllByRecursion (λ row. ⊥) rows → rows ≡ []
@@ -281,15 +281,15 @@ module _ {N : Type 0} {kept : Ghosts N} (t : Table) (b : Buckets N kept) (words 
   none_at_all fact f = rows_below-none b.slots b.links.lists (λ s l. no_rows_of (list_at s b.links.lists) (each_row fact None f s l))
 
   all_least : (v : ℕ) (fact : ℕ → Type 0) → IsFoundBelow fact t b (length (radices t)) (Some v)
-      → AllByRecursion (λ row. v ≤ (timer_in row).deadline) (rows_below b.slots b.links.lists)
-  all_least v fact f = all-rows_below (λ row. v ≤ (timer_in row).deadline) b.slots b.links.lists (each_row fact (Some v) f)
+      → AllByRecursion (λ row. v ≤ (row_timer row).deadline) (rows_below b.slots b.links.lists)
+  all_least v fact f = all-rows_below (λ row. v ≤ (row_timer row).deadline) b.slots b.links.lists (each_row fact (Some v) f)
 
   least_found : (first : Option ℕ) → IsFoundBelow (IsPendingDeadline b) t b (length (radices t)) first
-      → IsLeastDeadline first (timers_in (rows_below b.slots b.links.lists))
-  least_found None f = ap timers_in (none_at_all (IsPendingDeadline b) f)
+      → IsLeastDeadline first (row_timers (rows_below b.slots b.links.lists))
+  least_found None f = ap row_timers (none_at_all (IsPendingDeadline b) f)
   least_found (Some v) f = record {
     has = f.has;
-    none_earlier = all-map timer_in (λ x. v ≤ x.deadline) (rows_below b.slots b.links.lists) (all_least v (IsPendingDeadline b) f);
+    none_earlier = all-map row_timer (λ x. v ≤ x.deadline) (rows_below b.slots b.links.lists) (all_least v (IsPendingDeadline b) f);
   }
 
   pub first_found : (first : Option ℕ) → IsFoundBelow (IsPendingDeadline b) t b (length (radices t)) first
@@ -299,7 +299,7 @@ module _ {N : Type 0} {kept : Ghosts N} (t : Table) (b : Buckets N kept) (words 
   -- The next visit.
 
   pub found_begin : (w slot : ℕ) (first : Option ℕ) → w < length (radices t) → IsFoundBelow (IsBegin t b) t b w first
-      → IsFirst (radices t) b.tick w b.links.lists slot → slot * weight w (radices t) ≤ b.last_tick
+      → IsFirstFilledSlot (radices t) b.tick w b.links.lists slot → slot * weight w (radices t) ≤ b.last_tick
       → IsFoundBelow (IsBegin t b) t b (w + 1) (earliest first (Some (slot * weight w (radices t))))
   found_begin w slot first l f g r =
       let some = some_in w slot (list_at (smooth_list (radices t) w slot) b.links.lists) refl g.some in
@@ -331,7 +331,7 @@ module _ {N : Type 0} {kept : Ghosts N} (t : Table) (b : Buckets N kept) (words 
   no_deadline d [] i e = i
   no_deadline d (x ∷ xs) i e = let y : suc (length xs) ≡ 0 = ap (λ (r : List Timer). length r) e in omega arith
 
-  pending_deadline_of : (P : ℕ → Type 0) (d : ℕ) → AllByRecursion (λ row. P (timer_in row).deadline) (rows_below b.slots b.links.lists)
+  pending_deadline_of : (P : ℕ → Type 0) (d : ℕ) → AllByRecursion (λ row. P (row_timer row).deadline) (rows_below b.slots b.links.lists)
       → IsPendingDeadline b d → P d
   pending_deadline_of P d a i = deadline_of P (rows_below b.slots b.links.lists) d a i
 
@@ -340,10 +340,10 @@ module _ {N : Type 0} {kept : Ghosts N} (t : Table) (b : Buckets N kept) (words 
     record HasFirst : Type 0 where
       deadline : ℕ
       is : next_deadline (state_of b).pending ≡ Some deadline
-      least : IsLeast deadline (timers_in (rows_below b.slots b.links.lists))
+      least : IsLeast deadline (row_timers (rows_below b.slots b.links.lists))
 
-    has_first : (o : Option ℕ) → next_deadline (state_of b).pending ≡ o → IsLeastDeadline o (timers_in (rows_below b.slots b.links.lists)) → HasFirst
-    has_first None e l = absurd (no_deadline f.has.deadline (timers_in (rows_below b.slots b.links.lists)) f.has.has l)
+    has_first : (o : Option ℕ) → next_deadline (state_of b).pending ≡ o → IsLeastDeadline o (row_timers (rows_below b.slots b.links.lists)) → HasFirst
+    has_first None e l = absurd (no_deadline f.has.deadline (row_timers (rows_below b.slots b.links.lists)) f.has.has l)
     has_first (Some d) e l = record { deadline = d; is = e; least = l }
 
     first : HasFirst
@@ -354,7 +354,7 @@ module _ {N : Type 0} {kept : Ghosts N} (t : Table) (b : Buckets N kept) (words 
 
     is_first : first.deadline ≤ f.has.deadline
     is_first = pending_deadline_of (λ d. first.deadline ≤ d) f.has.deadline
-        (all-of_map timer_in (λ x. first.deadline ≤ x.deadline) (rows_below b.slots b.links.lists) first.least.none_earlier) f.has.has
+        (all-of_map row_timer (λ x. first.deadline ≤ x.deadline) (rows_below b.slots b.links.lists) first.least.none_earlier) f.has.has
 
     visit_same : timer_visit (radices t) b.tick begin ≡ timer_visit (radices t) b.tick first.deadline
     visit_same =
@@ -383,6 +383,6 @@ module _ {N : Type 0} {kept : Ghosts N} (t : Table) (b : Buckets N kept) (words 
           later = omega (arith, visit_later (radices t) b.tick begin table f.has.later);
           in_time = All-in_order timer_of (λ entry. visit ≤ entry.timer.deadline) (entries_of (rows_below b.slots b.links.lists))
               (all-map entry_of (λ entry. visit ≤ entry.timer.deadline) (rows_below b.slots b.links.lists)
-              (weaker (λ row. begin ≤ (timer_in row).deadline) (λ row. visit ≤ (timer_in row).deadline) (rows_below b.slots b.links.lists)
+              (weaker (λ row. begin ≤ (row_timer row).deadline) (λ row. visit ≤ (row_timer row).deadline) (rows_below b.slots b.links.lists)
               (λ row g. omega arith) (all_least begin (IsBegin t b) f)));
         }

@@ -10,11 +10,11 @@ use Rattle.timer_base.proofs.TickLaws.{passing_quiet, after_ticks-add}
 use Rattle.timer_links.specs.Lists.{list_at}
 use Rattle.timer_links.specs.declared.kept.Kept.{Ghosts}
 use Rattle.timer_wheels.specs.Bank.{IsBank, next_len}
-use Rattle.timer_wheels.specs.BucketLists.{timer_in, entry_of, entries_of, rows_below, EachRow}
+use Rattle.timer_wheels.specs.BucketLists.{row_timer, entry_of, entries_of, rows_below, EachRow}
 use Rattle.timer_wheels.specs.Buckets.{state_of}
 use Rattle.timer_wheels.specs.Paces.{pace_at, pace_sum, AreInTime}
-use Rattle.timer_wheels.specs.Smooth.{mark, ticks_left, IsSmooth, IsAheadOf}
-use Rattle.timer_wheels.specs.SmoothWheel.{Passes}
+use Rattle.timer_wheels.specs.Smooth.{mark, ticks_to_half, IsSmooth, IsAheadOf}
+use Rattle.timer_wheels.specs.SmoothWheel.{PassesSomeTicks}
 use Rattle.timer_wheels.specs.Tables.{radices}
 use Rattle.timer_wheels.specs.declared.buckets.Buckets.{Buckets}
 use Rattle.timer_wheels.specs.declared.smooth.turns.TheConstants.{MOST_WHEELS}
@@ -32,24 +32,24 @@ pub open_of : {N : Type 0} {kept : Ghosts N} (t : Table) (b : Buckets N kept) (p
     → next_len t b k ≡ 0
 open_of t b paces h e k z l =
     let p : pace_at paces k ≡ 0 = omega (arith, one_of_sum paces MOST_WHEELS k (few_wheels t k l)) in
-    let none : pace_at paces k * ticks_left (radices t) b.tick k ≡ 0 * ticks_left (radices t) b.tick k =
-    ap (λ (x : ℕ). x * ticks_left (radices t) b.tick k) p in
+    let none : pace_at paces k * ticks_to_half (radices t) b.tick k ≡ 0 * ticks_to_half (radices t) b.tick k =
+    ap (λ (x : ℕ). x * ticks_to_half (radices t) b.tick k) p in
     omega (arith, h k z l)
 
 -- The clock alone advances.
 
 module _ {N : Type 0} {kept : Ghosts N} (t : Table) (b : Buckets N kept) (words : List ℕ) (h : IsBank t b words) (tick : ℕ) (later : b.tick ≤ tick)
     (ahead : EachRow (IsAheadOf (radices t) tick) b.slots b.links.lists) where
-  after_rows : EachRow (λ s row. tick < (timer_in row).deadline) b.slots b.links.lists
+  after_rows : EachRow (λ s row. tick < (row_timer row).deadline) b.slots b.links.lists
   after_rows s l = all-both (IsSmooth (radices t) b.tick (mark (radices t) b.tick b.links.lists) s) (IsAheadOf (radices t) tick s)
-      (λ row. tick < (timer_in row).deadline) (list_at s b.links.lists)
-      (λ row p q. tick_ahead (radices t) p.on tick (timer_in row).deadline (of_table t).is_table (q p.on p.stands.wheel p.stands.at_list))
+      (λ row. tick < (row_timer row).deadline) (list_at s b.links.lists)
+      (λ row p q. tick_ahead (radices t) p.on tick (row_timer row).deadline (of_table t).is_table (q p.on p.stands.wheel p.stands.at_list))
       (placed t b words h s l) (ahead s l)
 
   after_all : AreAfter tick (state_of b).pending
   after_all = All-in_order timer_of (λ entry. tick < entry.timer.deadline) (entries_of (rows_below b.slots b.links.lists))
       (all-map entry_of (λ entry. tick < entry.timer.deadline) (rows_below b.slots b.links.lists)
-      (all-rows_below (λ row. tick < (timer_in row).deadline) b.slots b.links.lists after_rows))
+      (all-rows_below (λ row. tick < (row_timer row).deadline) b.slots b.links.lists after_rows))
 
   pub leap_passes : (new : WheelState) → (state_of b).due ≡ [] → new ≡ record (state_of b) { now = tick }
       → IsPassing (tick - b.tick) (state_of b) new
@@ -76,7 +76,7 @@ held_ticked w new z e =
 
 -- A leap and a tick.
 
-pub leap_and_tick : (old mid new : WheelState) → old.now ≤ mid.now → IsPassing (mid.now - old.now) old mid → new ≡ after_tick mid → Passes old new
+pub leap_and_tick : (old mid new : WheelState) → old.now ≤ mid.now → IsPassing (mid.now - old.now) old mid → new ≡ after_tick mid → PassesSomeTicks old new
 leap_and_tick old mid new l p e =
     let now : new.now ≡ mid.now + 1 = ap (λ (w : WheelState). w.now) e in
     let n : new.now - old.now ≡ suc (mid.now - old.now) = omega arith in
@@ -88,7 +88,7 @@ leap_and_tick old mid new l p e =
 
 -- Many of them.
 
-passes_none : (old new : WheelState) (k : ℕ) → Passes old new → new.due ≡ [] → k ≤ new.now - old.now → (after_ticks k old).due ≡ []
+passes_none : (old new : WheelState) (k : ℕ) → PassesSomeTicks old new → new.due ≡ [] → k ≤ new.now - old.now → (after_ticks k old).due ≡ []
 passes_none old new k p z h = elim (either_last k (new.now - old.now) h) [
   | inl l ↦ p.quiet k l
   | inr e ↦ ap (λ (x : ℕ). (after_ticks x old).due) e ∙ (sym (ap (λ (w : WheelState). w.due) p.ticked) ∙ z)
@@ -96,14 +96,14 @@ passes_none old new k p z h = elim (either_last k (new.now - old.now) h) [
   either_last : (k n : ℕ) → k ≤ n → (k < n) ⊎ (k ≡ n)
   either_last k n h = elim (cases_eq k n) [ inl e ↦ inr e | inr x ↦ inl (omega arith) ]
 
-pub passing_pass : (old mid new : WheelState) → old.now ≤ mid.now → IsPassing (mid.now - old.now) old mid → Passes mid new → new.due ≡ []
+pub passing_pass : (old mid new : WheelState) → old.now ≤ mid.now → IsPassing (mid.now - old.now) old mid → PassesSomeTicks mid new → new.due ≡ []
     → IsPassing (new.now - old.now) old new
 passing_pass old mid new l p q z =
     let n : mid.now - old.now + (new.now - mid.now) ≡ new.now - old.now = (let a = q.later in omega arith) in
     subst (λ (x : ℕ). IsPassing x old new) n (passing_on (mid.now - old.now) (new.now - mid.now) old mid new p
     (record { ticked = q.ticked; quiet = λ k h. passes_none mid new k q z h }))
 
-pub advance_stops : (most : ℕ) (old mid new : WheelState) → old.now ≤ mid.now → IsPassing (mid.now - old.now) old mid → Passes mid new
+pub advance_stops : (most : ℕ) (old mid new : WheelState) → old.now ≤ mid.now → IsPassing (mid.now - old.now) old mid → PassesSomeTicks mid new
     → new.now ≤ old.now + most → 0 < length new.due → Advances most (new.now - old.now) old new
 advance_stops most old mid new l p q b d =
     let a = q.later in

@@ -10,7 +10,7 @@ use Rattle.timer_base.proofs.OrderLaws.{map-in_order, in_order-anywhere, AreRisi
 use Rattle.timer_base.specs.Pending.{timer_of}
 use Rattle.timer_base.specs.WheelState.{IsPending}
 use Rattle.timer_links.specs.Lists.{list_at, with_row, KeyedLists, Row, Rows}
-use Rattle.timer_wheels.specs.BucketLists.{timer_in, timers_in, entry_of, entries_of, rows_below, pending_in, AreInOrder, AreBuckets, wheel_state}
+use Rattle.timer_wheels.specs.BucketLists.{row_timer, row_timers, entry_of, entries_of, rows_below, pending_in, AreInOrder, AreBuckets, wheel_state}
 use Rattle.timer_wheels.specs.Smooth.{IsMove}
 use Rattle.timer_wheels.proofs.RowLemmas.{all-append, all-front, all-rest, set_twice, IsInserted, rows_below-inserted, rows_below-with_row, timers-append, AreDistinct-inserted, AreDistinct-taken, IsNotAmong-others}
 use Rattle.timer_wheels.proofs.BucketLemmas.{in_order-with_row}
@@ -30,38 +30,38 @@ module _ (row : Row) (mid old new : Rows) (a : IsInserted row mid old) (b : IsIn
       subst (AllByRecursion P) (sym b.new_is)
       (all-append P b.front (row ∷ b.rest) (all-front P b.front b.rest h2) (tail.0, all-rest P b.front b.rest h2))
 
-  module _ (d : AreDistinct (timers_in old)) where
-    apart : AreDistinct (timers_in a.front ++ timer_in row ∷ timers_in a.rest)
-    apart = subst AreDistinct (ap timers_in a.new_is ∙ timers-append a.front (row ∷ a.rest)) d
+  module _ (d : AreDistinct (row_timers old)) where
+    apart : AreDistinct (row_timers a.front ++ row_timer row ∷ row_timers a.rest)
+    apart = subst AreDistinct (ap row_timers a.new_is ∙ timers-append a.front (row ∷ a.rest)) d
 
-    others : IsNotAmong (timer_in row).serial (timers_in a.front ++ timers_in a.rest)
-    others = IsNotAmong-others (timer_in row) (timers_in a.front) (timers_in a.rest) apart
+    others : IsNotAmong (row_timer row).serial (row_timers a.front ++ row_timers a.rest)
+    others = IsNotAmong-others (row_timer row) (row_timers a.front) (row_timers a.rest) apart
 
-    same_timers : timers_in a.front ++ timers_in a.rest ≡ timers_in b.front ++ timers_in b.rest
-    same_timers = sym (timers-append a.front a.rest) ∙ (ap timers_in same_rest ∙ timers-append b.front b.rest)
+    same_timers : row_timers a.front ++ row_timers a.rest ≡ row_timers b.front ++ row_timers b.rest
+    same_timers = sym (timers-append a.front a.rest) ∙ (ap row_timers same_rest ∙ timers-append b.front b.rest)
 
-    others2 : IsNotAmong (timer_in row).serial (timers_in b.front ++ timers_in b.rest)
-    others2 = subst (IsNotAmong (timer_in row).serial) same_timers others
+    others2 : IsNotAmong (row_timer row).serial (row_timers b.front ++ row_timers b.rest)
+    others2 = subst (IsNotAmong (row_timer row).serial) same_timers others
 
-    pub distinct_moved : AreDistinct (timers_in new)
-    distinct_moved = subst AreDistinct (sym (ap timers_in b.new_is ∙ timers-append b.front (row ∷ b.rest)))
-        (AreDistinct-inserted (timer_in row) (timers_in b.front) (timers_in b.rest) others2
-        (subst AreDistinct same_timers (AreDistinct-taken (timer_in row) (timers_in a.front) (timers_in a.rest) apart)))
+    pub distinct_moved : AreDistinct (row_timers new)
+    distinct_moved = subst AreDistinct (sym (ap row_timers b.new_is ∙ timers-append b.front (row ∷ b.rest)))
+        (AreDistinct-inserted (row_timer row) (row_timers b.front) (row_timers b.rest) others2
+        (subst AreDistinct same_timers (AreDistinct-taken (row_timer row) (row_timers a.front) (row_timers a.rest) apart)))
 
-    among_front : (xs ys : List Timer) → IsNotAmong (timer_in row).serial (xs ++ ys) → IsNotAmong (timer_in row).serial xs
-    among_front xs ys n = all-front (λ t. t.serial ≢ (timer_in row).serial) xs ys n
+    among_front : (xs ys : List Timer) → IsNotAmong (row_timer row).serial (xs ++ ys) → IsNotAmong (row_timer row).serial xs
+    among_front xs ys n = all-front (λ t. t.serial ≢ (row_timer row).serial) xs ys n
 
-    pub in_order_moved : in_order timer_in new ≡ in_order timer_in old
+    pub in_order_moved : in_order row_timer new ≡ in_order row_timer old
     in_order_moved =
-        ap (in_order timer_in) b.new_is
-        ∙ (in_order-anywhere timer_in row b.front b.rest (among_front (timers_in b.front) (timers_in b.rest) others2)
-        ∙ (ap (λ (r : Rows). insert_in_order timer_in row (in_order timer_in r)) (sym same_rest)
-        ∙ (sym (in_order-anywhere timer_in row a.front a.rest (among_front (timers_in a.front) (timers_in a.rest) others))
-        ∙ ap (in_order timer_in) (sym a.new_is))))
+        ap (in_order row_timer) b.new_is
+        ∙ (in_order-anywhere row_timer row b.front b.rest (among_front (row_timers b.front) (row_timers b.rest) others2)
+        ∙ (ap (λ (r : Rows). insert_in_order row_timer row (in_order row_timer r)) (sym same_rest)
+        ∙ (sym (in_order-anywhere row_timer row a.front a.rest (among_front (row_timers a.front) (row_timers a.rest) others))
+        ∙ ap (in_order row_timer) (sym a.new_is))))
 
 -- the pending entries are the rows, in order
-pending_by_rows : (rows : Rows) → pending_in rows ≡ entries_of (in_order timer_in rows)
-pending_by_rows rows = sym (map-in_order timer_in timer_of entry_of (λ x. refl) rows)
+pending_by_rows : (rows : Rows) → pending_in rows ≡ entries_of (in_order row_timer rows)
+pending_by_rows rows = sym (map-in_order row_timer timer_of entry_of (λ x. refl) rows)
 
 -- The move.
 
@@ -112,20 +112,20 @@ module _ {n last_tick now last : ℕ} {lists : KeyedLists} {from to : ℕ} {row 
   abbrev new_rows : Rows
   new_rows = rows_below n (with_row to row (slice_set lists from rest))
 
-  first_rising : AreRising 0 (timer_in row ∷ timers_in rest)
-  first_rising = subst (λ (r : Rows). AreRising 0 (timers_in r)) m.at (b.in_order from (omega (arith, m.from_in)))
+  first_rising : AreRising 0 (row_timer row ∷ row_timers rest)
+  first_rising = subst (λ (r : Rows). AreRising 0 (row_timers r)) m.at (b.in_order from (omega (arith, m.from_in)))
 
-  pub serial_positive : 0 < (timer_in row).serial
+  pub serial_positive : 0 < (row_timer row).serial
   serial_positive = first_rising.0
 
-  pub rest_rising : AreRising (timer_in row).serial (timers_in rest)
+  pub rest_rising : AreRising (row_timer row).serial (row_timers rest)
   rest_rising = first_rising.1
 
   pub mid_in_order : AreInOrder (n + 1) (slice_set lists from rest)
   mid_in_order s h = elim (cases_eq s from) [
-    | inl e ↦ subst (λ (r : Rows). AreRising 0 (timers_in r)) (sym (ap (λ (x : ℕ). list_at x (slice_set lists from rest)) e ∙ mid_from))
-        (AreRising-weaken (timer_in row).serial 0 (timers_in rest) (omega arith) rest_rising)
-    | inr x ↦ subst (λ (r : Rows). AreRising 0 (timers_in r)) (sym (mid_others s x)) (b.in_order s h)
+    | inl e ↦ subst (λ (r : Rows). AreRising 0 (row_timers r)) (sym (ap (λ (x : ℕ). list_at x (slice_set lists from rest)) e ∙ mid_from))
+        (AreRising-weaken (row_timer row).serial 0 (row_timers rest) (omega arith) rest_rising)
+    | inr x ↦ subst (λ (r : Rows). AreRising 0 (row_timers r)) (sym (mid_others s x)) (b.in_order s h)
   ]
 
   pub moved_sound : AreBuckets n last_tick now last (with_row to row (slice_set lists from rest))
@@ -135,7 +135,7 @@ module _ {n last_tick now last : ℕ} {lists : KeyedLists} {from to : ℕ} {row 
     serial_in_range = b.serial_in_range;
     has_lists = length-set (slice_set lists from rest) to (list_at to (slice_set lists from rest) ++ row ∷ []) ∙ (mid_length ∙ b.has_lists);
     pending = all_moved row (rows_below n (slice_set lists from rest)) old_rows new_rows inserted_old inserted_new
-        (λ (r : Row). IsPending last_tick now last (timer_in r)) b.pending;
+        (λ (r : Row). IsPending last_tick now last (row_timer r)) b.pending;
     distinct = distinct_moved row (rows_below n (slice_set lists from rest)) old_rows new_rows inserted_old inserted_new b.distinct;
     due = rw (due_same) b.due;
     in_order = in_order-with_row (n + 1) to row (slice_set lists from rest) to_exists serial_positive
@@ -148,7 +148,7 @@ module _ {n last_tick now last : ℕ} {lists : KeyedLists} {from to : ℕ} {row 
   moved_state =
       let due : list_at n (with_row to row (slice_set lists from rest)) ≡ list_at n lists =
       after_others n (λ (e : n ≡ from). omega (arith, m.from_in)) (λ (e : n ≡ to). omega (arith, m.to_in)) in
-      let rows : in_order timer_in (rows_below n (with_row to row (slice_set lists from rest))) ≡ in_order timer_in (rows_below n lists) =
+      let rows : in_order row_timer (rows_below n (with_row to row (slice_set lists from rest))) ≡ in_order row_timer (rows_below n lists) =
       in_order_moved row (rows_below n (slice_set lists from rest)) old_rows new_rows inserted_old inserted_new b.distinct in
       let pend : pending_in (rows_below n (with_row to row (slice_set lists from rest))) ≡ pending_in (rows_below n lists) =
       pending_by_rows (rows_below n (with_row to row (slice_set lists from rest)))

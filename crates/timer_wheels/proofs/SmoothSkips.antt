@@ -7,7 +7,7 @@ use Rattle.timer_base.specs.WheelState.{IsPending, IsDue}
 use Rattle.timer_links.specs.Lists.{list_at, Row}
 use Rattle.timer_links.specs.declared.kept.Kept.{Ghosts}
 use Rattle.timer_wheels.specs.Bank.{IsBank}
-use Rattle.timer_wheels.specs.BucketLists.{timer_in, AreBuckets, EachRow}
+use Rattle.timer_wheels.specs.BucketLists.{row_timer, AreBuckets, EachRow}
 use Rattle.timer_wheels.specs.Digits.{IsTable, HasDigits}
 use Rattle.timer_wheels.specs.Smooth.{slot_in, smooth_list, moved_to, mark, IsByLaw, IsSmooth, Stands, IsAheadOf}
 use Rattle.timer_wheels.specs.Tables.{radices}
@@ -67,10 +67,10 @@ module _ {N : Type 0} {kept : Ghosts N} (t : Table) (b : Buckets N kept) (words 
       (to_relation (radices t) b.last_tick b.tick b.last_serial (mark (radices t) b.tick b.links.lists) skip_table skip_digits b.slots
       b.links.lists b.sound h.placed s l) (ahead s l)
 
-  later_row : (s : ℕ) (row : Row) → Known s row → IsPending b.last_tick b.tick b.last_serial (timer_in row)
-      → IsPending b.last_tick tick b.last_serial (timer_in row)
+  later_row : (s : ℕ) (row : Row) → Known s row → IsPending b.last_tick b.tick b.last_serial (row_timer row)
+      → IsPending b.last_tick tick b.last_serial (row_timer row)
   later_row s row k p = record {
-    later = tick_ahead (radices t) k.placed.on tick (timer_in row).deadline skip_table
+    later = tick_ahead (radices t) k.placed.on tick (row_timer row).deadline skip_table
         (k.ahead_of k.placed.on k.placed.stands.wheel k.placed.stands.at_list);
     in_range = p.in_range;
     serial = p.serial;
@@ -82,12 +82,12 @@ module _ {N : Type 0} {kept : Ghosts N} (t : Table) (b : Buckets N kept) (words 
     tick_in_range = in_range;
     serial_in_range = b.sound.serial_in_range;
     has_lists = b.sound.has_lists;
-    pending = all-rows_below (λ row. IsPending b.last_tick tick b.last_serial (timer_in row)) b.slots b.links.lists
-        (λ s l. all-both (Known s) (λ row. IsPending b.last_tick b.tick b.last_serial (timer_in row))
-        (λ row. IsPending b.last_tick tick b.last_serial (timer_in row)) (list_at s b.links.lists) (later_row s) (known s l)
-        (all-list_at (λ row. IsPending b.last_tick b.tick b.last_serial (timer_in row)) b.slots b.links.lists b.sound.pending s l));
+    pending = all-rows_below (λ row. IsPending b.last_tick tick b.last_serial (row_timer row)) b.slots b.links.lists
+        (λ s l. all-both (Known s) (λ row. IsPending b.last_tick b.tick b.last_serial (row_timer row))
+        (λ row. IsPending b.last_tick tick b.last_serial (row_timer row)) (list_at s b.links.lists) (later_row s) (known s l)
+        (all-list_at (λ row. IsPending b.last_tick b.tick b.last_serial (row_timer row)) b.slots b.links.lists b.sound.pending s l));
     distinct = b.sound.distinct;
-    due = subst (AllByRecursion (λ row. IsDue tick b.last_serial (timer_in row))) (sym none_due) tt;
+    due = subst (AllByRecursion (λ row. IsDue tick b.last_serial (row_timer row))) (sym none_due) tt;
     in_order = b.sound.in_order;
   }
 
@@ -95,21 +95,21 @@ module _ {N : Type 0} {kept : Ghosts N} (t : Table) (b : Buckets N kept) (words 
       → mark (radices t) tick b.links.lists j ≡ mark (radices t) b.tick b.links.lists j
   marks_kept j z l e = ap (λ (x : ℕ). moved_to (list_at (smooth_list (radices t) j (x + 1)) b.links.lists)) e
 
-  row_skipped : (s : ℕ) (row : Row) → Known s row → moved_to (list_at s b.links.lists) < (timer_in row).serial
+  row_skipped : (s : ℕ) (row : Row) → Known s row → moved_to (list_at s b.links.lists) < (row_timer row).serial
       → IsSmooth (radices t) tick (mark (radices t) tick b.links.lists) s row
   row_skipped s row k front =
       let p = k.placed in
       record {
         on = p.on;
         stands = skipped_stands (radices t) b.tick tick (mark (radices t) b.tick b.links.lists) (mark (radices t) tick b.links.lists) s p.on
-            (timer_in row) skip_table later (k.ahead_of p.on p.stands.wheel p.stands.at_list) marks_kept
-            (λ z e. subst (λ (x : ℕ). moved_to (list_at x b.links.lists) < (timer_in row).serial)
+            (row_timer row) skip_table later (k.ahead_of p.on p.stands.wheel p.stands.at_list) marks_kept
+            (λ z e. subst (λ (x : ℕ). moved_to (list_at x b.links.lists) < (row_timer row).serial)
             (p.stands.at_list ∙ ap (smooth_list (radices t) p.on) e) front) p.stands;
         no_rounds = p.no_rounds;
       }
 
   pub skip_by_law : EachRow (IsByLaw (radices t) tick (mark (radices t) tick b.links.lists)) b.slots b.links.lists
   skip_by_law = to_law (radices t) b.last_tick tick b.last_serial (mark (radices t) tick b.links.lists) skip_table skip_digits b.slots
-      b.links.lists skip_sound (λ s l. all-both (Known s) (λ row. moved_to (list_at s b.links.lists) < (timer_in row).serial)
+      b.links.lists skip_sound (λ s l. all-both (Known s) (λ row. moved_to (list_at s b.links.lists) < (row_timer row).serial)
       (IsSmooth (radices t) tick (mark (radices t) tick b.links.lists) s) (list_at s b.links.lists) (row_skipped s) (known s l)
       (front_kept (list_at s b.links.lists) (b.sound.in_order s (omega arith))))

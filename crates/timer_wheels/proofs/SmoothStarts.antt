@@ -7,7 +7,7 @@ use Rattle.timer_base.proofs.Basics.{either}
 use Rattle.timer_base.specs.declared.limits.TheConstants.{LAST}
 use Rattle.timer_base.specs.declared.timer.Timer.{Timer}
 use Rattle.timer_links.specs.Lists.{list_at, with_row, KeyedLists, Row, Rows}
-use Rattle.timer_wheels.specs.BucketLists.{timer_in, AreInOrder, EachRow}
+use Rattle.timer_wheels.specs.BucketLists.{row_timer, AreInOrder, EachRow}
 use Rattle.timer_wheels.specs.Digits.{IsTable, HasDigits, level}
 use Rattle.timer_wheels.specs.Occupied.{bit_of}
 use Rattle.timer_wheels.specs.Smooth.{slot_in, smooth_list, is_in_next, next_list, moved_to, mark, descend, descend_by, smooth_level, IsSmooth, Stands}
@@ -76,7 +76,7 @@ module _ (table : List ℕ) (now : ℕ) (words : List ℕ) where
 
 -- The row of the last start comes to the back of a list.
 
-rises_behind : (serial : ℕ) (rows : Rows) (row : Row) → serial < (timer_in row).serial → serial ≤ moved_to rows
+rises_behind : (serial : ℕ) (rows : Rows) (row : Row) → serial < (row_timer row).serial → serial ≤ moved_to rows
     → serial ≤ moved_to (rows ++ row ∷ [])
 rises_behind serial [] row l h = omega arith
 rises_behind serial (x ∷ xs) row l h = h
@@ -89,7 +89,7 @@ module _ (table : List ℕ) (now n to on : ℕ) (mid : KeyedLists) (row : Row) (
   newest_others s x = get_or-set_other mid to s (list_at to mid ++ row ∷ []) [] x
 
   -- marks rise, as far as a timer that was started before is concerned
-  rise_for : (serial j : ℕ) → serial < (timer_in row).serial → serial ≤ mark table now mid j → serial ≤ mark table now (with_row to row mid) j
+  rise_for : (serial j : ℕ) → serial < (row_timer row).serial → serial ≤ mark table now mid j → serial ≤ mark table now (with_row to row mid) j
   rise_for serial j l h = elim (cases_eq (next_list table now j) to) [
     | inl e ↦
         let was : mark table now mid j ≡ moved_to (list_at to mid) = ap (λ (x : ℕ). moved_to (list_at x mid)) e in
@@ -102,9 +102,9 @@ module _ (table : List ℕ) (now n to on : ℕ) (mid : KeyedLists) (row : Row) (
   -- what is known of a row that was there
   record Before (s : ℕ) (u : Row) : Type 0 where
     placed : IsSmooth table now (mark table now mid) s u
-    older : (timer_in u).serial < (timer_in row).serial
+    older : (row_timer u).serial < (row_timer row).serial
 
-  before_stays : (s : ℕ) (u : Row) → Before s u → moved_to (list_at s (with_row to row mid)) < (timer_in u).serial
+  before_stays : (s : ℕ) (u : Row) → Before s u → moved_to (list_at s (with_row to row mid)) < (row_timer u).serial
       → IsSmooth table now (mark table now (with_row to row mid)) s u
   before_stays s u b front = record {
     on = b.placed.on;
@@ -113,22 +113,22 @@ module _ (table : List ℕ) (now n to on : ℕ) (mid : KeyedLists) (row : Row) (
       at_list = b.placed.stands.at_list;
       ahead = b.placed.stands.ahead;
       near = b.placed.stands.near;
-      passed = λ j a c e. rise_for (timer_in u).serial j b.older (b.placed.stands.passed j a c e);
-      kept = λ z e. subst (λ (x : ℕ). moved_to (list_at x (with_row to row mid)) < (timer_in u).serial)
+      passed = λ j a c e. rise_for (row_timer u).serial j b.older (b.placed.stands.passed j a c e);
+      kept = λ z e. subst (λ (x : ℕ). moved_to (list_at x (with_row to row mid)) < (row_timer u).serial)
           (b.placed.stands.at_list ∙ ap (smooth_list table b.placed.on) e) front;
     };
     no_rounds = b.placed.no_rounds;
   }
 
   module _ (no_rounds : row.1.rounds ≡ 0) (ordered : AreInOrder n (with_row to row mid))
-      (older : EachRow (λ s u. (timer_in u).serial < (timer_in row).serial) n mid)
+      (older : EachRow (λ s u. (row_timer u).serial < (row_timer row).serial) n mid)
       (placed : EachRow (IsSmooth table now (mark table now mid)) n mid)
-      (stands : Stands table now (mark table now (with_row to row mid)) to on (timer_in row)) where
+      (stands : Stands table now (mark table now (with_row to row mid)) to on (row_timer row)) where
     befores : (s : ℕ) → s < n → AllByRecursion (Before s) (list_at s mid)
-    befores s h = all-both (IsSmooth table now (mark table now mid) s) (λ u. (timer_in u).serial < (timer_in row).serial) (Before s)
+    befores s h = all-both (IsSmooth table now (mark table now mid) s) (λ u. (row_timer u).serial < (row_timer row).serial) (Before s)
         (list_at s mid) (λ u p o. record { placed = p; older = o }) (placed s h) (older s h)
 
-    fronts : (s : ℕ) → s < n → AllByRecursion (λ u. moved_to (list_at s (with_row to row mid)) < (timer_in u).serial)
+    fronts : (s : ℕ) → s < n → AllByRecursion (λ u. moved_to (list_at s (with_row to row mid)) < (row_timer u).serial)
         (list_at s (with_row to row mid))
     fronts s h = front_kept (list_at s (with_row to row mid)) (ordered s h)
 
@@ -137,30 +137,30 @@ module _ (table : List ℕ) (now n to on : ℕ) (mid : KeyedLists) (row : Row) (
       | inl e ↦
           let is : list_at s (with_row to row mid) ≡ list_at s mid ++ row ∷ [] =
           ap (λ (x : ℕ). list_at x (with_row to row mid)) e ∙ (newest_there ∙ ap (λ (x : ℕ). list_at x mid ++ row ∷ []) (sym e)) in
-          let f : AllByRecursion (λ u. moved_to (list_at s (with_row to row mid)) < (timer_in u).serial) (list_at s mid ++ row ∷ []) =
-          subst (AllByRecursion (λ u. moved_to (list_at s (with_row to row mid)) < (timer_in u).serial)) is (fronts s h) in
+          let f : AllByRecursion (λ u. moved_to (list_at s (with_row to row mid)) < (row_timer u).serial) (list_at s mid ++ row ∷ []) =
+          subst (AllByRecursion (λ u. moved_to (list_at s (with_row to row mid)) < (row_timer u).serial)) is (fronts s h) in
           let here : IsSmooth table now (mark table now (with_row to row mid)) s row = record {
             on = on;
-            stands = subst (λ (x : ℕ). Stands table now (mark table now (with_row to row mid)) x on (timer_in row)) (sym e) stands;
+            stands = subst (λ (x : ℕ). Stands table now (mark table now (with_row to row mid)) x on (row_timer row)) (sym e) stands;
             no_rounds = no_rounds;
           } in
           subst (AllByRecursion (IsSmooth table now (mark table now (with_row to row mid)) s)) (sym is)
           (all-append (IsSmooth table now (mark table now (with_row to row mid)) s) (list_at s mid) (row ∷ [])
-          (all-both (Before s) (λ u. moved_to (list_at s (with_row to row mid)) < (timer_in u).serial)
+          (all-both (Before s) (λ u. moved_to (list_at s (with_row to row mid)) < (row_timer u).serial)
           (IsSmooth table now (mark table now (with_row to row mid)) s) (list_at s mid) (before_stays s) (befores s h)
-          (all-front (λ u. moved_to (list_at s (with_row to row mid)) < (timer_in u).serial) (list_at s mid) (row ∷ []) f)) (here, tt))
+          (all-front (λ u. moved_to (list_at s (with_row to row mid)) < (row_timer u).serial) (list_at s mid) (row ∷ []) f)) (here, tt))
       | inr x ↦
           let is : list_at s (with_row to row mid) ≡ list_at s mid = newest_others s x in
           subst (AllByRecursion (IsSmooth table now (mark table now (with_row to row mid)) s)) (sym is)
-          (all-both (Before s) (λ u. moved_to (list_at s (with_row to row mid)) < (timer_in u).serial)
+          (all-both (Before s) (λ u. moved_to (list_at s (with_row to row mid)) < (row_timer u).serial)
           (IsSmooth table now (mark table now (with_row to row mid)) s) (list_at s mid) (before_stays s) (befores s h)
-          (subst (AllByRecursion (λ u. moved_to (list_at s (with_row to row mid)) < (timer_in u).serial)) is (fronts s h)))
+          (subst (AllByRecursion (λ u. moved_to (list_at s (with_row to row mid)) < (row_timer u).serial)) is (fronts s h)))
     ]
 
   -- its own bucket has not moved on up to it
-  pub newest_kept : AreInOrder n (with_row to row mid) → to < n → moved_to (list_at to (with_row to row mid)) < (timer_in row).serial
+  pub newest_kept : AreInOrder n (with_row to row mid) → to < n → moved_to (list_at to (with_row to row mid)) < (row_timer row).serial
   newest_kept ordered h =
-      let f : AllByRecursion (λ u. moved_to (list_at to (with_row to row mid)) < (timer_in u).serial) (list_at to mid ++ row ∷ []) =
-      subst (AllByRecursion (λ u. moved_to (list_at to (with_row to row mid)) < (timer_in u).serial)) newest_there
+      let f : AllByRecursion (λ u. moved_to (list_at to (with_row to row mid)) < (row_timer u).serial) (list_at to mid ++ row ∷ []) =
+      subst (AllByRecursion (λ u. moved_to (list_at to (with_row to row mid)) < (row_timer u).serial)) newest_there
       (front_kept (list_at to (with_row to row mid)) (ordered to h)) in
-      (all-rest (λ u. moved_to (list_at to (with_row to row mid)) < (timer_in u).serial) (list_at to mid) (row ∷ []) f).0
+      (all-rest (λ u. moved_to (list_at to (with_row to row mid)) < (row_timer u).serial) (list_at to mid) (row ∷ []) f).0

@@ -12,7 +12,7 @@ use Rattle.timer_wheels.specs.Buckets.{state_of}
 use Rattle.timer_wheels.specs.Digits.{IsTable, weight, lowest_radix}
 use Rattle.timer_wheels.specs.Paces.{pace_at, FitPaces, AreInTime, HasMoved}
 use Rattle.timer_wheels.specs.Placement.{most_moves}
-use Rattle.timer_wheels.specs.Smooth.{slot_in, next_list, heights, height, ticks_left}
+use Rattle.timer_wheels.specs.Smooth.{slot_in, next_list, heights, height, ticks_to_half}
 use Rattle.timer_wheels.specs.Tables.{radices}
 use Rattle.timer_wheels.specs.declared.buckets.Buckets.{Buckets}
 use Rattle.timer_wheels.specs.declared.table.Table.{Table}
@@ -38,9 +38,9 @@ pub ticks_empty : {N : Type 0} {kept : Ghosts N} (t : Table) (old new : Buckets 
     → slot_in (radices t) k (new.tick + 1) ≡ slot_in (radices t) k new.tick + 1
     → list_at (next_list (radices t) new.tick k) new.links.lists ≡ []
 ticks_empty t old new paces paces2 k h e m z l s =
-    let none : ticks_left (radices t) old.tick k ≡ 0 =
-    ap (λ (x : ℕ). ticks_left (radices t) x k) (sym e) ∙ none_left (radices t) k new.tick (two_ticks t k z) s in
-    let zero_product : pace_at paces k * ticks_left (radices t) old.tick k ≡ pace_at paces k * 0 = ap (λ (x : ℕ). pace_at paces k * x) none in
+    let none : ticks_to_half (radices t) old.tick k ≡ 0 =
+    ap (λ (x : ℕ). ticks_to_half (radices t) x k) (sym e) ∙ none_left (radices t) k new.tick (two_ticks t k z) s in
+    let zero_product : pace_at paces k * ticks_to_half (radices t) old.tick k ≡ pace_at paces k * 0 = ap (λ (x : ℕ). pace_at paces k * x) none in
     no_length (list_at (next_list (radices t) new.tick k) new.links.lists) (omega (arith, h k z l, m.fewer))
 
 -- a slot that is another one after a tick begins at it
@@ -60,7 +60,7 @@ pub in_time_ticked : {N : Type 0} {kept : Ghosts N} (t : Table) (old mid new : B
     → ((k : ℕ) → 0 < k → k < length (radices t) → slot_in (radices t) k (mid.tick + 1) ≡ slot_in (radices t) k mid.tick
     → next_len t new k ≡ next_len t mid k)
     → ((k : ℕ) → 0 < k → k < length (radices t) → slot_in (radices t) k new.tick * weight k (radices t) ≡ new.tick
-    → next_len t new k ≤ pace_at paces3 k * ticks_left (radices t) new.tick k)
+    → next_len t new k ≤ pace_at paces3 k * ticks_to_half (radices t) new.tick k)
     → ((k : ℕ) → slot_in (radices t) k new.tick * weight k (radices t) ≢ new.tick → pace_at paces3 k ≡ pace_at paces2 k)
     → AreInTime t new paces3
 in_time_ticked t old mid new paces paces2 paces3 h e moved f kept begun others k z l =
@@ -75,18 +75,18 @@ in_time_ticked t old mid new paces paces2 paces3 h e moved f kept begun others k
   where
     stays : slot_in (radices t) k new.tick * weight k (radices t) ≢ new.tick
         → slot_in (radices t) k (mid.tick + 1) ≡ slot_in (radices t) k mid.tick
-        → next_len t new k ≤ pace_at paces3 k * ticks_left (radices t) new.tick k
+        → next_len t new k ≤ pace_at paces3 k * ticks_to_half (radices t) new.tick k
     stays n same =
         let m = moved k z l in
         let p : pace_at paces3 k ≡ pace_at paces2 k = others k n in
-        let was : next_len t old k ≤ pace_at paces k * ticks_left (radices t) mid.tick k =
-        subst (λ (x : ℕ). next_len t old k ≤ pace_at paces k * ticks_left (radices t) x k) (sym e) (h k z l) in
-        let less : next_len t old k - pace_at paces k ≤ pace_at paces k * ticks_left (radices t) (mid.tick + 1) k =
+        let was : next_len t old k ≤ pace_at paces k * ticks_to_half (radices t) mid.tick k =
+        subst (λ (x : ℕ). next_len t old k ≤ pace_at paces k * ticks_to_half (radices t) x k) (sym e) (h k z l) in
+        let less : next_len t old k - pace_at paces k ≤ pace_at paces k * ticks_to_half (radices t) (mid.tick + 1) k =
         pace_tick (radices t) k mid.tick (next_len t old k) (pace_at paces k) same was in
         let c : next_len t new k ≡ next_len t mid k = kept k z l same in
         elim m.pace [
-          | inl q ↦ subst (λ (x : ℕ). next_len t new k ≤ x * ticks_left (radices t) new.tick k) (sym (p ∙ q))
-              (subst (λ (x : ℕ). next_len t new k ≤ pace_at paces k * ticks_left (radices t) x k) (sym f) (omega (arith, m.fewer)))
+          | inl q ↦ subst (λ (x : ℕ). next_len t new k ≤ x * ticks_to_half (radices t) new.tick k) (sym (p ∙ q))
+              (subst (λ (x : ℕ). next_len t new k ≤ pace_at paces k * ticks_to_half (radices t) x k) (sym f) (omega (arith, m.fewer)))
           | inr q ↦ (let none : next_len t mid k ≡ 0 = q.1 in omega arith)
         ]
 

@@ -11,7 +11,7 @@ use Rattle.timer_base.specs.WheelState.{IsPending, IsDue, after_start, after_due
 use Rattle.timer_links.specs.declared.kept.Node.{Node}
 use Rattle.timer_links.specs.Lists.{list_at, with_row, without_key, PopsFront, KeyedLists, Row, Rows}
 use Rattle.timer_wheels.specs.Buckets.{IsListOf}
-use Rattle.timer_wheels.specs.BucketLists.{timer_in, timers_in, rows_below, wheel_state, AreDue, AreBuckets}
+use Rattle.timer_wheels.specs.BucketLists.{row_timer, row_timers, rows_below, wheel_state, AreDue, AreBuckets}
 use Rattle.timer_wheels.proofs.AllLemmas.{all-map}
 use Rattle.timer_wheels.proofs.RowLemmas.{IsInserted, IsNotAmong-below, rows_below-with_row, all-append, all-list_at, entries-append, rows_below-above, rows_below-none, rows_below-without_key, list_at-without_key}
 use Rattle.timer_wheels.proofs.BucketLemmas.{AreDistinct-part, AreRising-part, AreBelow-pending, pending_in-newest, all-inserted, distinct-inserted, in_order-with_row}
@@ -20,8 +20,8 @@ module _ {n last_tick now last : ℕ} {lists : KeyedLists} (b : AreBuckets n las
   -- the row under a key is removed, if there is one
   pub removed : (key : ℕ) → AreBuckets n last_tick now last (map (without_key key) lists)
   removed key =
-      let pending : Row → Type 0 = λ row. IsPending last_tick now last (timer_in row) in
-      let due : Row → Type 0 = λ row. IsDue now last (timer_in row) in
+      let pending : Row → Type 0 = λ row. IsPending last_tick now last (row_timer row) in
+      let due : Row → Type 0 = λ row. IsDue now last (row_timer row) in
       record {
         last_in_range = b.last_in_range;
         tick_in_range = b.tick_in_range;
@@ -37,17 +37,17 @@ module _ {n last_tick now last : ℕ} {lists : KeyedLists} (b : AreBuckets n las
 
   -- what is due, with a later last serial
   older : (serial : ℕ) → last < serial → AreDue now serial (list_at n lists)
-  older serial fresh = All-weaken (λ row. IsDue now last (timer_in row)) (λ row. IsDue now serial (timer_in row)) (list_at n lists)
-      (λ row d. record { deadline = d.deadline; serial = let s : (timer_in row).serial ≤ last = d.serial in omega arith }) b.due
+  older serial fresh = All-weaken (λ row. IsDue now last (row_timer row)) (λ row. IsDue now serial (row_timer row)) (list_at n lists)
+      (λ row d. record { deadline = d.deadline; serial = let s : (row_timer row).serial ≤ last = d.serial in omega arith }) b.due
 
   -- what is pending, with a later last serial
   older_pending : (serial : ℕ) → last < serial
-      → AllByRecursion (λ row. IsPending last_tick now serial (timer_in row)) (rows_below n lists)
-  older_pending serial fresh = All-weaken (λ row. IsPending last_tick now last (timer_in row))
-      (λ row. IsPending last_tick now serial (timer_in row)) (rows_below n lists) (λ row p. record {
+      → AllByRecursion (λ row. IsPending last_tick now serial (row_timer row)) (rows_below n lists)
+  older_pending serial fresh = All-weaken (λ row. IsPending last_tick now last (row_timer row))
+      (λ row. IsPending last_tick now serial (row_timer row)) (rows_below n lists) (λ row p. record {
         later = p.later;
         in_range = p.in_range;
-        serial = let s : (timer_in row).serial ≤ last = p.serial in omega arith;
+        serial = let s : (row_timer row).serial ≤ last = p.serial in omega arith;
       }) b.pending
 
   -- a timer is started at the back of a bucket
@@ -58,7 +58,7 @@ module _ {n last_tick now last : ℕ} {lists : KeyedLists} (b : AreBuckets n las
     inserted : IsInserted (place, node) (rows_below n lists) (rows_below n (with_row bucket (place, node) lists))
     inserted = rows_below-with_row n bucket (place, node) lists h here
 
-    below : AreBelow node.timer.serial (timers_in (rows_below n lists))
+    below : AreBelow node.timer.serial (row_timers (rows_below n lists))
     below = AreBelow-pending last_tick now last node.timer.serial (rows_below n lists) fresh b.pending
 
     due_stays : list_at n (with_row bucket (place, node) lists) ≡ list_at n lists
@@ -71,13 +71,13 @@ module _ {n last_tick now last : ℕ} {lists : KeyedLists} (b : AreBuckets n las
       tick_in_range = b.tick_in_range;
       serial_in_range = serial;
       has_lists = length-set lists bucket (list_at bucket lists ++ (place, node) ∷ []) ∙ b.has_lists;
-      pending = all-inserted inserted (λ row. IsPending last_tick now node.timer.serial (timer_in row))
+      pending = all-inserted inserted (λ row. IsPending last_tick now node.timer.serial (row_timer row))
           (record { later = later; in_range = range; serial = omega arith }) (older_pending node.timer.serial fresh);
-      distinct = distinct-inserted inserted (IsNotAmong-below node.timer.serial (timers_in (rows_below n lists)) below) b.distinct;
+      distinct = distinct-inserted inserted (IsNotAmong-below node.timer.serial (row_timers (rows_below n lists)) below) b.distinct;
       due = subst (AreDue now node.timer.serial) (sym due_stays) (older node.timer.serial fresh);
       in_order = in_order-with_row (n + 1) bucket (place, node) lists here (omega arith)
           (AreBelow-pending last_tick now last node.timer.serial (list_at bucket lists) fresh
-          (all-list_at (λ row. IsPending last_tick now last (timer_in row)) n lists b.pending bucket h)) b.in_order;
+          (all-list_at (λ row. IsPending last_tick now last (row_timer row)) n lists b.pending bucket h)) b.in_order;
     }
 
     -- its entry comes to its place among the pending ones
@@ -85,10 +85,10 @@ module _ {n last_tick now last : ℕ} {lists : KeyedLists} (b : AreBuckets n las
         ≡ after_start place node.timer (wheel_state n last_tick now last lists)
     pushed-state = rw (pending_in-newest inserted below, due_stays) refl
 
-  newest_due : (serial : ℕ) → last < serial → AreBelow serial (timers_in (list_at n lists))
-  newest_due serial fresh = all-map timer_in (λ t. t.serial < serial) (list_at n lists)
-      (All-weaken (λ row. IsDue now last (timer_in row)) (λ row. (timer_in row).serial < serial) (list_at n lists)
-      (λ row d. let s : (timer_in row).serial ≤ last = d.serial in omega arith) b.due)
+  newest_due : (serial : ℕ) → last < serial → AreBelow serial (row_timers (list_at n lists))
+  newest_due serial fresh = all-map row_timer (λ t. t.serial < serial) (list_at n lists)
+      (All-weaken (λ row. IsDue now last (row_timer row)) (λ row. (row_timer row).serial < serial) (list_at n lists)
+      (λ row d. let s : (row_timer row).serial ≤ last = d.serial in omega arith) b.due)
 
   -- a timer is started at the back of what is due
   pushed_due : (place : ℕ) (node : Node) → node.timer.deadline ≡ now → last < node.timer.serial → node.timer.serial ≤ LAST
@@ -105,7 +105,7 @@ module _ {n last_tick now last : ℕ} {lists : KeyedLists} (b : AreBuckets n las
         pending = rw rows (older_pending node.timer.serial fresh);
         distinct = rw rows b.distinct;
         due = subst (AreDue now node.timer.serial) (sym (get_or-set_same lists n (list_at n lists ++ (place, node) ∷ []) [] here))
-            (all-append (λ row. IsDue now node.timer.serial (timer_in row)) (list_at n lists) ((place, node) ∷ [])
+            (all-append (λ row. IsDue now node.timer.serial (row_timer row)) (list_at n lists) ((place, node) ∷ [])
             (older node.timer.serial fresh) (record { deadline = due; serial = omega arith }, tt));
         in_order = in_order-with_row (n + 1) n (place, node) lists here (omega arith) (newest_due node.timer.serial fresh) b.in_order;
       }
@@ -163,8 +163,8 @@ module _ {n last_tick now last : ℕ} {lists : KeyedLists} (b : AreBuckets n las
       distinct = rw same_rows b.distinct;
       due = subst (AreDue now last) (sym less_due) (subst (AreDue now last) e b.due).1;
       in_order = λ s h. elim (cases_eq s n) [
-        | inl q ↦ rw (q, less_due) (AreRising-weaken (timer_in row).serial 0 (timers_in rest) (omega arith)
-            (subst (λ (y : Rows). AreRising 0 (timers_in y)) e (b.in_order n (omega arith))).1)
+        | inl q ↦ rw (q, less_due) (AreRising-weaken (row_timer row).serial 0 (row_timers rest) (omega arith)
+            (subst (λ (y : Rows). AreRising 0 (row_timers y)) e (b.in_order n (omega arith))).1)
         | inr x ↦ rw (get_or-set_other lists n s rest [] x) (b.in_order s h)
       ];
     }

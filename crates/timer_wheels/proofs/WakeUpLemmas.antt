@@ -11,7 +11,7 @@ use Rattle.timer_base.specs.WheelState.{IsPending}
 use Rattle.timer_links.specs.Lists.{list_at, row_count, KeyedLists, Rows}
 use Rattle.timer_wheels.specs.Hashed.{slot_of, rounds_of, IsInBucket, AreInBuckets, IsNextSweep}
 use Rattle.timer_wheels.specs.Shown.{entries_at}
-use Rattle.timer_wheels.specs.BucketLists.{timer_in, entry_of, entries_of, rows_below, pending_in, wheel_state, ArePending, AreInOrder, EachRow}
+use Rattle.timer_wheels.specs.BucketLists.{row_timer, entry_of, entries_of, rows_below, pending_in, wheel_state, ArePending, AreInOrder, EachRow}
 use Rattle.timer_wheels.proofs.ShownLemmas.{shows, some_at, entries_at-pending}
 use Rattle.timer_wheels.proofs.AllLemmas.{all-both, all-map}
 use Rattle.timer_wheels.proofs.DigitLaws.{rest_is}
@@ -33,13 +33,13 @@ some_pending n l lists b h = elim (cases_lt l (length lists)) [
 module _ (n last now last_serial : ℕ) (lists : KeyedLists) where
   -- some bucket has a timer, and no deadline is before this tick
   pub wakes : (visit l : ℕ) → l < n → 0 < length (list_at l lists) → now < visit
-      → EachRow (λ s row. visit ≤ (timer_in row).deadline) n lists → IsWakeUp visit now (pending_in (rows_below n lists))
+      → EachRow (λ s row. visit ≤ (row_timer row).deadline) n lists → IsWakeUp visit now (pending_in (rows_below n lists))
   wakes visit l b h k a = record {
     some = some_pending n l lists b h;
     later = k;
     in_time = All-in_order timer_of (λ entry. visit ≤ entry.timer.deadline) (entries_of (rows_below n lists))
         (all-map entry_of (λ entry. visit ≤ entry.timer.deadline) (rows_below n lists)
-        (all-rows_below (λ row. visit ≤ (timer_in row).deadline) n lists a));
+        (all-rows_below (λ row. visit ≤ (row_timer row).deadline) n lists a));
   }
 
   -- no bucket has a timer
@@ -99,13 +99,13 @@ row_in_time n now slot step s d lists a f m k h = elim (cases_lt d (now + (step 
 module _ (n last now last_serial slot step : ℕ) (lists : KeyedLists) (a : slot
     ≡ now % n) (f : AreEmptyAhead n slot step lists) where
   lists_in_time : ArePending last now last_serial (rows_below n lists) → AreInBuckets n now lists
-      → EachRow (λ s row. now + (step + 1) ≤ (timer_in row).deadline) n lists
+      → EachRow (λ s row. now + (step + 1) ≤ (row_timer row).deadline) n lists
   lists_in_time p q s b = elim (some_or_none (list_at s lists)) [
     | inl e ↦ rw e tt
-    | inr h ↦ all-both (λ row. IsPending last now last_serial (timer_in row)) (IsInBucket n now s)
-        (λ row. now + (step + 1) ≤ (timer_in row).deadline) (list_at s lists)
-        (λ row x y. row_in_time n now slot step s (timer_in row).deadline lists a f y.0 x.later h)
-        (all-list_at (λ row. IsPending last now last_serial (timer_in row)) n lists p s b) (q s b)
+    | inr h ↦ all-both (λ row. IsPending last now last_serial (row_timer row)) (IsInBucket n now s)
+        (λ row. now + (step + 1) ≤ (row_timer row).deadline) (list_at s lists)
+        (λ row x y. row_in_time n now slot step s (row_timer row).deadline lists a f y.0 x.later h)
+        (all-list_at (λ row. IsPending last now last_serial (row_timer row)) n lists p s b) (q s b)
   ]
 
   -- the first slot ahead that has a timer

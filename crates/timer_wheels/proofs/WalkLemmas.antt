@@ -6,7 +6,7 @@ use Rattle.timer_base.proofs.Basics.{some_same, some_none, none_some, empty_when
 use Rattle.timer_base.specs.declared.timer.Timer.{Timer}
 use Rattle.timer_links.specs.declared.kept.Node.{Node}
 use Rattle.timer_links.specs.Lists.{node_at, first_key, list_at, row_count, AreApart, IsNext, PopsFront, KeyedLists, Row, Rows}
-use Rattle.timer_wheels.specs.BucketLists.{timers_in, timer_in}
+use Rattle.timer_wheels.specs.BucketLists.{row_timers, row_timer}
 use Rattle.timer_wheels.proofs.RowLemmas.{append-nil, timers-append, set_twice}
 
 -- after some steps these rows of the list are behind, those are left, and the key is that of the next one
@@ -145,7 +145,7 @@ pub counted_one : (step key : ℕ) (node : Node) (past : Rows) → IsCounted ste
 counted_one step key node past h = omega (arith, h, length-append past ((key, node) ∷ []))
 
 abbrev pub IsCopied : List Timer → List Timer → Rows → Type 0
-IsCopied old new past = new ≡ old ++ timers_in past
+IsCopied old new past = new ≡ old ++ row_timers past
 
 pub copied_one : (key : ℕ) (node same : Node) (found : Option Node) (old new more : List Timer) (past : Rows) → Some same ≡ found
     → more ≡ new ++ same.timer ∷ [] → found ≡ Some node → IsCopied old new past → IsCopied old more (past ++ (key, node) ∷ [])
@@ -154,7 +154,7 @@ copied_one key node same found old new more past f m e h = rw (
   h,
   some_same same node (f ∙ e),
   timers-append past ((key, node) ∷ []),
-  append_assoc old (timers_in past) (node.timer ∷ []),
+  append_assoc old (row_timers past) (node.timer ∷ []),
 ) refl
 
 -- while a row is left, fewer timers were copied than the list has
@@ -167,8 +167,8 @@ copied_fits {l = l} {step = step} {lists = lists} {at = at} old new key g e =
       ap (λ (y : Rows). length y) w.rows,
       length-append g.past ((key, w.node) ∷ w.rest),
       ap (λ (y : List Timer). length y) g.holds,
-      length-append old (timers_in g.past),
-      length-map g.past timer_in,
+      length-append old (row_timers g.past),
+      length-map g.past row_timer,
     )
 
 -- One list is emptied.

@@ -14,7 +14,7 @@ use Rattle.timer_wheels.specs.declared.table.TheConstants.{MOST_BUCKETS}
 use Rattle.timer_wheels.specs.declared.table.Table.{Table}
 use Rattle.timer_wheels.specs.Buckets.{IsSameFrame, IsListOf}
 use Rattle.timer_wheels.specs.declared.buckets.Buckets.{Buckets}
-use Rattle.timer_wheels.specs.BucketLists.{timer_in, wheel_state, AreDue, AreBuckets, EachRow}
+use Rattle.timer_wheels.specs.BucketLists.{row_timer, wheel_state, AreDue, AreBuckets, EachRow}
 use Rattle.timer_wheels.specs.Digits.{bucket, slots, last_of, lowest_radix}
 use Rattle.timer_wheels.specs.Firsts.{FirstsState, AreFirsts}
 use Rattle.timer_wheels.specs.Hier.{IsHier, HasFirsts, Comes, Goes}
@@ -66,7 +66,7 @@ module _ {table : List ℕ} {now n : ℕ} {words : List ℕ} {firsts : FirstsSta
 
   module _ (list : ℕ) (row : Row) (len : length lists ≡ n + 1) (z : row.1.rounds ≡ 0) (words2 : List ℕ) (firsts2 : FirstsState) where
     abbrev d : ℕ
-    d = (timer_in row).deadline
+    d = (row_timer row).deadline
 
     abbrev front : Option ℕ
     front = first_deadline (list_at list (with_row list row lists))
@@ -118,11 +118,11 @@ module _ {table : List ℕ} {now n : ℕ} {words : List ℕ} {firsts : FirstsSta
     row_has P a = (all-rest P there.front ((handle.place, node) ∷ there.rest) (subst (AllByRecursion P) there.at a)).0
 
     is_pending : there.l < n → IsPending last_tick now last node.timer
-    is_pending h = row_has (λ row. IsPending last_tick now last (timer_in row))
-        (all-list_at (λ row. IsPending last_tick now last (timer_in row)) n lists b.pending there.l h)
+    is_pending h = row_has (λ row. IsPending last_tick now last (row_timer row))
+        (all-list_at (λ row. IsPending last_tick now last (row_timer row)) n lists b.pending there.l h)
 
     is_due : there.l ≡ n → IsDue now last node.timer
-    is_due q = row_has (λ row. IsDue now last (timer_in row)) (subst (λ (l : ℕ). AreDue now last (list_at l lists)) (sym q) b.due)
+    is_due q = row_has (λ row. IsDue now last (row_timer row)) (subst (λ (l : ℕ). AreDue now last (list_at l lists)) (sym q) b.due)
 
     pending_or_due : (there.l < n) ⊎ (there.l ≡ n)
     pending_or_due =

@@ -10,7 +10,7 @@ use Rattle.timer_wheels.specs.BucketLaws.{EachRow-prop}
 use Rattle.timer_wheels.specs.BucketLists.{EachRow}
 use Rattle.timer_wheels.specs.Digits.{last_of}
 use Rattle.timer_wheels.specs.Occupied.{bit_of, AreMarked, AreMarked-prop}
-use Rattle.timer_wheels.specs.Smooth.{smooth_slots, smooth_level, mark, next_list, next_length, next_lengths, heights, ticks_left, IsByLaw}
+use Rattle.timer_wheels.specs.Smooth.{smooth_slots, smooth_level, mark, next_list, next_length, next_lengths, heights, ticks_to_half, IsByLaw}
 use Rattle.timer_wheels.specs.Tables.{radices}
 use Rattle.timer_wheels.specs.declared.buckets.Buckets.{Buckets}
 use Rattle.timer_wheels.specs.declared.table.Table.{Table}
@@ -61,7 +61,7 @@ wheel_of table b timer = if nat_lt b.tick timer.deadline
 
 -- the next bucket of wheel k has timers only in the first half of its time
 abbrev pub IsEarly : {N : Type 0} {kept : Ghosts N} → Table → Buckets N kept → ℕ → Type 0
-IsEarly table b k = ticks_left (radices table) b.tick k ≡ 0 → next_len table b k ≡ 0
+IsEarly table b k = ticks_to_half (radices table) b.tick k ≡ 0 → next_len table b k ≡ 0
 
 -- each other next bucket has as many timers as before
 abbrev pub OthersStay : {N : Type 0} {kept : Ghosts N} → Table → ℕ → Buckets N kept → Buckets N kept → Type 0

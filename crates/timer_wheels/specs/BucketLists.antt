@@ -11,12 +11,12 @@ use Rattle.timer_base.specs.WheelState.{WheelState, IsPending, IsDue}
 use Rattle.timer_links.specs.Lists.{list_at, KeyedLists, Row, Rows}
 
 -- the timer of a row
-abbrev pub timer_in : Row → Timer
-timer_in row = row.1.timer
+abbrev pub row_timer : Row → Timer
+row_timer row = row.1.timer
 
 -- the timers of the rows, in their order
-abbrev pub timers_in : Rows → List Timer
-timers_in rows = map timer_in rows
+abbrev pub row_timers : Rows → List Timer
+row_timers rows = map row_timer rows
 
 -- a row as an entry: a timer's place is the key of its row
 abbrev pub entry_of : Row → Entry
@@ -55,7 +55,7 @@ wheel_state n last_tick now last_serial lists = record {
 -- each row is of a pending timer
 abbrev pub ArePending : ℕ → ℕ → ℕ → Rows → Type 0
 ArePending last_tick now last_serial rows = AllByRecursion
-    (λ row. IsPending last_tick now last_serial (timer_in row)) rows
+    (λ row. IsPending last_tick now last_serial (row_timer row)) rows
 
 -- each row of the first n lists is of a pending timer
 abbrev pub ArePendingBelow : ℕ → ℕ → ℕ → ℕ → KeyedLists → Type 0
@@ -63,11 +63,11 @@ ArePendingBelow n last_tick now last_serial lists = ArePending last_tick now las
 
 -- each of the first n lists has its rows in order of starting
 abbrev pub AreInOrder : ℕ → KeyedLists → Type 0
-AreInOrder n lists = (s : ℕ) → s < n → AreRising 0 (timers_in (list_at s lists))
+AreInOrder n lists = (s : ℕ) → s < n → AreRising 0 (row_timers (list_at s lists))
 
 -- each row is of a due timer
 abbrev pub AreDue : ℕ → ℕ → Rows → Type 0
-AreDue now last_serial rows = AllByRecursion (λ row. IsDue now last_serial (timer_in row)) rows
+AreDue now last_serial rows = AllByRecursion (λ row. IsDue now last_serial (row_timer row)) rows
 
 -- what always holds of n buckets, the list of due timers after them, and their clock
 pub record AreBuckets (n last_tick now last_serial : ℕ) (lists : KeyedLists) : Type 0 where
@@ -76,7 +76,7 @@ pub record AreBuckets (n last_tick now last_serial : ℕ) (lists : KeyedLists) :
   pub serial_in_range : last_serial ≤ LAST
   pub has_lists : length lists ≡ n + 1
   pub pending : ArePendingBelow n last_tick now last_serial lists
-  pub distinct : AreDistinct (timers_in (rows_below n lists))
+  pub distinct : AreDistinct (row_timers (rows_below n lists))
   pub due : AreDue now last_serial (list_at n lists)
   pub in_order : AreInOrder (n + 1) lists
 

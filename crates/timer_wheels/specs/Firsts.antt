@@ -3,7 +3,7 @@ use Rattle.std.specs.Prelude.{◌≡◌, ◌≢◌, ◌<◌, ◌≤◌, ◌+◌,
 use Rattle.std.specs.Coded.{Π_prop}
 use Rattle.std.proofs.Props.{props}
 use Rattle.timer_links.specs.Lists.{list_at, KeyedLists}
-use Rattle.timer_wheels.specs.BucketLists.{timers_in}
+use Rattle.timer_wheels.specs.BucketLists.{row_timers}
 use Rattle.timer_wheels.specs.declared.first.First.{First}
 use Rattle.timer_wheels.specs.FirstDeadline.{unknown_first, no_first, counts_of, entered_first, left_first, IsFirstOf, IsFirstOf-prop}
 use Rattle.timer_wheels.specs.Occupied.{bit_of}
@@ -77,17 +77,17 @@ pub record Empties (l : ℕ) (old new : FirstsState) : Type 0 where
 -- there is one for each of n lists, and from `lowest` on each is that of the timers in its list
 pub record AreFirsts (lowest n : ℕ) (firsts : FirstsState) (lists : KeyedLists) : Type 0 where
   pub size : length firsts.items ≡ n
-  pub each : (s : ℕ) → lowest ≤ s → s < n → IsFirstOf (first_at s firsts) (timers_in (list_at s lists))
+  pub each : (s : ℕ) → lowest ≤ s → s < n → IsFirstOf (first_at s firsts) (row_timers (list_at s lists))
 
 -- the same but for that of one list
 pub record AreFirstsBut (l lowest n : ℕ) (firsts : FirstsState) (lists : KeyedLists) : Type 0 where
   pub size : length firsts.items ≡ n
-  pub each : (s : ℕ) → lowest ≤ s → s < n → s ≢ l → IsFirstOf (first_at s firsts) (timers_in (list_at s lists))
+  pub each : (s : ℕ) → lowest ≤ s → s < n → s ≢ l → IsFirstOf (first_at s firsts) (row_timers (list_at s lists))
 
 pub AreFirsts-prop : (lowest n : ℕ) (firsts : FirstsState) (lists : KeyedLists)
     → IsProp (AreFirsts lowest n firsts lists)
 AreFirsts-prop lowest n firsts lists = hlevel (
   props,
   Π_prop (λ (s : ℕ). Π_prop (λ (a : lowest ≤ s). Π_prop (λ (b : s < n). IsFirstOf-prop (first_at s firsts)
-      (timers_in (list_at s lists))))),
+      (row_timers (list_at s lists))))),
 )

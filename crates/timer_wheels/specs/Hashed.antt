@@ -7,7 +7,7 @@ use Rattle.timer_base.specs.declared.timer.Timer.{Timer}
 use Rattle.timer_base.specs.WheelState.{WheelState}
 use Rattle.timer_links.specs.Lists.{KeyedLists, Row}
 use Rattle.timer_wheels.specs.BucketLaws.{EachRow-prop}
-use Rattle.timer_wheels.specs.BucketLists.{timer_in, EachRow}
+use Rattle.timer_wheels.specs.BucketLists.{row_timer, EachRow}
 use Rattle.timer_wheels.specs.Shown.{entries_at, ShowsBuckets}
 
 -- the slot of a timer
@@ -34,7 +34,7 @@ pub record IsNextSweep (n tick : ℕ) (w : WheelState) : Type 0 where
 
 -- a row of bucket s
 abbrev pub IsInBucket : ℕ → ℕ → ℕ → Row → Type 0
-IsInBucket n now s row = (slot_of n (timer_in row) ≡ s) × (row.1.rounds ≡ rounds_of n now (timer_in row))
+IsInBucket n now s row = (slot_of n (row_timer row) ≡ s) × (row.1.rounds ≡ rounds_of n now (row_timer row))
 
 -- each row stands in its bucket, with its rounds
 abbrev pub AreInBuckets : ℕ → ℕ → KeyedLists → Type 0

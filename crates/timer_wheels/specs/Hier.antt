@@ -14,11 +14,11 @@ use Rattle.timer_wheels.specs.BucketLaws.{EachRow-prop}
 use Rattle.timer_wheels.specs.BucketLists.{EachRow}
 
 -- each row of the buckets is in its timer's bucket
-abbrev pub ArePlaced : {N : Type 0} {kept : Ghosts N} → Table → Buckets N kept → Type 0
-ArePlaced table b = EachRow (IsPlaced (radices table) b.tick) b.slots b.links.lists
+abbrev pub RowsArePlaced : {N : Type 0} {kept : Ghosts N} → Table → Buckets N kept → Type 0
+RowsArePlaced table b = EachRow (IsPlaced (radices table) b.tick) b.slots b.links.lists
 
-ArePlaced-prop : {N : Type 0} {kept : Ghosts N} (table : Table) (b : Buckets N kept) → IsProp (ArePlaced table b)
-ArePlaced-prop table b = EachRow-prop (IsPlaced (radices table) b.tick)
+RowsArePlaced-prop : {N : Type 0} {kept : Ghosts N} (table : Table) (b : Buckets N kept) → IsProp (RowsArePlaced table b)
+RowsArePlaced-prop table b = EachRow-prop (IsPlaced (radices table) b.tick)
     (IsPlaced-prop (radices table) b.tick) b.slots b.links.lists
 
 -- the potential of the pending timers: the sum of their levels
@@ -30,12 +30,12 @@ pub record IsHier {N : Type 0} {kept : Ghosts N} (table : Table) (b : Buckets N 
   pub has_slots : b.slots ≡ slots (radices table)
   pub clock : b.last_tick ≡ last_of (radices table)
   -- each timer stands in its bucket
-  pub placed : ArePlaced table b
+  pub placed : RowsArePlaced table b
   -- the bits mark which buckets have timers
   pub marked : AreMarked b.slots words b.links.lists
 
 pub IsHier-prop : {N : Type 0} {kept : Ghosts N} (table : Table) (b : Buckets N kept) (words : List ℕ) → IsProp (IsHier table b words)
-IsHier-prop table b words = hlevel (props, ArePlaced-prop table b, AreMarked-prop b.slots words b.links.lists)
+IsHier-prop table b words = hlevel (props, RowsArePlaced-prop table b, AreMarked-prop b.slots words b.links.lists)
 
 -- the first deadline of each bucket above the lowest wheel
 abbrev pub HasFirsts : {N : Type 0} {kept : Ghosts N} → Table → Buckets N kept → FirstsState → Type 0

@@ -39,8 +39,8 @@ counts_of wheel = record {
 }
 
 -- the counts after one more start or restart
-abbrev pub with_start : WheelCounts → WheelCounts
-with_start counts = record counts { starts = counts.starts + 1 }
+abbrev pub with_counted_start : WheelCounts → WheelCounts
+with_counted_start counts = record counts { starts = counts.starts + 1 }
 
 -- the counts after some ticks, with their moves and visits
 abbrev pub with_ticks : ℕ → ℕ → WheelCounts → WheelCounts

@@ -2,7 +2,7 @@
 use Rattle.std.specs.Prelude.{◌≡◌, ℕ, ◌+◌, ◌-◌, ◌*◌, ◌/◌, ◌<◌, ◌≤◌, nat_lt, ◌==◌, ◌⊎◌, if◌then◌else◌, List, [], ◌∷◌, length}
 use Rattle.timer_base.specs.WheelState.{WheelState, after_ticks}
 use Rattle.timer_links.specs.Lists.{KeyedLists}
-use Rattle.timer_wheels.specs.BucketLists.{timer_in, EachRow}
+use Rattle.timer_wheels.specs.BucketLists.{row_timer, EachRow}
 use Rattle.timer_wheels.specs.Placement.{hops_of, levels_of}
 
 -- the next visit of the bucket of a pending timer: its deadline, with zeros below its level
@@ -20,7 +20,7 @@ list_visit (r ∷ rs) l now = if nat_lt l r then r * (now / r) + l else r * list
 -- no bucket with a timer is visited before this tick
 abbrev pub AreNotVisitedBefore : List ℕ → ℕ → ℕ → ℕ → KeyedLists → Type 0
 AreNotVisitedBefore table n now visit lists = EachRow (λ s row. visit
-    ≤ timer_visit table now (timer_in row).deadline) n lists
+    ≤ timer_visit table now (row_timer row).deadline) n lists
 
 -- the first tick ahead at which a timer is due or moves to a lower wheel
 pub record IsNextVisit (table : List ℕ) (tick : ℕ) (w : WheelState) : Type 0 where

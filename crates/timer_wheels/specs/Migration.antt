@@ -4,12 +4,12 @@ use Rattle.std.specs.Prelude.{◌≡◌, ◌≢◌, ℕ, ◌≤◌, not, if◌th
 use Rattle.timer_base.specs.Pending.{is_due_at}
 use Rattle.timer_links.specs.Lists.{list_at, with_row, KeyedLists, Row, Rows}
 use Rattle.timer_wheels.specs.Digits.{bucket, slots, last_of}
-use Rattle.timer_wheels.specs.BucketLists.{timer_in}
+use Rattle.timer_wheels.specs.BucketLists.{row_timer}
 
 -- the list that a row moves to at this tick: that of the due timers at its deadline, else its bucket
 abbrev pub target : List ℕ → ℕ → Row → ℕ
-target table tick row = if is_due_at tick (timer_in row) then slots table else bucket table tick
-    (timer_in row).deadline
+target table tick row = if is_due_at tick (row_timer row) then slots table else bucket table tick
+    (row_timer row).deadline
 
 -- the rows move, one after another, to the back of their lists
 abbrev pub migrate_rows : List ℕ → ℕ → Rows → KeyedLists → KeyedLists
@@ -23,20 +23,20 @@ migrated table tick l lists = migrate_rows table tick (list_at l lists) (slice_s
 
 -- the rows that are due at this tick
 abbrev pub due_rows : ℕ → Rows → Rows
-due_rows tick rows = filter (λ row. is_due_at tick (timer_in row)) rows
+due_rows tick rows = filter (λ row. is_due_at tick (row_timer row)) rows
 
 -- the rows that are not
 abbrev pub left_rows : ℕ → Rows → Rows
-left_rows tick rows = filter (λ row. not (is_due_at tick (timer_in row))) rows
+left_rows tick rows = filter (λ row. not (is_due_at tick (row_timer row))) rows
 
 -- a row that is due at this tick
 abbrev pub IsOfTick : ℕ → Row → Type 0
-IsOfTick tick row = (timer_in row).deadline ≡ tick
+IsOfTick tick row = (row_timer row).deadline ≡ tick
 
 -- the deadline of the first row
 abbrev pub first_deadline : Rows → Option ℕ
 first_deadline [] = None
-first_deadline (row ∷ rows) = Some (timer_in row).deadline
+first_deadline (row ∷ rows) = Some (row_timer row).deadline
 
 -- the deadline of the second row
 abbrev pub second_deadline : Rows → Option ℕ
@@ -46,5 +46,5 @@ second_deadline (row ∷ rest) = first_deadline rest
 -- a row of a list that is emptied at this tick: it moves to another list
 pub record MayMigrate (table : List ℕ) (tick l : ℕ) (row : Row) : Type 0 where
   pub elsewhere : target table tick row ≢ l
-  pub not_past : tick ≤ (timer_in row).deadline
-  pub in_range : (timer_in row).deadline ≤ last_of table
+  pub not_past : tick ≤ (row_timer row).deadline
+  pub in_range : (row_timer row).deadline ≤ last_of table

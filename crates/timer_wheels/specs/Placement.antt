@@ -9,7 +9,7 @@ use Rattle.timer_base.specs.WheelState.{WheelState}
 use Rattle.timer_links.specs.Lists.{KeyedLists, Row}
 use Rattle.timer_wheels.specs.Digits.{level, bucket, slots, hops}
 use Rattle.timer_wheels.specs.Shown.{ShowsBuckets}
-use Rattle.timer_wheels.specs.BucketLists.{timer_in}
+use Rattle.timer_wheels.specs.BucketLists.{row_timer}
 
 -- the list of a pending timer
 abbrev pub bucket_at : List ℕ → ℕ → Timer → ℕ
@@ -21,7 +21,7 @@ no_rounds t = 0
 
 -- a row of list s: the list is the timer's bucket, and it has no rounds
 abbrev pub IsPlaced : List ℕ → ℕ → ℕ → Row → Type 0
-IsPlaced table now s row = (bucket table now (timer_in row).deadline ≡ s) × (row.1.rounds ≡ 0)
+IsPlaced table now s row = (bucket table now (row_timer row).deadline ≡ s) × (row.1.rounds ≡ 0)
 
 -- list s, for s below the number of slots, has the pending timers whose bucket it is, by serial, each under
 -- its place with no rounds, and the next list has what is due

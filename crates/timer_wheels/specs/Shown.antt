@@ -16,8 +16,8 @@ abbrev pub by_serial : List Entry → List Entry
 by_serial entries = in_order without_deadline entries
 
 -- the entry as a row: under its place, with its timer's rounds
-abbrev pub row_of : (Timer → ℕ) → Entry → Row
-row_of rounds_of entry = (entry.place, record { timer = entry.timer; rounds = rounds_of entry.timer })
+abbrev pub row_of_entry : (Timer → ℕ) → Entry → Row
+row_of_entry rounds_of entry = (entry.place, record { timer = entry.timer; rounds = rounds_of entry.timer })
 
 -- the pending timers of one bucket
 abbrev pub entries_at : (Timer → ℕ) → ℕ → List Entry → List Entry
@@ -28,6 +28,6 @@ entries_at bucket_of s entries = filter (λ entry. bucket_of entry.timer == s) e
 pub record ShowsBuckets (n : ℕ) (bucket_of rounds_of : Timer
     → ℕ) (w : WheelState) (lists : KeyedLists) : Type 0 where
   pub count : length lists ≡ n + 1
-  pub buckets : (s : ℕ) → s < n → list_at s lists ≡ map (row_of rounds_of)
+  pub buckets : (s : ℕ) → s < n → list_at s lists ≡ map (row_of_entry rounds_of)
       (by_serial (entries_at bucket_of s w.pending))
   pub due : entries_of (list_at n lists) ≡ w.due

@@ -5,7 +5,7 @@ use Rattle.timer_base.specs.declared.timer.Timer.{Timer}
 use Rattle.timer_base.specs.WheelState.{after_tick}
 use Rattle.timer_links.specs.Lists.{list_at, with_row, KeyedLists, Row, Rows}
 use Rattle.timer_base.specs.Order.{AreBelow}
-use Rattle.timer_wheels.specs.BucketLists.{timer_in, timers_in, AreBuckets, EachRow, wheel_state}
+use Rattle.timer_wheels.specs.BucketLists.{row_timer, row_timers, AreBuckets, EachRow, wheel_state}
 use Rattle.timer_wheels.specs.Digits.{weight, radix, level}
 use Rattle.timer_wheels.specs.Occupied.{bit_of, filled}
 
@@ -58,7 +58,7 @@ heights table (suc n) lists = heights table n lists + height table n * length (l
 -- the serial up to which a bucket has moved on, if these timers are left in it: all, if none is
 abbrev pub moved_to : Rows → ℕ
 moved_to [] = LAST
-moved_to (row ∷ rest) = (timer_in row).serial - 1
+moved_to (row ∷ rest) = (row_timer row).serial - 1
 
 -- that of the next bucket of wheel k
 abbrev pub mark : List ℕ → ℕ → KeyedLists → ℕ → ℕ
@@ -91,7 +91,7 @@ smooth_bucket table now marks t = smooth_list table (smooth_level table now mark
 
 -- a row of list s is where the law says, and has no rounds
 abbrev pub IsByLaw : List ℕ → ℕ → (ℕ → ℕ) → ℕ → Row → Type 0
-IsByLaw table now marks s row = (smooth_bucket table now marks (timer_in row) ≡ s) × (row.1.rounds ≡ 0)
+IsByLaw table now marks s row = (smooth_bucket table now marks (row_timer row) ≡ s) × (row.1.rounds ≡ 0)
 
 -- The same law, as a relation: how a timer stands in list s of wheel k.
 pub record Stands (table : List ℕ) (now : ℕ) (marks : ℕ → ℕ) (s k : ℕ) (t : Timer) : Type 0 where
@@ -109,7 +109,7 @@ pub record Stands (table : List ℕ) (now : ℕ) (marks : ℕ → ℕ) (s k : �
 -- a row of list s is where the law says
 pub record IsSmooth (table : List ℕ) (now : ℕ) (marks : ℕ → ℕ) (s : ℕ) (row : Row) : Type 0 where
   pub on : ℕ
-  pub stands : Stands table now marks s on (timer_in row)
+  pub stands : Stands table now marks s on (row_timer row)
   pub no_rounds : row.1.rounds ≡ 0
 
 -- One row moves from the front of a bucket to the back of another.
@@ -119,11 +119,11 @@ pub record IsMove (n : ℕ) (lists : KeyedLists) (from to : ℕ) (row : Row) (re
   pub elsewhere : to ≢ from
   pub at : list_at from lists ≡ row ∷ rest
   -- it comes last in its new list
-  pub last_there : AreBelow (timer_in row).serial (timers_in (list_at to lists))
+  pub last_there : AreBelow (row_timer row).serial (row_timers (list_at to lists))
 
 -- the lists after the first row of the next bucket of wheel k + 1, of these rows, went to wheel j
 abbrev pub stepped : List ℕ → ℕ → ℕ → ℕ → KeyedLists → Row → Rows → KeyedLists
-stepped table now k j lists row rest = with_row (smooth_list table j (slot_in table j (timer_in row).deadline)) row
+stepped table now k j lists row rest = with_row (smooth_list table j (slot_in table j (row_timer row).deadline)) row
     (slice_set lists (next_list table now (suc k)) rest)
 
 -- the first row of the next bucket of wheel k + 1 goes to a lower wheel, by the law: the state of the wheel stays, and
@@ -133,36 +133,36 @@ pub record IsStep (table : List ℕ) (n last_tick now last k : ℕ) (lists : Key
   pub lower : on ≤ k
   pub wheel : on < length table
   -- where its deadline is
-  pub in_next : slot_in table (suc k) (timer_in row).deadline ≡ slot_in table (suc k) now + 1
-  pub ahead : slot_in table on now < slot_in table on (timer_in row).deadline
-  pub near : slot_in table (suc on) (timer_in row).deadline ≤ slot_in table (suc on) now + 1
+  pub in_next : slot_in table (suc k) (row_timer row).deadline ≡ slot_in table (suc k) now + 1
+  pub ahead : slot_in table on now < slot_in table on (row_timer row).deadline
+  pub near : slot_in table (suc on) (row_timer row).deadline ≤ slot_in table (suc on) now + 1
   -- the bits of the lists lead there
   pub by_bits : (words : List ℕ) → ((s : ℕ) → s < n → bit_of words s ≡ filled (list_at s lists))
-      → descend_by table now words (timer_in row).deadline k ≡ on
-  pub move : IsMove n lists (next_list table now (suc k)) (smooth_list table on (slot_in table on (timer_in row).deadline)) row rest
+      → descend_by table now words (row_timer row).deadline k ≡ on
+  pub move : IsMove n lists (next_list table now (suc k)) (smooth_list table on (slot_in table on (row_timer row).deadline)) row rest
   pub sound : AreBuckets n last_tick now last (stepped table now k on lists row rest)
   pub state : wheel_state n last_tick now last (stepped table now k on lists row rest) ≡ wheel_state n last_tick now last lists
   pub placed : EachRow (IsSmooth table now (mark table now (stepped table now k on lists row rest))) n
       (stepped table now k on lists row rest)
 
 -- a tick: the state is that after a tick, the buckets are sound, and all timers placed
-pub record IsTicked (table : List ℕ) (n last_tick a last : ℕ) (lists new : KeyedLists) : Type 0 where
+pub record AreTickedLists (table : List ℕ) (n last_tick a last : ℕ) (lists new : KeyedLists) : Type 0 where
   pub sound : AreBuckets n last_tick (a + 1) last new
   pub state : wheel_state n last_tick (a + 1) last new ≡ after_tick (wheel_state n last_tick a last lists)
   pub placed : EachRow (IsSmooth table (a + 1) (mark table (a + 1) new)) n new
 
 -- on the wheel of its list, a row's slot is after that of this tick
 abbrev pub IsAheadOf : List ℕ → ℕ → ℕ → Row → Type 0
-IsAheadOf table tick s row = (k : ℕ) → k < length table → s ≡ smooth_list table k (slot_in table k (timer_in row).deadline)
-    → slot_in table k tick < slot_in table k (timer_in row).deadline
+IsAheadOf table tick s row = (k : ℕ) → k < length table → s ≡ smooth_list table k (slot_in table k (row_timer row).deadline)
+    → slot_in table k tick < slot_in table k (row_timer row).deadline
 
 -- The pace.
 
 -- how many ticks are left of the first half of the time in which a bucket is the next one of wheel k
-abbrev pub ticks_left : List ℕ → ℕ → ℕ → ℕ
-ticks_left table now k = (slot_in table k now + 1) * weight k table - now - weight k table / 2
+abbrev pub ticks_to_half : List ℕ → ℕ → ℕ → ℕ
+ticks_to_half table now k = (slot_in table k now + 1) * weight k table - now - weight k table / 2
 
 -- the timers of each next bucket are gone by the half of its time, at this pace
 abbrev pub IsInTime : List ℕ → ℕ → (ℕ → ℕ) → KeyedLists → Type 0
 IsInTime table now pace lists = (k : ℕ) → 0 < k → k < length table
-    → next_length table now lists k ≤ pace k * ticks_left table now k
+    → next_length table now lists k ≤ pace k * ticks_to_half table now k

@@ -66,7 +66,7 @@ ShowsSmooth table w lists = ShowsBuckets (smooth_slots (radices table))
     (smooth_bucket (radices table) w.now (mark (radices table) w.now lists)) no_rounds w lists
 
 -- some ticks were passed, and nothing was due before the last of them
-pub record Passes (old new : WheelState) : Type 0 where
+pub record PassesSomeTicks (old new : WheelState) : Type 0 where
   pub later : old.now < new.now
   pub ticked : new ≡ after_ticks (new.now - old.now) old
   pub quiet : (n : ℕ) → n < new.now - old.now → (after_ticks n old).due ≡ []

@@ -6,7 +6,7 @@
 ghost use Rattle.std.specs.Prelude.{◌≡◌, ◌<◌, length};
 ghost use Rattle.timer_base.specs.WakeUps.{next_deadline};
 ghost use Rattle.timer_links.specs.Lists.{list_at};
-ghost use Rattle.timer_wheels.specs.BucketLists.{rows_below, timers_in};
+ghost use Rattle.timer_wheels.specs.BucketLists.{rows_below, row_timers};
 ghost use Rattle.timer_wheels.specs.Buckets.{state_of};
 ghost use Rattle.timer_wheels.specs.FirstDeadline.{IsLeastDeadline, IsKnownOf};
 
@@ -26,7 +26,7 @@ pub fn first_deadline_by_walk<N: Kept>(buckets: &Buckets<N>) -> Option<u64>
 /// The least deadline of the timers in the first `count` lists. It walks all of them.
 fn least_below<N: Kept>(links: &Links<N>, count: usize) -> Option<u64>
     requires { count < length links.now.lists }
-    ensures { IsLeastDeadline result (timers_in (rows_below count links.now.lists)) }
+    ensures { IsLeastDeadline result (row_timers (rows_below count links.now.lists)) }
 {
     let mut least = None;
     for list in 0..count {
@@ -38,7 +38,7 @@ fn least_below<N: Kept>(links: &Links<N>, count: usize) -> Option<u64>
 /// The least deadline of the timers in one list. It walks the whole list.
 pub fn least_in<N: Kept>(links: &Links<N>, list: usize) -> Option<u64>
     requires { list < length links.now.lists }
-    ensures { IsLeastDeadline result (timers_in (list_at list links.now.lists)) }
+    ensures { IsLeastDeadline result (row_timers (list_at list links.now.lists)) }
 {
     first_in(links, list).known(links, list)
 }
@@ -49,7 +49,7 @@ pub fn least_in<N: Kept>(links: &Links<N>, list: usize) -> Option<u64>
 #[inline(always)]
 pub fn first_in<N: Kept>(links: &Links<N>, list: usize) -> First
     requires { list < length links.now.lists }
-    ensures { IsKnownOf result (timers_in (list_at list links.now.lists)) }
+    ensures { IsKnownOf result (row_timers (list_at list links.now.lists)) }
 {
     links.lemma_keys_unique();
     let mut first = First::none();

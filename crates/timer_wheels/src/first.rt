@@ -20,7 +20,7 @@
 //!     9            in order, up to 9     9, after a walk
 ghost use Rattle.std.specs.Prelude.{◌≡◌, ◌<◌, length, true, false, IfSome};
 ghost use Rattle.timer_links.specs.Lists.{list_at};
-ghost use Rattle.timer_wheels.specs.BucketLists.{timers_in};
+ghost use Rattle.timer_wheels.specs.BucketLists.{row_timers};
 ghost use Rattle.timer_wheels.specs.FirstDeadline.{IsLeast, IsLeastDeadline, unknown_first, no_first, counts_of, entered_first, left_first, least_with, IsFirstOf, IsKnownOf};
 ghost use Rattle.timer_wheels.specs.Migration.{first_deadline};
 
@@ -123,10 +123,10 @@ impl First {
     #[inline]
     pub fn known<N: Kept>(&self, links: &Links<N>, list: usize) -> Option<u64>
         requires { list < length links.now.lists }
-        ensures found { IsFirstOf self.now (timers_in (list_at list links.now.lists))
-            → IfSome result (λ d. IsLeast d (timers_in (list_at list links.now.lists))) }
-        ensures all { IsKnownOf self.now (timers_in (list_at list links.now.lists))
-            → IsLeastDeadline result (timers_in (list_at list links.now.lists)) }
+        ensures found { IsFirstOf self.now (row_timers (list_at list links.now.lists))
+            → IfSome result (λ d. IsLeast d (row_timers (list_at list links.now.lists))) }
+        ensures all { IsKnownOf self.now (row_timers (list_at list links.now.lists))
+            → IsLeastDeadline result (row_timers (list_at list links.now.lists)) }
     {
         match *self {
             First::InOrder { .. } => front_deadline(links, list),

@@ -1,7 +1,7 @@
 //! The hierarchical timing wheel: Scheme 7 of G. Varghese and T. Lauck, "Hashed and Hierarchical
 //! Timing Wheels", SOSP 1987.
 //!
-//! One body serves two tables of radices. Digit k of a tick t is t divided by the product of the lower
+//! One body serves three tables of radices. Digit k of a tick t is t divided by the product of the lower
 //! radices, modulo radix k, and wheel k has a slot for each value of digit k.
 //!
 //!     Wide: ticks 0 to 2^60 - 1
@@ -20,6 +20,13 @@
 //!     minutes   [ 0 | 1 | 2 | .. | 59 ]   60 ticks       3,599 ticks             60 to 119
 //!     seconds   [ 0 | 1 | 2 | .. | 59 ]   1 tick         59 ticks                 0 to  59
 //!     due                                                                       244
+//!
+//!     Small: ticks 0 to 2^24 - 1
+//!                                         a slot is      range, ahead of now    lists
+//!     wheel 5   [ 0 | 1 | 2 | .. | 15 ]   16^5 ticks     16^6 - 1 ticks          80 to  95
+//!       ..
+//!     wheel 0   [ 0 | 1 | 2 | .. | 15 ]   1 tick         15 ticks                 0 to  15
+//!     due                                                                        96
 //!
 //! A wheel's range is the farthest deadline that it can have. The nearest is the next tick, in every
 //! wheel: before a rollover the deadline one tick ahead differs from now in a high digit.
@@ -333,7 +340,7 @@ impl<N: Kept> HierWheel<N> {
 }
 
 impl<N: Kept> Wheel for HierWheel<N> {
-    ghost use Rattle.timer_wheels.specs.HierWheel.{hier_state, hier-well_formed, table_of, counts_of, with_start, counts_of_tick, counts_of_advance};
+    ghost use Rattle.timer_wheels.specs.HierWheel.{hier_state, hier-well_formed, table_of, counts_of, with_counted_start, counts_of_tick, counts_of_advance};
 
     ghost state = { λ wheel. hier_state wheel };
 
@@ -343,7 +350,7 @@ impl<N: Kept> Wheel for HierWheel<N> {
 
     ghost counts = { λ wheel. counts_of wheel };
 
-    ghost count_start = { with_start };
+    ghost count_start = { with_counted_start };
 
     ghost count_tick = { counts_of_tick };
 

@@ -218,7 +218,7 @@ impl<N: Kept> SmoothWheel<N> {
 }
 
 impl<N: Kept> SmoothWheel<N> {
-    ghost use Rattle.timer_wheels.specs.SmoothWheel.{smooth_state, smooth_table, starts_of, moves_of, next_moves, wheels_left, wheel_in, Passes, IsPacedFor};
+    ghost use Rattle.timer_wheels.specs.SmoothWheel.{smooth_state, smooth_table, starts_of, moves_of, next_moves, wheels_left, wheel_in, PassesSomeTicks, IsPacedFor};
 
     /// Sets the clock forward to the tick before the next event, or before the end if that comes first, unless a tick has
     /// timers to move.
@@ -249,7 +249,7 @@ impl<N: Kept> SmoothWheel<N> {
         requires nothing_due { (smooth_state self.old).due ≡ [] }
         requires later { (smooth_state self.old).now < end }
         requires end { end ≤ (smooth_state self.old).last_tick }
-        ensures passes { Passes (smooth_state self.old) (smooth_state self.new) }
+        ensures passes { PassesSomeTicks (smooth_state self.old) (smooth_state self.new) }
         ensures end { (smooth_state self.new).now ≤ end }
         ensures held { held_count (smooth_state self.new) ≡ held_count (smooth_state self.old) }
         ensures bound { (n : ℕ) → IsPacedFor n self.old → moves_of self.new ≤ moves_of self.old
@@ -265,7 +265,7 @@ impl<N: Kept> SmoothWheel<N> {
 }
 
 impl<N: Kept> Wheel for SmoothWheel<N> {
-    ghost use Rattle.timer_wheels.specs.SmoothWheel.{smooth_state, smooth-well_formed, smooth_table, starts_of, moves_of, next_moves, moves_ahead, wheels_left, wheel_in, Passes, IsPacedFor};
+    ghost use Rattle.timer_wheels.specs.SmoothWheel.{smooth_state, smooth-well_formed, smooth_table, starts_of, moves_of, next_moves, moves_ahead, wheels_left, wheel_in, PassesSomeTicks, IsPacedFor};
 
     ghost state = { λ wheel. smooth_state wheel };
 

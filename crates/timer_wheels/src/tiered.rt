@@ -9,7 +9,7 @@ ghost use Rattle.timer_wheels.specs.SmoothWheel.{smooth_state, starts_of};
 ghost use Rattle.timer_wheels.specs.TieredWheel.{option_of};
 ghost use Rattle.timer_base.specs.WakeUps.{IsQuietUntil, next_deadline};
 ghost use Rattle.timer_wheels.specs.HeldPlaces.{IsFirstHeld, IsAlone};
-ghost use Rattle.timer_wheels.specs.HierWheel.{IsHierFault, hier_state, counts_of, with_start};
+ghost use Rattle.timer_wheels.specs.HierWheel.{IsHierFault, hier_state, counts_of, with_counted_start};
 ghost use Rattle.timer_wheels.specs.Tables.{layout_of_table, last_of_table, radices_of};
 ghost use Rattle.timer_wheels.specs.Tiers.{layout_of_tiers, last_of_tiers};
 ghost use Rattle.timer_wheels.specs.WakeUps.{next_visit};
@@ -160,7 +160,7 @@ impl<N: Kept> Wheel for TieredWheel<N> {
 
     ghost counts = { λ wheel. counts_in wheel };
 
-    ghost count_start = { with_start };
+    ghost count_start = { with_counted_start };
 
     ghost count_tick = { counts_at_tick };
 
@@ -380,7 +380,7 @@ fn start_hier<N: Kept>(
     ensures full { IfNone result ((hier_state wheel.old).room ≤ held_count (hier_state wheel.old)) }
     ensures err { IfNone result (hier_state wheel.new ≡ hier_state wheel.old) }
     ensures counts { MatchOption result (counts_of wheel.new ≡ counts_of wheel.old)
-        (λ _. counts_of wheel.new ≡ with_start (counts_of wheel.old)) }
+        (λ _. counts_of wheel.new ≡ with_counted_start (counts_of wheel.old)) }
 {
     let timer = Timer {
         serial,

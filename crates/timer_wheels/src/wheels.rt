@@ -13,7 +13,7 @@ ghost use Rattle.timer_base.specs.WheelState.{empty_wheel, held_at, held_count, 
 ghost use Rattle.timer_wheels.specs.Buckets.{state_of, IsListOf};
 ghost use Rattle.timer_links.specs.Lists.{list_at};
 ghost use Rattle.timer_wheels.specs.Leap.{list_visit};
-ghost use Rattle.timer_wheels.specs.BucketLists.{timers_in};
+ghost use Rattle.timer_wheels.specs.BucketLists.{row_timers};
 ghost use Rattle.timer_wheels.specs.FirstDeadline.{IsLeast, IsKnownOf};
 ghost use Rattle.timer_wheels.specs.Firsts.{first_at, Keeps};
 ghost use Rattle.timer_wheels.specs.Migration.{first_deadline};
@@ -268,7 +268,7 @@ impl<N: Kept> Wheels<N> {
     fn known_first(&self, list: usize) -> Option<u64>
         requires list { list < self.now.buckets.slots }
         requires above { lowest_radix (radices self.now.table) ≤ list }
-        ensures { IfSome result (λ d. IsLeast d (timers_in (list_at list self.now.buckets.links.lists))) }
+        ensures { IfSome result (λ d. IsLeast d (row_timers (list_at list self.now.buckets.links.lists))) }
     {
         self.firsts.at(list).known(&self.buckets.links, list)
     }
@@ -298,8 +298,8 @@ fn walk_first<N: Kept>(
     requires some { 0 < length (list_at list links.now.lists) }
     requires first { list < length firsts.old.items }
     requires few { length firsts.old.items ≤ MOST_BUCKETS }
-    ensures least { IsLeast result (timers_in (list_at list links.now.lists)) }
-    ensures known { IsKnownOf (first_at list firsts.new) (timers_in (list_at list links.now.lists)) }
+    ensures least { IsLeast result (row_timers (list_at list links.now.lists)) }
+    ensures known { IsKnownOf (first_at list firsts.new) (row_timers (list_at list links.now.lists)) }
     ensures others { Keeps occupied.now list firsts.old firsts.new }
 {
     let first = first_in(links, list);

@@ -2,9 +2,9 @@
 ghost use Rattle.std.specs.Prelude.{◌≡◌, ◌≢◌, ◌∷◌, [], suc, ◌<◌, ◌≤◌, ◌+◌, ◌-◌, ◌*◌, ◌/◌, List, ℕ, length, slice_set};
 ghost use Rattle.timer_base.specs.declared.timer.Timer.{Timer};
 ghost use Rattle.timer_wheels.specs.Digits.{IsTable, HasDigits, weight};
-ghost use Rattle.timer_wheels.specs.Smooth.{slot_in, smooth_level, smooth_bucket, HasTurns, IsMove, IsSmooth, IsStep, IsTicked, Stands, mark, next_list, smooth_list, ticks_left};
+ghost use Rattle.timer_wheels.specs.Smooth.{slot_in, smooth_level, smooth_bucket, HasTurns, IsMove, IsSmooth, IsStep, AreTickedLists, Stands, mark, next_list, smooth_list, ticks_to_half};
 ghost use Rattle.timer_links.specs.Lists.{list_at, with_row, appended, KeyedLists, Row, Rows};
-ghost use Rattle.timer_wheels.specs.BucketLists.{AreBuckets, AreInOrder, EachRow, timer_in, wheel_state};
+ghost use Rattle.timer_wheels.specs.BucketLists.{AreBuckets, AreInOrder, EachRow, row_timer, wheel_state};
 ghost use Rattle.timer_base.specs.declared.limits.TheConstants.{LAST};
 
 /// A timer stands in one list, on one wheel.
@@ -35,27 +35,27 @@ pub fn a_tick_keeps_places()
 /// A tick within a slot of a wheel keeps the next bucket in time, if as many timers as the pace, or all, move.
 pub fn a_tick_keeps_the_pace()
     ensures { (table : List ℕ) (k a c p : ℕ) → slot_in table k (a + 1) ≡ slot_in table k a
-        → c ≤ p * ticks_left table a k → c - p ≤ p * ticks_left table (a + 1) k }
+        → c ≤ p * ticks_to_half table a k → c - p ≤ p * ticks_to_half table (a + 1) k }
 {}
 
 /// A next bucket that is in time is empty before the tick at which it begins to be the present one.
 pub fn a_bucket_is_empty_in_time()
     ensures { (table : List ℕ) (k a c p : ℕ) → 2 ≤ weight k table
-        → slot_in table k (a + 1) ≡ slot_in table k a + 1 → c ≤ p * ticks_left table a k → c ≡ 0 }
+        → slot_in table k (a + 1) ≡ slot_in table k a + 1 → c ≤ p * ticks_to_half table a k → c ≡ 0 }
 {}
 
 /// The pace that is fixed as a bucket begins to be the next one is enough for all pending timers.
 pub fn a_pace_is_enough()
     ensures { (table : List ℕ) (k now n half : ℕ) → weight k table ≡ 2 * half → 0 < half
         → slot_in table k now * weight k table ≡ now
-        → n ≤ 2 * (n / weight k table + 1) * ticks_left table now k }
+        → n ≤ 2 * (n / weight k table + 1) * ticks_to_half table now k }
 {}
 
 /// A next bucket gets no timers from a next bucket above it, which is empty by then if it is in time.
 pub fn a_next_bucket_gets_no_moves()
     ensures { (table : List ℕ) (j k a d m : ℕ) → weight k table ≡ m * weight j table → 2 ≤ m
         → 0 < weight j table → slot_in table k d ≡ slot_in table k a + 1
-        → slot_in table j d ≡ slot_in table j a + 1 → ticks_left table a k ≡ 0 }
+        → slot_in table j d ≡ slot_in table j a + 1 → ticks_to_half table a k ≡ 0 }
 {}
 
 /// Two timers of one list stand on one wheel, in one slot.
@@ -78,8 +78,8 @@ pub fn a_move_changes_no_state()
 /// A timer that comes to the back of the list in which it stands by the law leaves all timers where the law says.
 pub fn a_push_keeps_places()
     ensures { (table : List ℕ) (now n to on : ℕ) (lists : KeyedLists) (row : Row) → IsTable table → HasTurns table
-        → to < length lists → (timer_in row).serial ≤ LAST
-        → Stands table now (mark table now lists) to on (timer_in row) → row.1.rounds ≡ 0
+        → to < length lists → (row_timer row).serial ≤ LAST
+        → Stands table now (mark table now lists) to on (row_timer row) → row.1.rounds ≡ 0
         → AreInOrder n (with_row to row lists)
         → EachRow (IsSmooth table now (mark table now lists)) n lists
         → EachRow (IsSmooth table now (mark table now (with_row to row lists))) n (with_row to row lists) }
@@ -104,5 +104,5 @@ pub fn a_tick_keeps_all()
         → ((j s : ℕ) → j < length table → smooth_list table j s < n)
         → ((k : ℕ) → 0 < k → k < length table → slot_in table k (a + 1) ≡ slot_in table k a + 1
         → list_at (next_list table a k) lists ≡ [])
-        → IsTicked table n last_tick a last lists (appended (smooth_list table 0 (a + 1)) n lists) }
+        → AreTickedLists table n last_tick a last lists (appended (smooth_list table 0 (a + 1)) n lists) }
 {}

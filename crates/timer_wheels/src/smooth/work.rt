@@ -9,7 +9,7 @@ ghost use Rattle.timer_wheels.specs.Bank.{next_len, movable, potential_of, IsEar
 ghost use Rattle.timer_wheels.specs.Buckets.{state_of};
 ghost use Rattle.timer_wheels.specs.Digits.{weight};
 ghost use Rattle.timer_wheels.specs.Paces.{pace_at, pace_sum, pace_for, FitPaces, AreInTime, HasMoved};
-ghost use Rattle.timer_wheels.specs.Smooth.{slot_in, ticks_left};
+ghost use Rattle.timer_wheels.specs.Smooth.{slot_in, ticks_to_half};
 ghost use Rattle.timer_wheels.specs.Tables.{radices};
 ghost use Rattle.timer_wheels.specs.declared.smooth.paces.TheConstants.{MOST_PACE};
 
@@ -118,7 +118,7 @@ pub fn fix_paces<N: Kept>(bank: &Bank<N>, paces: &mut Paces)
     ensures begun { (k : ℕ) → 0 < k → k < length (radices bank.now.table)
         → slot_in (radices bank.now.table) k bank.now.buckets.tick * weight k (radices bank.now.table) ≡ bank.now.buckets.tick
         → next_len bank.now.table bank.now.buckets k
-        ≤ pace_at paces.new k * ticks_left (radices bank.now.table) bank.now.buckets.tick k }
+        ≤ pace_at paces.new k * ticks_to_half (radices bank.now.table) bank.now.buckets.tick k }
     ensures others { (k : ℕ) → slot_in (radices bank.now.table) k bank.now.buckets.tick * weight k (radices bank.now.table)
         ≢ bank.now.buckets.tick → pace_at paces.new k ≡ pace_at paces.old k }
     ensures fit { (n : ℕ) → row_count bank.now.buckets.links.lists ≤ n → FitPaces (radices bank.now.table) n paces.old
@@ -136,7 +136,7 @@ fn fix_each<N: Kept>(bank: &Bank<N>, paces: &mut Paces)
     ensures begun { (k : ℕ) → 0 < k → k < length (radices bank.now.table)
         → slot_in (radices bank.now.table) k bank.now.buckets.tick * weight k (radices bank.now.table) ≡ bank.now.buckets.tick
         → next_len bank.now.table bank.now.buckets k
-        ≤ pace_at paces.new k * ticks_left (radices bank.now.table) bank.now.buckets.tick k }
+        ≤ pace_at paces.new k * ticks_to_half (radices bank.now.table) bank.now.buckets.tick k }
     ensures others { (k : ℕ) → slot_in (radices bank.now.table) k bank.now.buckets.tick * weight k (radices bank.now.table)
         ≢ bank.now.buckets.tick → pace_at paces.new k ≡ pace_at paces.old k }
     ensures fit { (n : ℕ) → row_count bank.now.buckets.links.lists ≤ n → FitPaces (radices bank.now.table) n paces.old
@@ -161,7 +161,7 @@ fn fix_pace<N: Kept>(bank: &Bank<N>, paces: &mut Paces, wheel: usize) -> bool
         * weight wheel (radices bank.now.table) == bank.now.buckets.tick) }
     ensures begun { slot_in (radices bank.now.table) wheel bank.now.buckets.tick * weight wheel (radices bank.now.table)
         ≡ bank.now.buckets.tick → next_len bank.now.table bank.now.buckets wheel
-        ≤ pace_at paces.new wheel * ticks_left (radices bank.now.table) bank.now.buckets.tick wheel }
+        ≤ pace_at paces.new wheel * ticks_to_half (radices bank.now.table) bank.now.buckets.tick wheel }
     ensures same { slot_in (radices bank.now.table) wheel bank.now.buckets.tick * weight wheel (radices bank.now.table)
         ≢ bank.now.buckets.tick → pace_at paces.new wheel ≡ pace_at paces.old wheel }
     ensures others { (k : ℕ) → k ≢ wheel → pace_at paces.new k ≡ pace_at paces.old k }
@@ -185,7 +185,7 @@ fn pace_of<N: Kept>(bank: &Bank<N>, wheel: usize) -> u64
     ensures most { result ≤ MOST_PACE }
     ensures enough { slot_in (radices bank.now.table) wheel bank.now.buckets.tick * weight wheel (radices bank.now.table)
         ≡ bank.now.buckets.tick → next_len bank.now.table bank.now.buckets wheel
-        ≤ result * ticks_left (radices bank.now.table) bank.now.buckets.tick wheel }
+        ≤ result * ticks_to_half (radices bank.now.table) bank.now.buckets.tick wheel }
     ensures few { (n : ℕ) → row_count bank.now.buckets.links.lists ≤ n → result ≤ pace_for (radices bank.now.table) n wheel }
 {
     let table = bank.table;

@@ -2,7 +2,7 @@ use Rattle.std.proofs.Common.{◌≡◌, ◌≤◌, ◌+◌, ◌-◌, ℕ, List,
 use Rattle.timer_base.proofs.OrderLaws.{All-weaken}
 use Rattle.timer_links.specs.Lists.{list_at, KeyedLists}
 use Rattle.timer_wheels.specs.declared.table.Table.{Table}
-use Rattle.timer_wheels.specs.BucketLists.{timer_in}
+use Rattle.timer_wheels.specs.BucketLists.{row_timer}
 use Rattle.timer_wheels.specs.Buckets.{state_of}
 use Rattle.timer_wheels.specs.Leap.{list_visit, timer_visit, AreNotVisitedBefore, Leaps}
 use Rattle.timer_wheels.specs.Tables.{radices}
@@ -14,9 +14,9 @@ use Rattle.timer_wheels.proofs.leap.leap_by.Goals as goal
 sooner : (table : List ℕ) (n now visit tick : ℕ) (lists : KeyedLists) → tick ≤ visit → AreNotVisitedBefore table n now visit lists
     → AreNotVisitedBefore table n now tick lists
 sooner table n now visit tick lists h a s k =
-    All-weaken (λ row. visit ≤ timer_visit table now (timer_in row).deadline)
-    (λ row. tick ≤ timer_visit table now (timer_in row).deadline) (list_at s lists)
-    (λ row q. let p : visit ≤ timer_visit table now (timer_in row).deadline = q in omega arith) (a s k)
+    All-weaken (λ row. visit ≤ timer_visit table now (row_timer row).deadline)
+    (λ row. tick ≤ timer_visit table now (row_timer row).deadline) (list_at s lists)
+    (λ row q. let p : visit ≤ timer_visit table now (row_timer row).deadline = q in omega arith) (a s k)
 
 pub skip_to-requires-clause-not_before : goal.skip_to-requires-clause-not_before
 skip_to-requires-clause-not_before g c = none_ahead c.args.wheels.now.hier (c.args.end + 1) c.in_default.ensures

@@ -4,7 +4,7 @@ use Rattle.timer_base.specs.declared.timer.Timer.{Timer}
 use Rattle.timer_base.specs.Order.{in_order, itself}
 use Rattle.timer_base.specs.Pending.{timers_of}
 use Rattle.timer_links.specs.Lists.{KeyedLists}
-use Rattle.timer_wheels.specs.BucketLists.{rows_below, timer_in, timers_in, pending_in}
+use Rattle.timer_wheels.specs.BucketLists.{rows_below, row_timer, row_timers, pending_in}
 use Rattle.timer_wheels.proofs.BucketLemmas.{length-pending_in}
 use Rattle.timer_wheels.proofs.RowLemmas.{timers_below-more, length-rows_below-next}
 use Rattle.timer_wheels.specs.BucketLaws.{timers_of-pending}
@@ -15,7 +15,7 @@ copy_list-requires g c =
     let b = c.args.self.now in
     let lists : length b.links.lists ≡ b.slots + 1 = b.sound.has_lists in
     let copied : length c.loop-bucket.timers.items ≡ length (rows_below c.loop-bucket.bucket b.links.lists) =
-    ap (λ (ts : List Timer). length ts) c.loop-bucket.invariant.0 ∙ length-map (rows_below c.loop-bucket.bucket b.links.lists) timer_in in
+    ap (λ (ts : List Timer). length ts) c.loop-bucket.invariant.0 ∙ length-map (rows_below c.loop-bucket.bucket b.links.lists) row_timer in
     let next = length-rows_below-next c.loop-bucket.bucket b.slots b.links.lists (omega arith) (omega arith) in
     record { list = omega arith; room = omega (arith, c.loop-bucket.invariant.1) }
 
@@ -46,11 +46,11 @@ loop-bucket-preserved g c =
       omega (arith, c.copy_list.ensures.capacity, c.loop-bucket.invariant.2),
     )
 
-sorted_rows : (n k : ℕ) (lists : KeyedLists) (items new : List Timer) → n ≤ k → k ≤ n → items ≡ timers_in (rows_below k lists)
+sorted_rows : (n k : ℕ) (lists : KeyedLists) (items new : List Timer) → n ≤ k → k ≤ n → items ≡ row_timers (rows_below k lists)
     → new ≡ in_order itself items → new ≡ timers_of (pending_in (rows_below n lists))
 sorted_rows n k lists items new a b i s =
     let e : k ≡ n = omega arith in
-    s ∙ (ap (in_order itself) (i ∙ ap (λ (y : ℕ). timers_in (rows_below y lists)) e) ∙ sym (timers_of-pending (rows_below n lists)))
+    s ∙ (ap (in_order itself) (i ∙ ap (λ (y : ℕ). row_timers (rows_below y lists)) e) ∙ sym (timers_of-pending (rows_below n lists)))
 
 pub returns-clause-listed : goal.returns-clause-listed
 returns-clause-listed g c =

@@ -2,7 +2,7 @@ use Rattle.std.proofs.Common.{◌≡◌, ◌∙◌, List, subst, sym, ap, eqb, S
 use Rattle.std.specs.Option.{option_eq}
 use Rattle.timer_base.specs.declared.timer.Timer.{Timer}
 use Rattle.timer_links.specs.Lists.{list_at}
-use Rattle.timer_wheels.specs.BucketLists.{timers_in}
+use Rattle.timer_wheels.specs.BucketLists.{row_timers}
 use Rattle.timer_wheels.specs.declared.first.First.{First}
 use Rattle.timer_wheels.specs.FirstDeadline.{IsFirstOf}
 use Rattle.timer_wheels.proofs.FirstLemmas.{front_least, counted_least, at_front_least, least_if_some}
@@ -14,17 +14,17 @@ first_of_as first same ts e h = subst (λ (f : First). IsFirstOf f ts) e h
 pub returns-in-InOrder-clause-found : goal.returns-in-InOrder-clause-found
 returns-in-InOrder-clause-found g c h =
     let rows = list_at c.args.list c.args.links.now.lists in
-    rw c.front_deadline.ensures (least_if_some _ (timers_in rows)
-    (front_least c.in-InOrder.latest rows (first_of_as _ _ (timers_in rows) c.in-InOrder.is h)))
+    rw c.front_deadline.ensures (least_if_some _ (row_timers rows)
+    (front_least c.in-InOrder.latest rows (first_of_as _ _ (row_timers rows) c.in-InOrder.is h)))
 
 pub returns-in-InOrder-clause-all : goal.returns-in-InOrder-clause-all
 returns-in-InOrder-clause-all g c h =
     let rows = list_at c.args.list c.args.links.now.lists in
-    rw c.front_deadline.ensures (front_least c.in-InOrder.latest rows (first_of_as _ _ (timers_in rows) c.in-InOrder.is h.first_of))
+    rw c.front_deadline.ensures (front_least c.in-InOrder.latest rows (first_of_as _ _ (row_timers rows) c.in-InOrder.is h.first_of))
 
 pub returns-then-count-gt0-clause-found : goal.returns-then-count-gt0-clause-found
 returns-then-count-gt0-clause-found g c h =
-    let ts = timers_in (list_at c.args.list c.args.links.now.lists) in
+    let ts = row_timers (list_at c.args.list c.args.links.now.lists) in
     counted_least c.in-Counted.count c.in-Counted.bound ts c.if-count-gt0.true (first_of_as _ _ ts c.in-Counted.is h)
 
 pub returns-then-count-gt0-clause-all : goal.returns-then-count-gt0-clause-all
@@ -35,7 +35,7 @@ returns-then-eq-clause-found g c h =
     let rows = list_at c.args.list c.args.links.now.lists in
     let same = ap (λ o. option_eq eqb o (Some c.in-Counted.bound)) (sym c.front_deadline-else-count-gt0.ensures) ∙ sym c.eq.ensures
     ∙ c.if-eq.true in
-    at_front_least c.in-Counted.count c.in-Counted.bound rows same (first_of_as _ _ (timers_in rows) c.in-Counted.is h)
+    at_front_least c.in-Counted.count c.in-Counted.bound rows same (first_of_as _ _ (row_timers rows) c.in-Counted.is h)
 
 pub returns-then-eq-clause-all : goal.returns-then-eq-clause-all
 returns-then-eq-clause-all g c h = returns-then-eq-clause-found g c h.first_of

@@ -1,9 +1,9 @@
 use Rattle.std.proofs.Common.{◌≡◌, ◌+◌, ◌*◌, ℕ, sym, subst, arith, Option}
 use Rattle.timer_links.specs.Lists.{list_at}
-use Rattle.timer_wheels.specs.BucketLists.{timers_in}
+use Rattle.timer_wheels.specs.BucketLists.{row_timers}
 use Rattle.timer_wheels.specs.FirstDeadline.{IsLeastDeadline}
 use Rattle.timer_wheels.specs.Digits.{weight}
-use Rattle.timer_wheels.specs.SmoothAhead.{IsFoundBelow, IsPendingDeadline, IsFirst, IsNotBefore}
+use Rattle.timer_wheels.specs.SmoothAhead.{IsFoundBelow, IsPendingDeadline, IsFirstFilledSlot, IsNotBefore}
 use Rattle.timer_wheels.specs.Smooth.{smooth_list}
 use Rattle.timer_wheels.specs.Tables.{radices}
 use Rattle.timer_wheels.proofs.SmoothFirsts.{found_without, found_low, found_high, found_skip}
@@ -21,8 +21,8 @@ returns-then-wheel-eq0 g c =
     let z : 0 ≡ c.args.wheel = (let e = c.if-wheel-eq0.true in omega arith) in
     let at : IsFoundBelow (IsPendingDeadline w.buckets) w.table w.buckets 0 c.args.first =
     subst (λ (x : ℕ). IsFoundBelow (IsPendingDeadline w.buckets) w.table w.buckets x c.args.first) (sym z) c.requires.below in
-    let f : IsFirst (radices w.table) w.buckets.tick 0 w.buckets.links.lists c.in-Some.slot =
-    subst (λ (x : ℕ). IsFirst (radices w.table) w.buckets.tick x w.buckets.links.lists c.in-Some.slot) (sym z) c.in-Some.ensures.first in
+    let f : IsFirstFilledSlot (radices w.table) w.buckets.tick 0 w.buckets.links.lists c.in-Some.slot =
+    subst (λ (x : ℕ). IsFirstFilledSlot (radices w.table) w.buckets.tick x w.buckets.links.lists c.in-Some.slot) (sym z) c.in-Some.ensures.first in
     subst (λ (x : ℕ). IsFoundBelow (IsPendingDeadline w.buckets) w.table w.buckets (x + 1) c.earlier.result) z
     (subst (λ (o : Option ℕ). IsFoundBelow (IsPendingDeadline w.buckets) w.table w.buckets 1 o) (sym c.earlier.ensures)
     (found_low w.table w.buckets w.filled w.bank c.in-Some.slot c.args.first at f))
@@ -30,8 +30,8 @@ returns-then-wheel-eq0 g c =
 pub returns-then-is_after : goal.returns-then-is_after
 returns-then-is_after g c =
     let w = c.args.self.now in
-    let least : IsLeastDeadline c.least_in.result (timers_in (list_at (smooth_list (radices w.table) c.args.wheel c.in-Some.slot) w.buckets.links.lists)) =
-    subst (λ (x : ℕ). IsLeastDeadline c.least_in.result (timers_in (list_at x w.buckets.links.lists))) c.list_of_slot.ensures.value
+    let least : IsLeastDeadline c.least_in.result (row_timers (list_at (smooth_list (radices w.table) c.args.wheel c.in-Some.slot) w.buckets.links.lists)) =
+    subst (λ (x : ℕ). IsLeastDeadline c.least_in.result (row_timers (list_at x w.buckets.links.lists))) c.list_of_slot.ensures.value
     c.least_in.ensures in
     subst (λ (o : Option ℕ). IsFoundBelow (IsPendingDeadline w.buckets) w.table w.buckets (c.args.wheel + 1) o) (sym c.earlier-then-is_after.ensures)
     (found_high w.table w.buckets w.filled w.bank c.args.wheel c.in-Some.slot c.args.first c.least_in.result c.requires.wheel c.requires.below

@@ -1,7 +1,7 @@
 use Rattle.std.proofs.Common.{◌≡◌, ◌+◌, ℕ, length, sym, ◌∙◌, ap, subst, arith}
 use Rattle.timer_base.specs.WheelState.{with_room}
 use Rattle.timer_links.specs.Lists.{list_at, Rows}
-use Rattle.timer_wheels.specs.Smooth.{ticks_left}
+use Rattle.timer_wheels.specs.Smooth.{ticks_to_half}
 use Rattle.timer_wheels.specs.Tables.{radices}
 use Rattle.timer_wheels.proofs.BankLemmas.{IsMoved, moved_by, marked_moved}
 use Rattle.timer_wheels.proofs.SmoothDescent.{few_lists}
@@ -65,12 +65,12 @@ returns-clause-others g c =
     let w = c.args.self.now in
     let m = moved g (moved_then g c.before) in
     λ early j z l n. ap (λ (r : Rows). length r)
-    (m.next_same (subst (λ (x : ℕ). ticks_left (radices w.table) w.buckets.tick c.args.wheel ≡ 0 → length (list_at x w.buckets.links.lists) ≡ 0)
+    (m.next_same (subst (λ (x : ℕ). ticks_to_half (radices w.table) w.buckets.tick c.args.wheel ≡ 0 → length (list_at x w.buckets.links.lists) ≡ 0)
     (sym c.next_list-from.ensures.value) early) j z l n)
 
 pub returns-clause-exact : goal.returns-clause-exact
 returns-clause-exact g c =
     let w = c.args.self.now in
     let m = moved g (moved_then g c.before) in
-    λ early e. m.one_down (subst (λ (x : ℕ). ticks_left (radices w.table) w.buckets.tick c.args.wheel ≡ 0
+    λ early e. m.one_down (subst (λ (x : ℕ). ticks_to_half (radices w.table) w.buckets.tick c.args.wheel ≡ 0
     → length (list_at x w.buckets.links.lists) ≡ 0) (sym c.next_list-from.ensures.value) early)
