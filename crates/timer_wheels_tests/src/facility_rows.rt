@@ -2,7 +2,7 @@
 ghost use Rattle.std.specs.Prelude.{◌≡◌, []};
 ghost use Rattle.timer_base.specs.declared.timer.Timer.{Timer};
 
-use crate::support::same;
+use crate::wheel_tests::same;
 use std::alloc::Global;
 use std::process::Abort;
 use std::test::Fail;

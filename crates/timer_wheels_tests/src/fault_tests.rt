@@ -1,5 +1,5 @@
 //! The text of each error of a wheel and of the total calls over it.
-use crate::support::same;
+use crate::wheel_tests::same;
 use std::fmt::Display;
 use std::process::Abort;
 use timer_base::{MakeFault, OutOfMemory};

@@ -1,6 +1,5 @@
 //! Where the timers of a hierarchy of wheels stand at single ticks, the counts, and many ticks at once.
-use crate::support::same;
-use crate::wheel_tests::{advance, expire, start};
+use crate::wheel_tests::{advance, expire, same, start};
 use std::alloc::Global;
 use std::process::Abort;
 use std::test::Fail;

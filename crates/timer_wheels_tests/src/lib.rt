@@ -17,6 +17,4 @@ mod links_tests;
 #[cfg(test)]
 mod smooth_rows;
 #[cfg(test)]
-mod support;
-#[cfg(test)]
 mod wheel_tests;

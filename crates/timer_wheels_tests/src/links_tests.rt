@@ -1,5 +1,5 @@
 //! The row `links`.
-use crate::support::same;
+use crate::wheel_tests::same;
 use std::process::Abort;
 use timer_base::{OutOfMemory, Timer};
 use timer_links::{Links, Node};

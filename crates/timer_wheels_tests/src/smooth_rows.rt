@@ -1,7 +1,6 @@
 //! Moves of a smooth wheel ahead of their ticks.
 use crate::hier_rows::has_serials;
-use crate::support::same;
-use crate::wheel_tests::{advance, expire, start};
+use crate::wheel_tests::{advance, expire, same, start};
 use std::process::Abort;
 use std::test::Fail;
 use timer_base::Wheel;

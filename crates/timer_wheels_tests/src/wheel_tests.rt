@@ -1,13 +1,18 @@
-//! A whole use of each wheel: the schemes and their sizes are the rows.
+//! A whole use of each wheel: the schemes and their sizes are the rows. Its helpers are used by the other tests too.
 ghost use Rattle.std.specs.Prelude.{◌≡◌};
 ghost use Rattle.timer_base.specs.declared.timer.Timer.{Timer};
 
-use crate::support::same;
 use std::alloc::Global;
+use std::fmt::Debug;
 use std::process::Abort;
 use std::test::Fail;
 use timer_base::{Handle, LAST, OutOfMemory, PlainWheel, Timer, Wheel};
 use timer_wheels::{HashedWheel, HierWheel, SmoothWheel, Table};
+
+/// Compares two values. It is a function so that its callers have no branch.
+pub fn same<T: PartialEq + Debug + Drop>(rt: &impl Abort, found: T, expected: T) {
+    assert_eq!(rt; found, expected);
+}
 
 fn timer(serial: u64, deadline: u64) -> Timer
     ensures { result ≡ record {
