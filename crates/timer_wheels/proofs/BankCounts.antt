@@ -3,14 +3,10 @@ use Rattle.std.proofs.Common.{◌≡◌, ◌<◌, ◌≤◌, ◌+◌, ◌*◌, �
 use Rattle.std.specs.List.{AllByRecursion}
 use Rattle.std.proofs.lemmas.Bool.{cases_lt}
 use Rattle.std.proofs.lemmas.Bool.Decides.{nat_tests}
-use Rattle.timer_base.specs.declared.limits.TheConstants.{LAST}
-use Rattle.timer_base.specs.declared.timer.Timer.{Timer}
-use Rattle.timer_base.specs.declared.timer.Handle.{Handle}
 use Rattle.timer_base.specs.WheelState.{IsPending, IsDue, held_at}
 use Rattle.timer_links.proofs.Rows.{StandsIn, stands_in}
-use Rattle.timer_links.specs.declared.kept.Node.{Node}
-use Rattle.timer_links.specs.Lists.{list_at, with_row, without_key, AreApart, KeyedLists, Row, Rows}
-use Rattle.timer_links.specs.declared.kept.Kept.{Ghosts}
+use Rattle.timer_links.specs.Lists.{with_row, without_key, AreApart}
+use Rattle.timer_wheels.specs.Types.{LAST, Handle, Timer, Ghosts, Node, list_at, KeyedLists, Row, Rows, Table}
 use Rattle.timer_wheels.specs.Bank.{IsBank, wheel_of}
 use Rattle.timer_wheels.specs.BucketLists.{row_timer}
 use Rattle.timer_wheels.specs.Buckets.{state_of}
@@ -18,7 +14,6 @@ use Rattle.timer_wheels.specs.Digits.{IsTable, HasDigits, level}
 use Rattle.timer_wheels.specs.Smooth.{slot_in, smooth_list, smooth_level, smooth_bucket, mark, height, heights, descend_by, IsByLaw}
 use Rattle.timer_wheels.specs.Tables.{radices}
 use Rattle.timer_wheels.specs.declared.buckets.Buckets.{Buckets}
-use Rattle.timer_wheels.specs.declared.table.Table.{Table}
 use Rattle.timer_wheels.proofs.BankLemmas.{lists_in_range, turns_of_table, bits_are_law}
 use Rattle.timer_wheels.proofs.DigitLaws.{digits_down, level_in_table}
 use Rattle.timer_wheels.proofs.Handles.{held_node}

@@ -3,12 +3,10 @@ use Rattle.std.proofs.Common.{◌≡◌, ◌≢◌, ◌<◌, ◌≤◌, ◌⊎�
 use Rattle.std.specs.List.{AllByRecursion}
 use Rattle.std.proofs.lemmas.Bool.{cases_eq, cases_lt}
 use Rattle.timer_base.proofs.Basics.{some_same, some_none}
-use Rattle.timer_base.specs.declared.limits.TheConstants.{LAST}
-use Rattle.timer_base.specs.declared.timer.Timer.{Timer}
+use Rattle.timer_wheels.specs.Types.{LAST, Timer, Ghosts, list_at, KeyedLists, Row, Rows, Table}
 use Rattle.timer_wheels.specs.Buckets.{row_at}
 use Rattle.timer_base.specs.WheelState.{IsPending}
-use Rattle.timer_links.specs.Lists.{list_at, with_row, appended, front_moved, first_row_moved, KeyedLists, Row, Rows}
-use Rattle.timer_links.specs.declared.kept.Kept.{Ghosts}
+use Rattle.timer_links.specs.Lists.{with_row, appended, front_moved, first_row_moved}
 use Rattle.timer_wheels.specs.Bank.{IsBank}
 use Rattle.timer_wheels.specs.BucketLists.{row_timer, entries_of, AreBuckets, EachRow, wheel_state}
 use Rattle.timer_wheels.specs.Digits.{IsTable, HasDigits, radix, level}
@@ -17,7 +15,6 @@ use Rattle.timer_wheels.specs.Occupied.{bit_of, filled, AreMarked}
 use Rattle.timer_wheels.specs.Smooth.{slot_in, smooth_list, smooth_slots, next_list, heights, ticks_to_half, moved_to, mark, smooth_bucket, smooth_level, descend, descend_by, HasTurns, IsByLaw, IsSmooth, Stands, IsStep, AreTickedLists, stepped}
 use Rattle.timer_wheels.specs.Tables.{radices}
 use Rattle.timer_wheels.specs.declared.buckets.Buckets.{Buckets}
-use Rattle.timer_wheels.specs.declared.table.Table.{Table}
 use Rattle.timer_wheels.proofs.AllLemmas.{all-both}
 use Rattle.timer_wheels.proofs.DigitLaws.{digits_down, level_in_table}
 use Rattle.timer_wheels.proofs.OccupiedLemmas.{filled_behind, marked_set, marked_same}

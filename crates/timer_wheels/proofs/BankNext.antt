@@ -2,9 +2,8 @@
 use Rattle.std.proofs.Common.{◌≡◌, ◌<◌, ◌≤◌, ◌+◌, ◌-◌, ◌*◌, ◌%◌, ℕ, List, [], ◌∷◌, ◌++◌, length, refl, sym, ◌∙◌, ap, inl, inr, subst, arith, get_or-set_same, get_or-set_other, map, not, ◌==◌, true, false}
 use Rattle.std.proofs.lemmas.Bool.{eqb-true, eq-eqb}
 use Rattle.timer_base.proofs.Basics.{filter_no_longer}
-use Rattle.timer_base.specs.declared.timer.Timer.{Timer}
-use Rattle.timer_links.specs.Lists.{list_at, with_row, without_key, KeyedLists, Row, Rows}
-use Rattle.timer_links.specs.declared.kept.Kept.{Ghosts}
+use Rattle.timer_links.specs.Lists.{with_row, without_key}
+use Rattle.timer_wheels.specs.Types.{Timer, Ghosts, list_at, KeyedLists, Row, Rows, Table}
 use Rattle.timer_wheels.specs.Bank.{IsBank, next_len, potential_of, AllShrink, IsNextOf, ComesTo}
 use Rattle.timer_wheels.specs.Buckets.{IsSameFrame, IsListOf}
 use Rattle.timer_wheels.specs.Digits.{IsTable, HasDigits, radix, level}
@@ -12,7 +11,6 @@ use Rattle.timer_wheels.specs.Occupied.{bit_of, filled}
 use Rattle.timer_wheels.specs.Smooth.{slot_in, smooth_list, is_in_next, next_list, heights, descend_by}
 use Rattle.timer_wheels.specs.Tables.{radices}
 use Rattle.timer_wheels.specs.declared.buckets.Buckets.{Buckets}
-use Rattle.timer_wheels.specs.declared.table.Table.{Table}
 use Rattle.timer_wheels.proofs.BankLemmas.{lists_in_range, turns_of_table}
 use Rattle.timer_wheels.proofs.DigitLaws.{digits_down}
 use Rattle.timer_wheels.proofs.RowLemmas.{list_at-without_key}

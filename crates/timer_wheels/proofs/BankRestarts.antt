@@ -4,12 +4,9 @@
 -- is empty by then. It stands there by the law, since all others were started before it.
 use Rattle.std.proofs.Common.{◌≡◌, ◌≢◌, ◌<◌, ◌≤◌, ◌+◌, ℕ, List, [], ◌∷◌, length, refl, sym, ◌∙◌, ap, subst, arith, get_or-set_other, ◌++◌, map}
 use Rattle.std.specs.List.{AllByRecursion}
-use Rattle.timer_base.specs.declared.limits.TheConstants.{LAST}
-use Rattle.timer_base.specs.declared.timer.Timer.{Timer}
-use Rattle.timer_base.specs.declared.timer.Handle.{Handle}
 use Rattle.timer_base.specs.WheelState.{IsPending}
-use Rattle.timer_links.specs.Lists.{list_at, with_row, without_key}
-use Rattle.timer_links.specs.declared.kept.Kept.{Ghosts}
+use Rattle.timer_links.specs.Lists.{with_row, without_key}
+use Rattle.timer_wheels.specs.Types.{LAST, Handle, Timer, Ghosts, list_at, Table}
 use Rattle.timer_wheels.specs.Bank.{IsBank}
 use Rattle.timer_wheels.specs.BucketLists.{row_timer, AreBuckets, EachRow}
 use Rattle.timer_wheels.specs.Buckets.{row_at}
@@ -17,7 +14,6 @@ use Rattle.timer_wheels.specs.Digits.{IsTable, HasDigits, level}
 use Rattle.timer_wheels.specs.Smooth.{slot_in, smooth_list, next_list, moved_to, mark, descend_by, IsByLaw, IsSmooth}
 use Rattle.timer_wheels.specs.Tables.{radices}
 use Rattle.timer_wheels.specs.declared.buckets.Buckets.{Buckets}
-use Rattle.timer_wheels.specs.declared.table.Table.{Table}
 use Rattle.timer_wheels.proofs.BankLemmas.{to_relation, to_law, lists_in_range, turns_of_table}
 use Rattle.timer_wheels.proofs.BankStops.{stopped_placed}
 use Rattle.timer_wheels.proofs.DigitLaws.{digits_down}

@@ -3,14 +3,11 @@ use Rattle.std.proofs.Common.{◌≡◌, ◌<◌, ◌≤◌, ◌+◌, ℕ, List,
 use Rattle.std.specs.List.{AllByRecursion}
 use Rattle.std.proofs.lemmas.Bool.{cases_lt}
 use Rattle.timer_base.proofs.Basics.{either}
-use Rattle.timer_base.specs.declared.limits.TheConstants.{LAST}
-use Rattle.timer_base.specs.declared.timer.Timer.{Timer}
-use Rattle.timer_base.specs.declared.timer.Handle.{Handle}
 use Rattle.timer_base.specs.Order.{AreRising}
 use Rattle.timer_base.proofs.OrderLaws.{All-filter, AreRising-weaken}
 use Rattle.timer_base.specs.WheelState.{IsPending, held_at}
-use Rattle.timer_links.specs.Lists.{list_at, without_key, list_if_alone, AreApart, IsAloneIn, Row, Rows}
-use Rattle.timer_links.specs.declared.kept.Kept.{Ghosts}
+use Rattle.timer_links.specs.Lists.{without_key, list_if_alone, AreApart, IsAloneIn}
+use Rattle.timer_wheels.specs.Types.{LAST, Handle, Timer, Ghosts, list_at, Row, Rows, Table}
 use Rattle.timer_wheels.specs.Bank.{IsBank, LeavesBits}
 use Rattle.timer_wheels.specs.BucketLists.{row_timer, row_timers, AreBuckets, EachRow}
 use Rattle.timer_wheels.specs.Buckets.{state_of}
@@ -19,7 +16,6 @@ use Rattle.timer_wheels.specs.Occupied.{AreMarked, Clears}
 use Rattle.timer_wheels.specs.Smooth.{slot_in, smooth_list, next_list, moved_to, mark, IsByLaw}
 use Rattle.timer_wheels.specs.Tables.{radices}
 use Rattle.timer_wheels.specs.declared.buckets.Buckets.{Buckets}
-use Rattle.timer_wheels.specs.declared.table.Table.{Table}
 use Rattle.timer_wheels.proofs.Handles.{held_node}
 use Rattle.timer_wheels.proofs.OccupiedLemmas.{marked_same}
 use Rattle.timer_wheels.proofs.RowLemmas.{all-list_at, list_at-without_key}

@@ -4,13 +4,12 @@ use Rattle.std.specs.List.{AllByRecursion}
 use Rattle.std.proofs.lemmas.Bool.{cases_eq, eqb-true}
 use Rattle.std.proofs.lemmas.List.{length-map}
 use Rattle.timer_base.proofs.Basics.{either}
-use Rattle.timer_base.specs.declared.timer.Timer.{Timer}
 use Rattle.timer_base.specs.Order.{in_order, AreBelow, AreDistinct, AreRising, IsNotAmong}
 use Rattle.timer_base.proofs.OrderLaws.{in_order-newest, filter-in_order, length-in_order, All-filter, All-weaken, AreRising-append, AreRising-weaken}
-use Rattle.timer_base.specs.Pending.{Entry, timer_of, timers_of, is_due_at, entries_due, put}
+use Rattle.timer_base.specs.Pending.{timer_of, timers_of, is_due_at, entries_due, put}
 use Rattle.timer_base.specs.WheelState.{IsPending, IsDue}
-use Rattle.timer_links.specs.declared.kept.Node.{Node}
-use Rattle.timer_links.specs.Lists.{list_at, node_in, node_at, first_of, with_row, without_key, row_count, AreApart, KeyedLists, Row, Rows}
+use Rattle.timer_links.specs.Lists.{node_in, node_at, first_of, with_row, without_key, row_count, AreApart}
+use Rattle.timer_wheels.specs.Types.{Timer, Entry, Node, list_at, KeyedLists, Row, Rows}
 use Rattle.timer_wheels.specs.BucketLaws.{timers_of-entries}
 use Rattle.timer_wheels.specs.Buckets.{IsListOf}
 use Rattle.timer_wheels.specs.BucketLists.{row_timer, row_timers, entry_of, entries_of, rows_below, pending_in, ArePending, AreDue, AreInOrder, EachRow}

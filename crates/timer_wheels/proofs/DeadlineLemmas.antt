@@ -3,20 +3,17 @@ use Rattle.std.proofs.Common.{◌≡◌, ◌<◌, ◌≤◌, ◌+◌, ◌*◌, �
 use Rattle.std.specs.List.{AllByRecursion}
 use Rattle.std.proofs.lemmas.Bool.{cases_eq, cases_lt}
 use Rattle.timer_base.proofs.Basics.{some_same, least_if_before, least_if_after, either}
-use Rattle.timer_base.specs.declared.timer.Timer.{Timer}
 use Rattle.timer_base.specs.Order.{insert_in_order, is_before}
 use Rattle.timer_base.proofs.OrderLaws.{All-weaken}
-use Rattle.timer_base.specs.Pending.{Entry, timer_of}
+use Rattle.timer_base.specs.Pending.{timer_of}
 use Rattle.timer_base.specs.PlainState.{earliest}
 use Rattle.timer_base.specs.WakeUps.{next_deadline}
-use Rattle.timer_links.specs.Lists.{list_at, KeyedLists, Row, Rows}
-use Rattle.timer_links.specs.declared.kept.Kept.{Ghosts}
+use Rattle.timer_wheels.specs.Types.{Timer, Entry, Ghosts, list_at, KeyedLists, Row, Rows, Table}
 use Rattle.timer_wheels.specs.BucketLists.{row_timer, row_timers, entry_of, pending_in, rows_below, EachRow}
 use Rattle.timer_wheels.specs.Buckets.{state_of}
 use Rattle.timer_wheels.specs.declared.buckets.Buckets.{Buckets}
 use Rattle.timer_wheels.specs.FirstDeadline.{HasDeadline, IsLeast, IsLeastDeadline}
 use Rattle.timer_wheels.specs.declared.table.TheConstants.{MOST_BUCKETS}
-use Rattle.timer_wheels.specs.declared.table.Table.{Table}
 use Rattle.timer_wheels.specs.Digits.{IsTable, bucket, lowest_radix}
 use Rattle.timer_wheels.specs.Hier.{IsHier}
 use Rattle.timer_wheels.specs.Leap.{list_visit, timer_visit}

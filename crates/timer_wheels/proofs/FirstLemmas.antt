@@ -5,10 +5,9 @@ use Rattle.std.specs.Option.{option_eq}
 use Rattle.std.proofs.lemmas.Bool.{cases_eq, cases_lt, eqb-true}
 use Rattle.std.proofs.lemmas.Bool.Decides.{nat_tests}
 use Rattle.timer_base.proofs.OrderLaws.{All-weaken}
-use Rattle.timer_base.specs.declared.timer.Timer.{Timer}
 use Rattle.timer_base.proofs.Basics.{some_same}
-use Rattle.timer_links.specs.declared.kept.Node.{Node}
-use Rattle.timer_links.specs.Lists.{list_at, node_at, AreApart, KeyedLists, Rows}
+use Rattle.timer_links.specs.Lists.{node_at, AreApart}
+use Rattle.timer_wheels.specs.Types.{Timer, Node, list_at, KeyedLists, Rows}
 use Rattle.timer_wheels.specs.BucketLists.{row_timer, row_timers}
 use Rattle.timer_wheels.specs.declared.first.First.{First}
 use Rattle.timer_wheels.specs.declared.first.First.TheVariants.{InOrder, Counted}

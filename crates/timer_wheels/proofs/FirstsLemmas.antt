@@ -3,9 +3,8 @@ use Rattle.std.proofs.Common.{◌≡◌, ◌≢◌, ◌<◌, ◌≤◌, ◌+◌,
 use Rattle.std.proofs.lemmas.Bool.{cases_eq}
 use Rattle.std.proofs.lemmas.Bool.Decides.{nat_tests}
 use Rattle.timer_base.proofs.Basics.{either}
-use Rattle.timer_base.specs.declared.timer.Timer.{Timer}
-use Rattle.timer_links.specs.declared.kept.Node.{Node}
-use Rattle.timer_links.specs.Lists.{list_at, with_row, front_moved, list_if_alone, KeyedLists, Row, Rows}
+use Rattle.timer_links.specs.Lists.{with_row, front_moved, list_if_alone}
+use Rattle.timer_wheels.specs.Types.{Timer, Node, list_at, KeyedLists, Row, Rows}
 use Rattle.timer_wheels.specs.BucketLists.{row_timer, row_timers}
 use Rattle.timer_wheels.specs.declared.first.First.{First}
 use Rattle.timer_wheels.specs.declared.first.First.TheVariants.{InOrder, Counted}

@@ -4,14 +4,12 @@ use Rattle.std.specs.List.{AllByRecursion}
 use Rattle.std.proofs.lemmas.Bool.{cases_eq, eq-eqb, eqb-true, ne_eqb}
 use Rattle.timer_base.proofs.HeldLaws.{found_or_none, other_serial}
 use Rattle.timer_base.proofs.Basics.{some_same, none_some, some_none, either}
-use Rattle.timer_base.specs.declared.timer.Timer.{Timer}
-use Rattle.timer_base.specs.declared.timer.Handle.{Handle}
 use Rattle.timer_base.specs.Order.{in_order, AreDistinct, IsNotAmong}
 use Rattle.timer_base.proofs.OrderLaws.{filter-in_order, AreDistinct-rising}
-use Rattle.timer_base.specs.Pending.{Entry, timer_of, has_handle, first_timer, first_found, without_handle}
-use Rattle.timer_base.specs.WheelState.{WheelState, IsPending, IsDue, NamesOne, timer_at, due_at, held_at, after_removal}
-use Rattle.timer_links.specs.declared.kept.Node.{Node}
-use Rattle.timer_links.specs.Lists.{list_at, node_in, node_at, first_of, without_key, AreApart, KeyedLists, Row, Rows}
+use Rattle.timer_base.specs.Pending.{timer_of, has_handle, first_timer, first_found, without_handle}
+use Rattle.timer_base.specs.WheelState.{IsPending, IsDue, NamesOne, timer_at, due_at, held_at, after_removal}
+use Rattle.timer_links.specs.Lists.{node_in, node_at, first_of, without_key, AreApart}
+use Rattle.timer_wheels.specs.Types.{Handle, Timer, Entry, WheelState, Node, list_at, KeyedLists, Row, Rows}
 use Rattle.timer_wheels.specs.BucketLists.{row_timer, row_timers, entry_of, entries_of, rows_below, pending_in, wheel_state, AreBuckets}
 use Rattle.timer_wheels.proofs.RowLemmas.{rows_below-without_key, list_at-without_key}
 use Rattle.timer_wheels.proofs.BucketLemmas.{HasNode, node_at-parts, apart_list, apart_rows}

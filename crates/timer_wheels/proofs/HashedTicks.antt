@@ -5,13 +5,12 @@ use Rattle.std.proofs.lemmas.Bool.{cases_eq, cases_lt, eq-eqb, ne_eqb, eqb-true}
 use Rattle.std.proofs.lemmas.Bool.Decides.{nat_tests}
 use Rattle.std.proofs.Math.Nat.{add-mul-mod_self_left, mod-add-mod}
 use Rattle.timer_base.proofs.Basics.{not_due_before, is_due, either}
-use Rattle.timer_base.specs.declared.timer.Timer.{Timer}
 use Rattle.timer_base.specs.Order.{in_order, AreDistinct, AreRising}
 use Rattle.timer_base.proofs.OrderLaws.{filter-in_order, in_order-same, AllAt, All-weaken, All-filter}
-use Rattle.timer_base.specs.Pending.{Entry, timer_of, is_due_at, entries_due, entries_left}
+use Rattle.timer_base.specs.Pending.{timer_of, is_due_at, entries_due, entries_left}
 use Rattle.timer_base.proofs.TickLaws.{left_all}
-use Rattle.timer_base.specs.WheelState.{WheelState, IsPending, after_tick}
-use Rattle.timer_links.specs.Lists.{list_at, KeyedLists, Row, Rows}
+use Rattle.timer_base.specs.WheelState.{IsPending, after_tick}
+use Rattle.timer_wheels.specs.Types.{Timer, Entry, WheelState, list_at, KeyedLists, Row, Rows}
 use Rattle.timer_wheels.specs.BucketLaws.{timers_of-entries, wheel_state-well_formed}
 use Rattle.timer_wheels.specs.BucketLists.{row_timer, row_timers, entry_of, entries_of, rows_below, pending_in, wheel_state, ArePending, AreInOrder, AreBuckets, EachRow}
 use Rattle.timer_wheels.specs.Hashed.{IsInBucket, AreInBuckets, rounds_of}

@@ -1,18 +1,15 @@
 -- Lemmas for `leap`: the first visit ahead, the clock set forward to it, and the loop of `advance_until_due`.
-use Rattle.timer_links.specs.declared.kept.Kept.{Ghosts}
+use Rattle.timer_wheels.specs.Types.{LAST, WheelState, Ghosts, list_at, Row, Rows, Table}
 use Rattle.timer_wheels.specs.declared.table.TheConstants.{MOST_BUCKETS}
 use Rattle.timer_wheels.proofs.RoomLemmas.{leaps-with_room}
 use Rattle.std.proofs.Common.{◌≡◌, ◌<◌, ◌≤◌, ◌+◌, ◌-◌, ◌*◌, ◌/◌, ◌%◌, ℕ, List, [], ◌∷◌, length, refl, sym, ◌∙◌, ap, inl, inr, arith, Some}
 use Rattle.std.specs.List.{AllByRecursion}
 use Rattle.std.proofs.lemmas.Bool.{cases_lt}
-use Rattle.timer_base.specs.declared.limits.TheConstants.{LAST}
 use Rattle.timer_base.proofs.OrderLaws.{All-weaken}
 use Rattle.timer_base.specs.WakeUps.{IsWakeUp}
-use Rattle.timer_base.specs.WheelState.{with_room, WheelState, IsPending, after_tick, after_ticks, Advances}
-use Rattle.timer_links.specs.Lists.{list_at, Row, Rows}
+use Rattle.timer_base.specs.WheelState.{with_room, IsPending, after_tick, after_ticks, Advances}
 use Rattle.timer_wheels.specs.Buckets.{state_of}
 use Rattle.timer_wheels.specs.declared.buckets.Buckets.{Buckets}
-use Rattle.timer_wheels.specs.declared.table.Table.{Table}
 use Rattle.timer_wheels.specs.declared.wheels.Wheels.{Wheels}
 use Rattle.std.proofs.Math.Nat.{mul-le-mul_right}
 use Rattle.timer_wheels.specs.Digits.{IsTable, HasDigits, slots, last_of, lowest_radix, bucket}

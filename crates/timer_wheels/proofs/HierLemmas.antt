@@ -1,21 +1,16 @@
 -- The invariant of a hierarchy of wheels when it is made, after a start and a restart, and what `links` shows.
 use Rattle.timer_base.proofs.Basics.{either}
-use Rattle.timer_links.specs.declared.kept.Kept.{Ghosts}
 use Rattle.timer_wheels.proofs.RoomLemmas.{shows-with_room}
 use Rattle.std.proofs.Common.{◌≡◌, ◌<◌, ◌≤◌, ◌+◌, ◌*◌, ℕ, List, [], ◌∷◌, length, refl, sym, ◌∙◌, ap, subst, inl, inr, arith, Bool, filter, not, nat_lt, replicate}
 use Rattle.std.proofs.lemmas.Bool.{cases_lt}
-use Rattle.timer_base.specs.declared.timer.Timer.{Timer}
-use Rattle.timer_base.specs.declared.timer.Handle.{Handle}
-use Rattle.timer_base.specs.declared.limits.TheConstants.{LAST}
 use Rattle.timer_base.specs.Layout.{Layout}
-use Rattle.timer_base.specs.Pending.{Entry, put, has_handle, without_handle}
-use Rattle.timer_base.specs.WheelState.{WheelState, empty_wheel, after_start, after_due_start, after_held_start}
+use Rattle.timer_base.specs.Pending.{put, has_handle, without_handle}
+use Rattle.timer_base.specs.WheelState.{empty_wheel, after_start, after_due_start, after_held_start}
 use Rattle.timer_base.proofs.HeldLaws.{start_when_later, start_when_now, held_start-last_serial}
-use Rattle.timer_links.specs.Lists.{list_at}
 use Rattle.timer_links.proofs.NewLinks.{no_rows_at}
+use Rattle.timer_wheels.specs.Types.{LAST, Handle, Timer, Entry, WheelState, Ghosts, list_at, Table}
 use Rattle.timer_wheels.specs.Buckets.{state_of}
 use Rattle.timer_wheels.specs.declared.buckets.Buckets.{Buckets}
-use Rattle.timer_wheels.specs.declared.table.Table.{Table}
 use Rattle.timer_wheels.specs.Tables.{radices}
 use Rattle.timer_wheels.specs.Digits.{slots, level, last_of}
 use Rattle.timer_wheels.proofs.DigitLaws.{level_in_table, digits_down, IsHierTable}

@@ -3,8 +3,7 @@ use Rattle.std.proofs.Common.{◌≡◌, ◌≢◌, ◌<◌, ◌≤◌, ◌⊎�
 use Rattle.std.proofs.lemmas.Bool.{cases_eq, cases_lt}
 use Rattle.std.proofs.lemmas.Bool.Decides.{nat_tests}
 use Rattle.timer_base.proofs.Basics.{either}
-use Rattle.timer_links.specs.Lists.{list_at, Rows}
-use Rattle.timer_links.specs.declared.kept.Kept.{Ghosts}
+use Rattle.timer_wheels.specs.Types.{Ghosts, list_at, Rows, Table}
 use Rattle.timer_wheels.specs.Bank.{IsBank, next_len, movable, potential_of, OthersStay, OthersShrink}
 use Rattle.timer_wheels.specs.Occupied.{bit_of, filled}
 use Rattle.timer_wheels.specs.Paces.{pace_at, pace_sum, most_pace, FitPaces}
@@ -12,7 +11,6 @@ use Rattle.timer_wheels.specs.Smooth.{slot_in, next_list, next_lengths}
 use Rattle.timer_wheels.specs.Tables.{radices}
 use Rattle.timer_wheels.specs.declared.buckets.Buckets.{Buckets}
 use Rattle.timer_wheels.specs.declared.smooth.turns.TheConstants.{MOST_WHEELS}
-use Rattle.timer_wheels.specs.declared.table.Table.{Table}
 use Rattle.timer_wheels.proofs.BankLemmas.{lists_in_range}
 use Rattle.timer_wheels.proofs.PaceLemmas.{most_of_sum}
 

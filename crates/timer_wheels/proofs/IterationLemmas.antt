@@ -3,17 +3,14 @@ use Rattle.std.proofs.Common.{◌≡◌, ◌<◌, ◌≤◌, ◌+◌, ◌⊎◌,
 use Rattle.std.specs.List.{AllByRecursion}
 use Rattle.std.proofs.lemmas.Bool.{cases_lt, eq-eqb}
 use Rattle.timer_base.proofs.Basics.{none_some, some_same}
-use Rattle.timer_base.specs.declared.timer.Timer.{Timer}
-use Rattle.timer_base.specs.declared.timer.Handle.{Handle}
 use Rattle.timer_base.proofs.OrderLaws.{All-in_order, All-weaken}
-use Rattle.timer_base.specs.Pending.{Entry, timer_of}
+use Rattle.timer_base.specs.Pending.{timer_of}
 use Rattle.timer_base.specs.WheelState.{held_at}
-use Rattle.timer_links.specs.declared.kept.Node.{Node}
-use Rattle.timer_links.specs.Lists.{list_at, node_at, AreApart, AreUnused, IsFirstUsed, KeyedLists, Row}
+use Rattle.timer_links.specs.Lists.{node_at, AreApart, AreUnused, IsFirstUsed}
+use Rattle.timer_wheels.specs.Types.{Handle, Timer, Entry, Ghosts, Node, list_at, KeyedLists, Row}
 use Rattle.timer_wheels.specs.BucketLists.{entry_of, entries_of, rows_below}
 use Rattle.timer_wheels.specs.Buckets.{state_of}
 use Rattle.timer_wheels.specs.HeldPlaces.{IsHeld, IsFirstHeld, IsAlone}
-use Rattle.timer_links.specs.declared.kept.Kept.{Ghosts}
 use Rattle.timer_wheels.specs.declared.buckets.Buckets.{Buckets}
 use Rattle.timer_wheels.proofs.Handles.{timer_named, held_is}
 use Rattle.timer_wheels.proofs.AllLemmas.{all-map}

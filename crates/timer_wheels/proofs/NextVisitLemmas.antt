@@ -5,12 +5,11 @@ use Rattle.std.proofs.lemmas.Bool.{cases_eq, eq-eqb, ne_eqb}
 use Rattle.std.proofs.lemmas.Bool.Decides.{nat_tests}
 use Rattle.std.proofs.Math.Nat.{mul-div_right}
 use Rattle.timer_base.proofs.OrderLaws.{All-weaken}
-use Rattle.timer_base.specs.Pending.{Entry, timer_of, timers_of, entries_due, AreAfter}
+use Rattle.timer_base.specs.Pending.{timer_of, timers_of, entries_due, AreAfter}
 use Rattle.timer_base.proofs.TickLaws.{left_all, after_ticks-now}
-use Rattle.timer_base.specs.WheelState.{WheelState, IsPending, after_ticks}
-use Rattle.timer_links.specs.declared.kept.Kept.{Ghosts}
+use Rattle.timer_base.specs.WheelState.{IsPending, after_ticks}
+use Rattle.timer_wheels.specs.Types.{Entry, WheelState, Ghosts, Table}
 use Rattle.timer_wheels.specs.declared.table.TheConstants.{MOST_BUCKETS}
-use Rattle.timer_wheels.specs.declared.table.Table.{Table}
 use Rattle.timer_wheels.specs.Buckets.{state_of, state_of-well_formed}
 use Rattle.timer_wheels.specs.declared.buckets.Buckets.{Buckets}
 use Rattle.timer_wheels.specs.Digits.{IsTable, HasDigits, level, bucket, slots, hops}

@@ -2,17 +2,16 @@
 use Rattle.std.proofs.Common.{◌≡◌, ◌≢◌, ◌<◌, ◌≤◌, ◌+◌, ◌*◌, ◌/◌, ℕ, zero, suc, List, [], ◌∷◌, length, refl, sym, ◌∙◌, ap, inl, inr, subst, arith}
 use Rattle.std.proofs.Math.Nat.{div-mul-le_self, mul-le-mul_left}
 use Rattle.std.proofs.lemmas.Bool.{cases_eq}
-use Rattle.timer_links.specs.Lists.{list_at, row_count, KeyedLists}
+use Rattle.timer_links.specs.Lists.{row_count}
+use Rattle.timer_wheels.specs.Types.{Ghosts, list_at, KeyedLists, Table}
 use Rattle.timer_wheels.specs.Bank.{next_len, potential_of, OthersShrink}
 use Rattle.timer_wheels.specs.Digits.{IsTable, weight, lowest_radix}
 use Rattle.timer_wheels.specs.Paces.{pace_at, sum_below, pace_sum, pace_for, FitPaces, HasMoved}
 use Rattle.timer_wheels.specs.Smooth.{slot_in, next_list, ticks_to_half}
 use Rattle.timer_wheels.specs.Tables.{radices}
 use Rattle.timer_links.specs.declared.ring.TheConstants.{INDEXES}
-use Rattle.timer_links.specs.declared.kept.Kept.{Ghosts}
 use Rattle.timer_wheels.specs.declared.buckets.Buckets.{Buckets}
 use Rattle.timer_wheels.specs.declared.smooth.turns.TheConstants.{MOST_WHEELS}
-use Rattle.timer_wheels.specs.declared.table.Table.{Table}
 use Rattle.timer_wheels.proofs.SmoothPace.{pace_begun}
 use Rattle.timer_wheels.proofs.SmoothWeights.{weight_some, halves}
 use Rattle.timer_wheels.proofs.TableLaws.{of_table}

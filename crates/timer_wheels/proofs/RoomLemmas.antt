@@ -2,9 +2,8 @@
 use Rattle.std.proofs.Common.{◌≡◌, ◌<◌, ◌-◌, ◌⊎◌, ℕ, zero, suc, List, length, refl, sym, ◌∙◌, ap, subst, Option, None, Some, IfSome}
 use Rattle.timer_base.specs.Layout.{Layout}
 use Rattle.timer_base.proofs.TickLaws.{after_ticks-with_room}
-use Rattle.timer_base.specs.declared.timer.Timer.{Timer}
-use Rattle.timer_base.specs.WheelState.{WheelState, with_room, with_layout, after_tick, after_ticks, Advances, IsPassing}
-use Rattle.timer_links.specs.Lists.{KeyedLists}
+use Rattle.timer_base.specs.WheelState.{with_room, with_layout, after_tick, after_ticks, Advances, IsPassing}
+use Rattle.timer_wheels.specs.Types.{Timer, WheelState, KeyedLists}
 use Rattle.timer_wheels.specs.Hashed.{IsNextSweep}
 use Rattle.timer_wheels.specs.Leap.{Leaps, IsNextVisit}
 use Rattle.timer_wheels.specs.Placement.{hops_of}

@@ -5,12 +5,11 @@ use Rattle.std.proofs.lemmas.List.{map-append}
 pub use Rattle.std.proofs.lemmas.List.{append-nil, set-set as set_twice, set_comm as set_swapped}
 pub use Rattle.std.proofs.lemmas.List.Elements.{filter-append}
 use Rattle.timer_base.proofs.Basics.{either}
-use Rattle.timer_base.specs.declared.timer.Timer.{Timer}
 use Rattle.timer_base.specs.Order.{AreBelow, AreDistinct, IsNotAmong}
 use Rattle.timer_base.proofs.OrderLaws.{All-weaken}
 pub use Rattle.timer_base.proofs.OrderLaws.{All-append as all-append}
-use Rattle.timer_base.specs.Pending.{Entry}
-use Rattle.timer_links.specs.Lists.{list_at, with_row, without_key, KeyedLists, Row, Rows}
+use Rattle.timer_links.specs.Lists.{with_row, without_key}
+use Rattle.timer_wheels.specs.Types.{Timer, Entry, list_at, KeyedLists, Row, Rows}
 use Rattle.timer_wheels.specs.BucketLists.{row_timer, row_timers, entry_of, entries_of, rows_below}
 
 -- Facts of every row.

@@ -4,12 +4,10 @@ use Rattle.std.specs.List.{AllByRecursion}
 use Rattle.std.proofs.lemmas.Bool.{eq-eqb, ne_eqb}
 use Rattle.std.proofs.lemmas.List.{length-map}
 use Rattle.timer_base.proofs.Basics.{either}
-use Rattle.timer_base.specs.declared.timer.Timer.{Timer}
 use Rattle.timer_base.specs.Order.{is_before, insert_in_order, in_order, AreDistinct, AreRising, IsNotAmong}
 use Rattle.timer_base.proofs.OrderLaws.{insert_in_order-commutes, in_order-same, AllAt, All-weaken, length-in_order, AreDistinct-rising, IsNotAmong-in_order}
-use Rattle.timer_base.specs.Pending.{Entry, timer_of}
-use Rattle.timer_base.specs.WheelState.{WheelState}
-use Rattle.timer_links.specs.Lists.{list_at, KeyedLists, Row, Rows}
+use Rattle.timer_base.specs.Pending.{timer_of}
+use Rattle.timer_wheels.specs.Types.{Timer, Entry, WheelState, list_at, KeyedLists, Row, Rows}
 use Rattle.timer_wheels.specs.BucketLists.{row_timer, row_timers, entries_of, rows_below, pending_in, wheel_state, AreInOrder, EachRow}
 use Rattle.timer_wheels.specs.BucketLaws.{timers_of-entries}
 use Rattle.timer_wheels.specs.Shown.{without_deadline, by_serial, row_of_entry, entries_at, ShowsBuckets}

@@ -3,10 +3,8 @@ use Rattle.std.proofs.Common.{◌≡◌, ◌<◌, ◌≤◌, ◌+◌, ◌-◌, �
 use Rattle.std.specs.List.{AllByRecursion}
 use Rattle.std.proofs.Math.Nat.{div-mul-le_self, mul-le-mul_right}
 use Rattle.std.proofs.lemmas.Bool.{cases_eq, cases_lt}
-use Rattle.timer_base.specs.declared.timer.Timer.{Timer}
 use Rattle.timer_base.specs.WheelState.{IsPending}
-use Rattle.timer_links.specs.Lists.{list_at, Row, Rows}
-use Rattle.timer_links.specs.declared.kept.Kept.{Ghosts}
+use Rattle.timer_wheels.specs.Types.{Timer, Ghosts, list_at, Row, Rows, Table}
 use Rattle.timer_wheels.specs.Bank.{IsBank, next_len}
 use Rattle.timer_wheels.specs.BucketLists.{row_timer, EachRow}
 use Rattle.timer_wheels.specs.Digits.{IsTable, HasDigits, weight, radix}
@@ -15,7 +13,6 @@ use Rattle.timer_wheels.specs.Smooth.{slot_in, smooth_list, next_list, mark, IsS
 use Rattle.timer_wheels.specs.SmoothAhead.{IsFirstFilledSlot, event_tick, IsEventFrom}
 use Rattle.timer_wheels.specs.Tables.{radices}
 use Rattle.timer_wheels.specs.declared.buckets.Buckets.{Buckets}
-use Rattle.timer_wheels.specs.declared.table.Table.{Table}
 use Rattle.timer_wheels.proofs.BankLemmas.{to_relation, lists_in_range, turns_of_table}
 use Rattle.timer_wheels.proofs.BankNext.{some_rows}
 use Rattle.timer_wheels.proofs.DigitLaws.{rest_is}

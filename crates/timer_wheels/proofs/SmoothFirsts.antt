@@ -4,13 +4,11 @@ use Rattle.std.specs.List.{AllByRecursion}
 use Rattle.std.proofs.Math.Nat.{div-mul-le_self, mul-le-mul_right}
 use Rattle.std.proofs.lemmas.Bool.{cases_eq, cases_lt}
 use Rattle.timer_base.proofs.Basics.{some_same, some_none}
-use Rattle.timer_base.specs.declared.timer.Timer.{Timer}
 use Rattle.timer_base.proofs.OrderLaws.{All-in_order}
-use Rattle.timer_base.specs.Pending.{Entry, timer_of}
+use Rattle.timer_base.specs.Pending.{timer_of}
 use Rattle.timer_base.specs.PlainState.{earliest}
 use Rattle.timer_base.specs.WakeUps.{IsWakeUp, next_deadline}
-use Rattle.timer_links.specs.Lists.{list_at, KeyedLists, Row, Rows}
-use Rattle.timer_links.specs.declared.kept.Kept.{Ghosts}
+use Rattle.timer_wheels.specs.Types.{Timer, Entry, Ghosts, list_at, KeyedLists, Row, Rows, Table}
 use Rattle.timer_wheels.specs.Bank.{IsBank}
 use Rattle.timer_wheels.specs.BucketLists.{row_timer, row_timers, entry_of, entries_of, pending_in, rows_below, EachRow}
 use Rattle.timer_wheels.specs.Buckets.{state_of}
@@ -22,7 +20,6 @@ use Rattle.timer_wheels.specs.SmoothAhead.{IsFirstFilledSlot, IsNotBefore, IsInP
 use Rattle.timer_wheels.specs.Tables.{radices}
 use Rattle.timer_wheels.specs.WakeUps.{next_visit}
 use Rattle.timer_wheels.specs.declared.buckets.Buckets.{Buckets}
-use Rattle.timer_wheels.specs.declared.table.Table.{Table}
 use Rattle.timer_wheels.proofs.AllLemmas.{all-both, all-map, all-of_map}
 use Rattle.timer_wheels.proofs.BankLemmas.{lists_in_range}
 use Rattle.timer_wheels.proofs.DeadlineLemmas.{has-front, has-rest, next_is_least, least_is_next}

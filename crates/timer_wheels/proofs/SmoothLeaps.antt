@@ -4,11 +4,10 @@ use Rattle.std.proofs.Math.Nat.{mul-le-mul_right}
 use Rattle.std.proofs.lemmas.Bool.{cases_eq, cases_lt}
 use Rattle.timer_base.proofs.Basics.{either}
 use Rattle.timer_base.proofs.OrderLaws.{All-in_order}
-use Rattle.timer_base.specs.Pending.{Entry, timer_of, is_due_at, entries_due, entries_left, AreAfter}
-use Rattle.timer_base.specs.WheelState.{IsPassing, WheelState, held_count, after_tick, after_ticks, Advances}
+use Rattle.timer_base.specs.Pending.{timer_of, is_due_at, entries_due, entries_left, AreAfter}
+use Rattle.timer_base.specs.WheelState.{IsPassing, held_count, after_tick, after_ticks, Advances}
 use Rattle.timer_base.proofs.TickLaws.{passing_quiet, after_ticks-add}
-use Rattle.timer_links.specs.Lists.{list_at}
-use Rattle.timer_links.specs.declared.kept.Kept.{Ghosts}
+use Rattle.timer_wheels.specs.Types.{Entry, WheelState, Ghosts, list_at, Table}
 use Rattle.timer_wheels.specs.Bank.{IsBank, next_len}
 use Rattle.timer_wheels.specs.BucketLists.{row_timer, entry_of, entries_of, rows_below, EachRow}
 use Rattle.timer_wheels.specs.Buckets.{state_of}
@@ -18,7 +17,6 @@ use Rattle.timer_wheels.specs.SmoothWheel.{PassesSomeTicks}
 use Rattle.timer_wheels.specs.Tables.{radices}
 use Rattle.timer_wheels.specs.declared.buckets.Buckets.{Buckets}
 use Rattle.timer_wheels.specs.declared.smooth.turns.TheConstants.{MOST_WHEELS}
-use Rattle.timer_wheels.specs.declared.table.Table.{Table}
 use Rattle.timer_wheels.proofs.AllLemmas.{all-both, all-map}
 use Rattle.timer_wheels.proofs.PaceLemmas.{one_of_sum, few_wheels}
 use Rattle.timer_wheels.proofs.RevolutionLemmas.{passing_on}

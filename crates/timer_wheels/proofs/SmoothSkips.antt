@@ -2,17 +2,14 @@
 use Rattle.std.proofs.Common.{◌≡◌, ◌<◌, ◌≤◌, ◌+◌, ℕ, zero, suc, List, [], length, sym, ◌∙◌, ap, inl, inr, subst, arith}
 use Rattle.std.specs.List.{AllByRecursion}
 use Rattle.std.proofs.lemmas.Bool.{cases_lt}
-use Rattle.timer_base.specs.declared.timer.Timer.{Timer}
 use Rattle.timer_base.specs.WheelState.{IsPending, IsDue}
-use Rattle.timer_links.specs.Lists.{list_at, Row}
-use Rattle.timer_links.specs.declared.kept.Kept.{Ghosts}
+use Rattle.timer_wheels.specs.Types.{Timer, Ghosts, list_at, Row, Table}
 use Rattle.timer_wheels.specs.Bank.{IsBank}
 use Rattle.timer_wheels.specs.BucketLists.{row_timer, AreBuckets, EachRow}
 use Rattle.timer_wheels.specs.Digits.{IsTable, HasDigits}
 use Rattle.timer_wheels.specs.Smooth.{slot_in, smooth_list, moved_to, mark, IsByLaw, IsSmooth, Stands, IsAheadOf}
 use Rattle.timer_wheels.specs.Tables.{radices}
 use Rattle.timer_wheels.specs.declared.buckets.Buckets.{Buckets}
-use Rattle.timer_wheels.specs.declared.table.Table.{Table}
 use Rattle.timer_wheels.proofs.AllLemmas.{all-both}
 use Rattle.timer_wheels.proofs.RowLemmas.{all-rows_below, all-list_at}
 use Rattle.timer_wheels.proofs.SmoothSlots.{slot_low, slots_mono, slots_near}

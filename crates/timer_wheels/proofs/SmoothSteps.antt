@@ -3,10 +3,9 @@ use Rattle.std.proofs.Common.{◌≡◌, ◌≢◌, ◌<◌, ◌≤◌, ◌+◌,
 use Rattle.std.specs.List.{AllByRecursion}
 use Rattle.std.proofs.lemmas.Bool.{cases_eq, eqb-true}
 use Rattle.std.proofs.lemmas.Bool.Decides.{nat_tests}
-use Rattle.timer_base.specs.declared.limits.TheConstants.{LAST}
 use Rattle.timer_base.specs.Order.{AreRising}
 use Rattle.timer_base.specs.WheelState.{IsPending}
-use Rattle.timer_links.specs.Lists.{list_at, KeyedLists, Row, Rows}
+use Rattle.timer_wheels.specs.Types.{LAST, list_at, KeyedLists, Row, Rows}
 use Rattle.timer_wheels.specs.BucketLists.{row_timer, row_timers, AreBuckets, EachRow}
 use Rattle.timer_wheels.specs.Digits.{IsTable, radix}
 use Rattle.timer_wheels.specs.Occupied.{bit_of, filled}

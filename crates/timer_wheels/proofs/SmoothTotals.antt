@@ -2,10 +2,9 @@
 use Rattle.std.proofs.Common.{◌≡◌, ◌≢◌, ◌<◌, ◌≤◌, ◌+◌, ◌-◌, ◌*◌, ◌%◌, ℕ, zero, suc, List, [], ◌∷◌, length, refl, sym, ◌∙◌, ap, inl, inr, subst, arith}
 use Rattle.std.proofs.Math.Nat.{div-mul-le_self, mul-le-mul_left, mul-le-mul_right, mul-mod_left}
 use Rattle.std.proofs.lemmas.Bool.{cases_eq}
-use Rattle.timer_base.specs.declared.limits.TheConstants.{LAST}
 use Rattle.timer_base.specs.WheelState.{held_count}
-use Rattle.timer_links.specs.Lists.{list_at, row_count, KeyedLists, Rows}
-use Rattle.timer_links.specs.declared.kept.Kept.{Ghosts}
+use Rattle.timer_links.specs.Lists.{row_count}
+use Rattle.timer_wheels.specs.Types.{LAST, Ghosts, list_at, KeyedLists, Rows, Table}
 use Rattle.timer_wheels.specs.Bank.{next_len}
 use Rattle.timer_wheels.specs.BucketLists.{entry_of, rows_below}
 use Rattle.timer_wheels.specs.Buckets.{state_of}
@@ -15,7 +14,6 @@ use Rattle.timer_wheels.specs.Placement.{most_moves}
 use Rattle.timer_wheels.specs.Smooth.{slot_in, next_list, heights, height, ticks_to_half}
 use Rattle.timer_wheels.specs.Tables.{radices}
 use Rattle.timer_wheels.specs.declared.buckets.Buckets.{Buckets}
-use Rattle.timer_wheels.specs.declared.table.Table.{Table}
 use Rattle.timer_wheels.proofs.BucketLemmas.{row_count-parts, length-pending_in}
 use Rattle.timer_wheels.proofs.SmoothPace.{pace_tick, none_left}
 use Rattle.timer_wheels.proofs.SmoothSlots.{slots_step}

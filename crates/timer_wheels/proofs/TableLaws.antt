@@ -2,12 +2,11 @@
 use Rattle.std.proofs.Common.{◌≡◌, ◌<◌, ◌≤◌, ◌+◌, ◌-◌, ◌*◌, ◌/◌, ◌%◌, ◌&&◌, nat_lt, ℕ, zero, suc, Bool, true, List, [], ◌∷◌, length, refl, ap, inl, inr, arith}
 use Rattle.std.proofs.lemmas.Bool.{cases_lt, and_parts, ltb-true}
 use Rattle.std.proofs.Math.Nat.{mul-le-mul_left, mod-lt, div-lt_iff_lt-mul}
-use Rattle.timer_base.specs.declared.limits.TheConstants.{LAST}
+use Rattle.timer_wheels.specs.Types.{LAST, Table}
 use Rattle.timer_wheels.specs.Digits.{IsTable, HasDigits, radix, slots, span, last_of, lowest_radix}
 use Rattle.timer_wheels.specs.Paces.{pace_sum, FitPaces}
 use Rattle.timer_wheels.specs.Smooth.{smooth_list, smooth_slots, HasTurns}
 use Rattle.timer_wheels.specs.declared.smooth.turns.TheConstants.{MOST_LISTS}
-use Rattle.timer_wheels.specs.declared.table.Table.{Table}
 use Rattle.timer_wheels.specs.declared.table.TheConstants.{MOST_BUCKETS}
 use Rattle.timer_wheels.proofs.DigitLaws.{IsHierTable}
 -- made by tools/facts: imports of lemmas of tables

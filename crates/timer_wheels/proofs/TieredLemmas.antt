@@ -3,11 +3,10 @@ use Rattle.std.proofs.Common.{◌≡◌, ◌≢◌, ◌<◌, ◌≤◌, ℕ, Lis
 use Rattle.std.specs.List.{AllByRecursion}
 use Rattle.std.proofs.lemmas.Bool.{ne_eqb}
 use Rattle.timer_base.proofs.Basics.{some_same}
-use Rattle.timer_base.specs.Pending.{Entry, timers_of}
+use Rattle.timer_base.specs.Pending.{timers_of}
 use Rattle.timer_base.specs.WakeUps.{IsWakeUp, next_deadline}
-use Rattle.timer_base.specs.WheelState.{WheelState, IsPending, IsWellFormed}
-use Rattle.timer_base.specs.declared.limits.TheConstants.{LAST}
-use Rattle.timer_links.specs.declared.kept.Kept.{Ghosts}
+use Rattle.timer_base.specs.WheelState.{IsPending, IsWellFormed}
+use Rattle.timer_wheels.specs.Types.{LAST, Entry, WheelState, Ghosts}
 use Rattle.timer_wheels.specs.Buckets.{state_of, state_of-well_formed}
 use Rattle.timer_wheels.specs.declared.buckets.Buckets.{Buckets}
 use Rattle.timer_wheels.specs.TieredWheel.{option_of}

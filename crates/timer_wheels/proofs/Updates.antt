@@ -3,13 +3,12 @@ use Rattle.std.proofs.Common.{◌≡◌, ◌<◌, ◌≤◌, ◌+◌, ◌==◌, 
 use Rattle.std.specs.List.{AllByRecursion}
 use Rattle.std.proofs.lemmas.Bool.{cases_eq}
 use Rattle.std.proofs.lemmas.List.{length-map}
-use Rattle.timer_base.specs.declared.limits.TheConstants.{LAST}
 use Rattle.timer_base.proofs.HeldLaws.{start_when_later, start_when_now}
 use Rattle.timer_base.specs.Order.{AreBelow, AreRising}
 use Rattle.timer_base.proofs.OrderLaws.{All-filter, All-weaken, AreRising-weaken}
 use Rattle.timer_base.specs.WheelState.{IsPending, IsDue, after_start, after_due_start, after_held_start, after_expiry, after_clear}
-use Rattle.timer_links.specs.declared.kept.Node.{Node}
-use Rattle.timer_links.specs.Lists.{list_at, with_row, without_key, PopsFront, KeyedLists, Row, Rows}
+use Rattle.timer_links.specs.Lists.{with_row, without_key, PopsFront}
+use Rattle.timer_wheels.specs.Types.{LAST, Node, list_at, KeyedLists, Row, Rows}
 use Rattle.timer_wheels.specs.Buckets.{IsListOf}
 use Rattle.timer_wheels.specs.BucketLists.{row_timer, row_timers, rows_below, wheel_state, AreDue, AreBuckets}
 use Rattle.timer_wheels.proofs.AllLemmas.{all-map}

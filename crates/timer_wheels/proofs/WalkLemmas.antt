@@ -3,9 +3,8 @@ use Rattle.std.proofs.Common.{◌≡◌, ◌<◌, ◌≤◌, ◌+◌, ℕ, List,
 use Rattle.std.proofs.lemmas.List.{set-get_or, length-map}
 use Rattle.timer_links.proofs.Rows.{length_list_at}
 use Rattle.timer_base.proofs.Basics.{some_same, some_none, none_some, empty_when}
-use Rattle.timer_base.specs.declared.timer.Timer.{Timer}
-use Rattle.timer_links.specs.declared.kept.Node.{Node}
-use Rattle.timer_links.specs.Lists.{node_at, first_key, list_at, row_count, AreApart, IsNext, PopsFront, KeyedLists, Row, Rows}
+use Rattle.timer_links.specs.Lists.{node_at, first_key, row_count, AreApart, IsNext, PopsFront}
+use Rattle.timer_wheels.specs.Types.{Timer, Node, list_at, KeyedLists, Row, Rows}
 use Rattle.timer_wheels.specs.BucketLists.{row_timers, row_timer}
 use Rattle.timer_wheels.proofs.RowLemmas.{append-nil, timers-append, set_twice}
 

@@ -4,14 +4,10 @@ use Rattle.std.proofs.Common.{◌≡◌, ◌≢◌, ◌<◌, ◌≤◌, ◌+◌,
 use Rattle.std.specs.List.{AllByRecursion}
 use Rattle.std.proofs.lemmas.Bool.{cases_lt}
 use Rattle.timer_links.proofs.Rows.{StandsIn, stands_in}
-use Rattle.timer_base.specs.declared.timer.Timer.{Timer}
-use Rattle.timer_base.specs.declared.timer.Handle.{Handle}
 use Rattle.timer_base.specs.WheelState.{IsPending, IsDue, held_at}
-use Rattle.timer_links.specs.declared.kept.Node.{Node}
-use Rattle.timer_links.specs.Lists.{list_at, with_row, without_key, list_if_alone, AreApart, IsAloneIn, KeyedLists, Row, Rows}
-use Rattle.timer_links.specs.declared.kept.Kept.{Ghosts}
+use Rattle.timer_links.specs.Lists.{with_row, without_key, list_if_alone, AreApart, IsAloneIn}
+use Rattle.timer_wheels.specs.Types.{Handle, Timer, Ghosts, Node, list_at, KeyedLists, Row, Rows, Table}
 use Rattle.timer_wheels.specs.declared.table.TheConstants.{MOST_BUCKETS}
-use Rattle.timer_wheels.specs.declared.table.Table.{Table}
 use Rattle.timer_wheels.specs.Buckets.{IsSameFrame, IsListOf}
 use Rattle.timer_wheels.specs.declared.buckets.Buckets.{Buckets}
 use Rattle.timer_wheels.specs.BucketLists.{row_timer, wheel_state, AreDue, AreBuckets, EachRow}

@@ -2,10 +2,7 @@
 use Rattle.std.specs.Prelude.{◌≡◌, ◌≢◌, ◌<◌, ◌≤◌, ◌+◌, ◌-◌, ℕ, List, Option, Some, None, length, nat_lt, if◌then◌else◌}
 use Rattle.std.specs.Coded.{×_prop}
 use Rattle.std.proofs.Props.{props}
-use Rattle.timer_base.specs.declared.timer.Handle.{Handle}
-use Rattle.timer_base.specs.declared.timer.Timer.{Timer}
-use Rattle.timer_links.specs.Lists.{Row}
-use Rattle.timer_links.specs.declared.kept.Kept.{Ghosts}
+use Rattle.timer_wheels.specs.Types.{Handle, Timer, Ghosts, Row, Table}
 use Rattle.timer_wheels.specs.BucketLaws.{EachRow-prop}
 use Rattle.timer_wheels.specs.BucketLists.{EachRow}
 use Rattle.timer_wheels.specs.Digits.{last_of}
@@ -13,7 +10,6 @@ use Rattle.timer_wheels.specs.Occupied.{bit_of, AreMarked, AreMarked-prop}
 use Rattle.timer_wheels.specs.Smooth.{smooth_slots, smooth_level, mark, next_list, next_length, next_lengths, heights, ticks_to_half, IsByLaw}
 use Rattle.timer_wheels.specs.Tables.{radices}
 use Rattle.timer_wheels.specs.declared.buckets.Buckets.{Buckets}
-use Rattle.timer_wheels.specs.declared.table.Table.{Table}
 
 -- each row is where the law says
 abbrev pub AreByLaw : {N : Type 0} {kept : Ghosts N} → Table → Buckets N kept → Type 0

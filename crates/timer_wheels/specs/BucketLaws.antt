@@ -5,11 +5,10 @@ use Rattle.std.proofs.Props.{props}
 use Rattle.std.specs.Coded.{Π_prop}
 use Rattle.std.specs.List.{AllByRecursion, AllByRecursion-prop}
 use Rattle.timer_base.proofs.OrderLaws.{map-in_order, All-in_order, IsOrdered-in_order, AreDistinct-in_order, AreRising-prop}
-use Rattle.timer_base.specs.declared.timer.Timer.{Timer}
 use Rattle.timer_base.specs.Order.{in_order, itself, AreDistinct, IsNotAmong}
 use Rattle.timer_base.specs.Pending.{timer_of, timers_of}
 use Rattle.timer_base.specs.WheelState.{IsPending, IsDue, IsWellFormed}
-use Rattle.timer_links.specs.Lists.{list_at, KeyedLists, Row, Rows}
+use Rattle.timer_wheels.specs.Types.{Timer, list_at, KeyedLists, Row, Rows}
 use Rattle.timer_wheels.specs.BucketLists.{row_timer, row_timers, entries_of, rows_below, pending_in, wheel_state, ArePendingBelow, AreInOrder, AreDue, AreBuckets, EachRow}
 
 pub timers_of-entries : (rows : Rows) → map timer_of (entries_of rows) ≡ row_timers rows

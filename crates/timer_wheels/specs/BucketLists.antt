@@ -2,13 +2,11 @@
 -- due.
 use Rattle.std.specs.Prelude.{◌≡◌, ℕ, ◌+◌, ◌<◌, ◌≤◌, zero, suc, List, [], ◌∷◌, ◌++◌, length, map}
 use Rattle.std.specs.List.{AllByRecursion}
-use Rattle.timer_base.specs.declared.limits.TheConstants.{LAST}
-use Rattle.timer_base.specs.declared.timer.Timer.{Timer}
 use Rattle.timer_base.specs.Layout.{Layout, OneWheel}
 use Rattle.timer_base.specs.Order.{in_order, AreDistinct, AreRising}
-use Rattle.timer_base.specs.Pending.{Entry, timer_of}
-use Rattle.timer_base.specs.WheelState.{WheelState, IsPending, IsDue}
-use Rattle.timer_links.specs.Lists.{list_at, KeyedLists, Row, Rows}
+use Rattle.timer_base.specs.Pending.{timer_of}
+use Rattle.timer_base.specs.WheelState.{IsPending, IsDue}
+use Rattle.timer_wheels.specs.Types.{LAST, Timer, Entry, WheelState, list_at, KeyedLists, Row, Rows}
 
 -- the timer of a row
 abbrev pub row_timer : Row → Timer

@@ -1,11 +1,9 @@
 -- The state that `Buckets` represents, and how its calls change the lists.
 use Rattle.std.specs.Prelude.{◌≡◌, ◌<◌, ◌⊎◌, ℕ, map, Option, Some, None, MatchOption}
-use Rattle.timer_base.specs.declared.timer.Handle.{Handle}
-use Rattle.timer_base.specs.declared.timer.Timer.{Timer}
 use Rattle.timer_base.specs.WellFormed.{with_room-well_formed}
-use Rattle.timer_base.specs.WheelState.{WheelState, IsWellFormed, with_room}
-use Rattle.timer_links.specs.declared.kept.Kept.{Ghosts}
-use Rattle.timer_links.specs.Lists.{with_row, without_key, KeyedLists, Row}
+use Rattle.timer_base.specs.WheelState.{IsWellFormed, with_room}
+use Rattle.timer_links.specs.Lists.{with_row, without_key}
+use Rattle.timer_wheels.specs.Types.{Handle, Timer, WheelState, Ghosts, KeyedLists, Row}
 use Rattle.timer_wheels.specs.declared.buckets.Buckets.{Buckets}
 use Rattle.timer_wheels.specs.BucketLists.{wheel_state}
 use Rattle.timer_wheels.specs.BucketLaws.{wheel_state-well_formed}

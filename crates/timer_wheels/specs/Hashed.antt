@@ -3,9 +3,7 @@
 use Rattle.std.specs.Prelude.{◌≡◌, ℕ, ◌+◌, ◌-◌, ◌/◌, ◌%◌, ◌<◌, ◌≤◌, [], length}
 use Rattle.std.specs.Coded.{×_prop}
 use Rattle.std.proofs.Props.{props}
-use Rattle.timer_base.specs.declared.timer.Timer.{Timer}
-use Rattle.timer_base.specs.WheelState.{WheelState}
-use Rattle.timer_links.specs.Lists.{KeyedLists, Row}
+use Rattle.timer_wheels.specs.Types.{Timer, WheelState, KeyedLists, Row}
 use Rattle.timer_wheels.specs.BucketLaws.{EachRow-prop}
 use Rattle.timer_wheels.specs.BucketLists.{row_timer, EachRow}
 use Rattle.timer_wheels.specs.Shown.{entries_at, ShowsBuckets}

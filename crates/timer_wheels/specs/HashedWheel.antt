@@ -1,9 +1,8 @@
 -- The names in the public clauses of `HashedWheel`.
 use Rattle.std.specs.Prelude.{◌≡◌, ◌⊎◌, ℕ, ◌||◌, ◌==◌, nat_lt, if◌then◌else◌, Option, Some, None}
-use Rattle.timer_base.specs.declared.limits.TheConstants.{LAST}
 use Rattle.timer_base.specs.declared.fault.MakeFault.{MakeFault}
 use Rattle.timer_base.specs.declared.fault.MakeFault.TheVariants.{Slots, FirstTick, OutOfMemory}
-use Rattle.timer_base.specs.WheelState.{WheelState}
+use Rattle.timer_wheels.specs.Types.{LAST, WheelState}
 use Rattle.timer_wheels.specs.Buckets.{state_of}
 use Rattle.timer_wheels.specs.declared.hashed.HashedWheel.{HashedWheel}
 

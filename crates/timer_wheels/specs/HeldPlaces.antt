@@ -1,10 +1,8 @@
 -- The places at which timers are held, in the order of their numbers.
 use Rattle.std.specs.Prelude.{◌≡◌, ◌<◌, ◌≤◌, ◌⊎◌, ℕ, List, Option, Some, None, IsSome}
 use Rattle.std.specs.List.{AllByRecursion}
-use Rattle.timer_base.specs.declared.timer.Handle.{Handle}
-use Rattle.timer_base.specs.declared.timer.Timer.{Timer}
-use Rattle.timer_base.specs.Pending.{Entry}
-use Rattle.timer_base.specs.WheelState.{WheelState, held_at}
+use Rattle.timer_wheels.specs.Types.{Handle, Timer, Entry, WheelState}
+use Rattle.timer_base.specs.WheelState.{held_at}
 
 -- none of the timers has a place from the first one up to the second
 abbrev pub AreElsewhere : ℕ → ℕ → List Entry → Type 0

@@ -1,10 +1,9 @@
 -- The invariant of the buckets of a hierarchy of wheels and of their bits.
 use Rattle.std.specs.Prelude.{◌≡◌, ◌≢◌, ℕ, List, Option, MatchOption}
 use Rattle.std.proofs.Props.{props}
-use Rattle.timer_links.specs.declared.kept.Kept.{Ghosts}
+use Rattle.timer_wheels.specs.Types.{Ghosts, Table}
 use Rattle.timer_wheels.specs.Buckets.{state_of}
 use Rattle.timer_wheels.specs.declared.buckets.Buckets.{Buckets}
-use Rattle.timer_wheels.specs.declared.table.Table.{Table}
 use Rattle.timer_wheels.specs.Digits.{slots, last_of, lowest_radix}
 use Rattle.timer_wheels.specs.Firsts.{FirstsState, Enters, Leaves, Empties, AreFirsts, AreFirsts-prop}
 use Rattle.timer_wheels.specs.Occupied.{bit_of, Clears, AreMarked, AreMarked-prop}

@@ -4,11 +4,10 @@ use Rattle.timer_base.specs.declared.fault.MakeFault.{MakeFault}
 use Rattle.timer_base.specs.declared.fault.MakeFault.TheVariants.{FirstTick, OutOfMemory}
 use Rattle.timer_base.specs.Counts.{WheelCounts}
 use Rattle.timer_base.specs.WellFormed.{with_layout-well_formed}
-use Rattle.timer_base.specs.WheelState.{WheelState, IsWellFormed, with_layout}
-use Rattle.timer_links.specs.declared.kept.Kept.{Ghosts}
+use Rattle.timer_base.specs.WheelState.{IsWellFormed, with_layout}
+use Rattle.timer_wheels.specs.Types.{WheelState, Ghosts, Table}
 use Rattle.timer_wheels.specs.Buckets.{state_of, state_of-well_formed}
 use Rattle.timer_wheels.specs.declared.hier.HierWheel.{HierWheel}
-use Rattle.timer_wheels.specs.declared.table.Table.{Table}
 use Rattle.timer_wheels.specs.Digits.{lowest_radix}
 use Rattle.timer_wheels.specs.Placement.{hops_of, visited_between, has_any}
 use Rattle.timer_wheels.specs.Tables.{layout_of_table, radices_of}

@@ -1,4 +1,5 @@
 -- The definitions of this crate, and the lemmas that clauses or crates above cite.
+pub mod Types
 pub mod BucketLists
 pub mod BucketLaws
 pub mod Buckets

@@ -1,7 +1,7 @@
 -- The paces of a smooth wheel: how many timers of each wheel's next bucket move at a tick.
 use Rattle.std.specs.Coded.{Π_prop, le_prop}
 use Rattle.std.specs.Prelude.{◌≡◌, ◌≤◌, ◌⊎◌, ◌+◌, ◌-◌, ◌*◌, ◌/◌, ◌&&◌, nat_lt, if◌then◌else◌, zero, suc, ℕ, List, length, slice_index_or}
-use Rattle.timer_links.specs.declared.kept.Kept.{Ghosts}
+use Rattle.timer_wheels.specs.Types.{Ghosts, Table}
 use Rattle.timer_wheels.specs.Bank.{next_len}
 use Rattle.timer_wheels.specs.Digits.{weight}
 use Rattle.timer_wheels.specs.Smooth.{IsInTime}
@@ -10,7 +10,6 @@ pub use Rattle.timer_wheels.specs.Tables.{tick_bound}
 use Rattle.timer_wheels.specs.declared.buckets.Buckets.{Buckets}
 use Rattle.timer_wheels.specs.declared.smooth.paces.TheConstants.{MOST_PACE}
 use Rattle.timer_wheels.specs.declared.smooth.turns.TheConstants.{MOST_WHEELS}
-use Rattle.timer_wheels.specs.declared.table.Table.{Table}
 
 -- the pace of wheel k
 abbrev pub pace_at : List ℕ → ℕ → ℕ

@@ -3,10 +3,7 @@
 use Rattle.std.specs.Prelude.{◌≡◌, ℕ, ◌+◌, ◌-◌, ◌*◌, ◌/◌, ◌%◌, ◌≤◌, ◌==◌, ◌&&◌, not, Bool, true, false, if◌then◌else◌, length, List, [], ◌∷◌}
 use Rattle.std.specs.Coded.{×_prop}
 use Rattle.std.proofs.Props.{props}
-use Rattle.timer_base.specs.declared.timer.Timer.{Timer}
-use Rattle.timer_base.specs.Pending.{Entry}
-use Rattle.timer_base.specs.WheelState.{WheelState}
-use Rattle.timer_links.specs.Lists.{KeyedLists, Row}
+use Rattle.timer_wheels.specs.Types.{Timer, Entry, WheelState, KeyedLists, Row}
 use Rattle.timer_wheels.specs.Digits.{level, bucket, slots, hops}
 use Rattle.timer_wheels.specs.Shown.{ShowsBuckets}
 use Rattle.timer_wheels.specs.BucketLists.{row_timer}

@@ -1,10 +1,7 @@
 -- What `links` shows of either wheel: the pending timers, each in its bucket.
 use Rattle.std.specs.Prelude.{◌≡◌, ◌==◌, ℕ, ◌+◌, ◌<◌, List, length, map, filter}
-use Rattle.timer_base.specs.declared.timer.Timer.{Timer}
 use Rattle.timer_base.specs.Order.{in_order}
-use Rattle.timer_base.specs.Pending.{Entry}
-use Rattle.timer_base.specs.WheelState.{WheelState}
-use Rattle.timer_links.specs.Lists.{list_at, KeyedLists, Row}
+use Rattle.timer_wheels.specs.Types.{Timer, Entry, WheelState, list_at, KeyedLists, Row}
 use Rattle.timer_wheels.specs.BucketLists.{entries_of}
 
 -- the timer, were its deadline 0

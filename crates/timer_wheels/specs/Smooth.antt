@@ -1,10 +1,9 @@
 -- The smooth wheel: a hierarchy whose next buckets move to lower wheels early, a few timers at a time.
 use Rattle.std.specs.Prelude.{◌≡◌, ◌≢◌, Bool, ℕ, ◌+◌, ◌-◌, ◌*◌, ◌/◌, ◌%◌, ◌<◌, ◌≤◌, zero, suc, ◌==◌, ◌&&◌, nat_lt, not, if◌then◌else◌, List, [], ◌∷◌, length, slice_set}
-use Rattle.timer_base.specs.declared.limits.TheConstants.{LAST}
-use Rattle.timer_base.specs.declared.timer.Timer.{Timer}
 use Rattle.timer_base.specs.WheelState.{after_tick}
-use Rattle.timer_links.specs.Lists.{list_at, with_row, KeyedLists, Row, Rows}
+use Rattle.timer_links.specs.Lists.{with_row}
 use Rattle.timer_base.specs.Order.{AreBelow}
+use Rattle.timer_wheels.specs.Types.{LAST, Timer, list_at, KeyedLists, Row, Rows}
 use Rattle.timer_wheels.specs.BucketLists.{row_timer, row_timers, AreBuckets, EachRow, wheel_state}
 use Rattle.timer_wheels.specs.Digits.{weight, radix, level}
 use Rattle.timer_wheels.specs.Occupied.{bit_of, filled}

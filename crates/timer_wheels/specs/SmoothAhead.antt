@@ -1,14 +1,12 @@
 -- What is ahead of a smooth wheel: the first slot with timers of each wheel, and the ticks at which slots matter.
 use Rattle.std.specs.Prelude.{◌≡◌, ◌<◌, ◌≤◌, ◌+◌, ◌-◌, ◌*◌, zero, suc, ℕ, List, [], length, Option, Some, None, IfSome}
-use Rattle.timer_links.specs.Lists.{list_at, KeyedLists, Row}
-use Rattle.timer_links.specs.declared.kept.Kept.{Ghosts}
+use Rattle.timer_wheels.specs.Types.{Ghosts, list_at, KeyedLists, Row, Table}
 use Rattle.timer_wheels.specs.BucketLists.{row_timer, row_timers, rows_below, EachRow}
 use Rattle.timer_wheels.specs.FirstDeadline.{HasDeadline}
 use Rattle.timer_wheels.specs.Digits.{weight, radix}
 use Rattle.timer_wheels.specs.Leap.{timer_visit}
 use Rattle.timer_wheels.specs.Tables.{radices}
 use Rattle.timer_wheels.specs.declared.buckets.Buckets.{Buckets}
-use Rattle.timer_wheels.specs.declared.table.Table.{Table}
 use Rattle.timer_wheels.specs.Smooth.{slot_in, smooth_list}
 
 -- slot i of wheel k is the first one after the present one that has timers

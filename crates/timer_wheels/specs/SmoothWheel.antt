@@ -1,11 +1,9 @@
 -- The names in the public clauses of `SmoothWheel`.
 use Rattle.std.specs.Prelude.{◌≡◌, ◌<◌, ◌-◌, ℕ, []}
-use Rattle.timer_base.specs.declared.timer.Timer.{Timer}
 use Rattle.timer_base.specs.WellFormed.{with_layout-well_formed}
-use Rattle.timer_base.specs.WheelState.{WheelState, IsWellFormed, with_layout, after_ticks}
-use Rattle.timer_links.specs.Lists.{KeyedLists}
+use Rattle.timer_base.specs.WheelState.{IsWellFormed, with_layout, after_ticks}
 use Rattle.timer_links.specs.contracts.kept.TimerKept.TheImpl.{ghosts}
-use Rattle.timer_links.specs.declared.kept.Kept.{Ghosts}
+use Rattle.timer_wheels.specs.Types.{Timer, WheelState, Ghosts, KeyedLists, Table}
 use Rattle.timer_wheels.specs.Bank.{movable, potential_of, wheel_of}
 use Rattle.timer_wheels.specs.Buckets.{state_of, state_of-well_formed}
 use Rattle.timer_wheels.specs.Paces.{pace_sum, FitPaces}
@@ -14,7 +12,6 @@ use Rattle.timer_wheels.specs.Shown.{ShowsBuckets}
 use Rattle.timer_wheels.specs.Smooth.{smooth_slots, smooth_bucket, mark}
 use Rattle.timer_wheels.specs.Tables.{radices, smooth_layout}
 use Rattle.timer_wheels.specs.declared.smooth.SmoothWheel.{SmoothWheel}
-use Rattle.timer_wheels.specs.declared.table.Table.{Table}
 
 -- the smooth wheel that keeps all of a timer
 abbrev pub TimerSmoothWheel : Type 0

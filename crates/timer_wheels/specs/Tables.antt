@@ -1,9 +1,8 @@
 -- The tables that a hierarchy of wheels may have: a row of each definition for each of them.
 use Rattle.std.specs.Prelude.{ℕ, ◌+◌, ◌*◌, ◌/◌, Bool, true, false, List, [], ◌∷◌}
 use Rattle.timer_base.specs.Layout.{Layout, NoSlots, OneWheel, OneRevolution, TwoRevolutions}
-use Rattle.timer_base.specs.declared.limits.TheConstants.{LAST}
+use Rattle.timer_wheels.specs.Types.{LAST, Table}
 use Rattle.timer_wheels.specs.declared.table.TheConstants.{LAST_OF_CLOCK, LAST_OF_SMALL}
-use Rattle.timer_wheels.specs.declared.table.Table.{Table}
 use Rattle.timer_wheels.specs.declared.table.Table.TheVariants.{Wide, Clock, Small}
 use Rattle.timer_wheels.specs.Digits.{slots}
 

@@ -1,7 +1,6 @@
 use Rattle.std.proofs.Common.{◌≡◌, ◌≤◌, ◌+◌, ◌-◌, ℕ, List, sym, subst, arith}
 use Rattle.timer_base.proofs.OrderLaws.{All-weaken}
-use Rattle.timer_links.specs.Lists.{list_at, KeyedLists}
-use Rattle.timer_wheels.specs.declared.table.Table.{Table}
+use Rattle.timer_wheels.specs.Types.{list_at, KeyedLists, Table}
 use Rattle.timer_wheels.specs.BucketLists.{row_timer}
 use Rattle.timer_wheels.specs.Buckets.{state_of}
 use Rattle.timer_wheels.specs.Leap.{list_visit, timer_visit, AreNotVisitedBefore, Leaps}

@@ -1,9 +1,8 @@
 use Rattle.std.proofs.Common.{◌≡◌, ◌≤◌, ◌+◌, ℕ, List, length, sym, ◌∙◌, ap, arith}
 use Rattle.std.proofs.lemmas.List.{length-map}
-use Rattle.timer_base.specs.declared.timer.Timer.{Timer}
 use Rattle.timer_base.specs.Order.{in_order, itself}
 use Rattle.timer_base.specs.Pending.{timers_of}
-use Rattle.timer_links.specs.Lists.{KeyedLists}
+use Rattle.timer_wheels.specs.Types.{Timer, KeyedLists}
 use Rattle.timer_wheels.specs.BucketLists.{rows_below, row_timer, row_timers, pending_in}
 use Rattle.timer_wheels.proofs.BucketLemmas.{length-pending_in}
 use Rattle.timer_wheels.proofs.RowLemmas.{timers_below-more, length-rows_below-next}

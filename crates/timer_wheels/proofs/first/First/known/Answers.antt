@@ -1,7 +1,6 @@
 use Rattle.std.proofs.Common.{◌≡◌, ◌∙◌, List, subst, sym, ap, eqb, Some}
 use Rattle.std.specs.Option.{option_eq}
-use Rattle.timer_base.specs.declared.timer.Timer.{Timer}
-use Rattle.timer_links.specs.Lists.{list_at}
+use Rattle.timer_wheels.specs.Types.{Timer, list_at}
 use Rattle.timer_wheels.specs.BucketLists.{row_timers}
 use Rattle.timer_wheels.specs.declared.first.First.{First}
 use Rattle.timer_wheels.specs.FirstDeadline.{IsFirstOf}

@@ -1,8 +1,7 @@
 use Rattle.std.proofs.Common.{◌≡◌, ◌<◌, ◌+◌, ◌∙◌, ℕ, length, sym, map, Option, Some, None}
 use Rattle.std.proofs.lemmas.List.{length-map}
-use Rattle.timer_base.specs.declared.timer.Timer.{Timer}
-use Rattle.timer_base.specs.declared.timer.Handle.{Handle}
-use Rattle.timer_links.specs.Lists.{without_key, KeyedLists}
+use Rattle.timer_links.specs.Lists.{without_key}
+use Rattle.timer_wheels.specs.Types.{Handle, Timer, KeyedLists}
 use Rattle.timer_wheels.specs.Buckets.{IsListOf, ReplacesRow, row_at}
 use Rattle.timer_wheels.specs.Hashed.{AreInBuckets, IsInBucket, slot_of, rounds_of}
 use Rattle.timer_wheels.proofs.BucketLemmas.{each_come, each-without_key}

@@ -1,8 +1,7 @@
 use Rattle.std.proofs.Common.{◌≡◌, ◌<◌, ◌+◌, ℕ, length, sym, Result, Ok, Err, IfOk, OnErr}
-use Rattle.timer_base.specs.declared.timer.Timer.{Timer}
-use Rattle.timer_base.specs.declared.timer.Handle.{Handle}
 use Rattle.timer_base.specs.declared.fault.OutOfMemory.{OutOfMemory}
-use Rattle.timer_links.specs.Lists.{with_row, KeyedLists}
+use Rattle.timer_links.specs.Lists.{with_row}
+use Rattle.timer_wheels.specs.Types.{Handle, Timer, KeyedLists}
 use Rattle.timer_wheels.specs.Buckets.{IsListOf, row_at}
 use Rattle.timer_wheels.specs.Hashed.{AreInBuckets, IsInBucket, slot_of, rounds_of}
 use Rattle.timer_wheels.proofs.BucketLemmas.{each_come}

@@ -1,9 +1,8 @@
 use Rattle.std.proofs.Common.{◌-◌, ◌∙◌, ap, arith}
 use Rattle.timer_base.proofs.TickLaws.{after_ticks-last, not_due}
-use Rattle.timer_base.specs.WheelState.{WheelState}
+use Rattle.timer_wheels.specs.Types.{WheelState, Table}
 use Rattle.timer_wheels.specs.Paces.{tick_bound}
 use Rattle.timer_wheels.specs.SmoothWheel.{smooth_state, smooth_table, moves_of}
-use Rattle.timer_wheels.specs.declared.table.Table.{Table}
 use Rattle.timer_wheels.proofs.SmoothLeaps.{passing_pass, advance_stops, moves_more}
 use Rattle.timer_wheels.proofs.smooth.SmoothWheelWheel.advance.Goals as goal
 

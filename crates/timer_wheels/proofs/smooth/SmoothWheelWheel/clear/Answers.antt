@@ -1,7 +1,6 @@
 use Rattle.std.proofs.Common.{◌≡◌, ◌<◌, ◌+◌, ℕ, length, ap, arith}
-use Rattle.timer_base.specs.WheelState.{WheelState}
+use Rattle.timer_wheels.specs.Types.{WheelState, list_at, Rows}
 use Rattle.timer_wheels.specs.BucketLists.{slots_in}
-use Rattle.timer_links.specs.Lists.{list_at, Rows}
 use Rattle.timer_wheels.specs.Smooth.{slot_in, smooth_list}
 use Rattle.timer_wheels.specs.Tables.{radices}
 use Rattle.timer_wheels.proofs.BankLemmas.{lists_in_range}

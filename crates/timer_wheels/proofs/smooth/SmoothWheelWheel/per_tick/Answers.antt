@@ -1,6 +1,5 @@
 use Rattle.std.proofs.Common.{◌≡◌, ◌<◌, ◌≤◌, ◌+◌, ◌*◌, ◌∙◌, ap, arith, rules}
-use Rattle.timer_base.specs.declared.limits.TheConstants.{LAST}
-use Rattle.timer_base.specs.WheelState.{WheelState}
+use Rattle.timer_wheels.specs.Types.{LAST, WheelState}
 use Rattle.timer_wheels.specs.Bank.{potential_of}
 use Rattle.timer_wheels.specs.Tables.{radices}
 use Rattle.timer_wheels.proofs.SmoothTotals.{ticks_empty, in_time_ticked, held_rows, paid_most, fit_lower}

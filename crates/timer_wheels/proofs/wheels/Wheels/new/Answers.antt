@@ -1,6 +1,5 @@
 use Rattle.std.proofs.Common.{◌+◌, ◌<◌, ℕ, sym, ap, ◌∙◌}
-use Rattle.timer_base.specs.WheelState.{WheelState}
-use Rattle.timer_links.specs.Lists.{list_at}
+use Rattle.timer_wheels.specs.Types.{WheelState, list_at}
 use Rattle.timer_wheels.specs.Tables.{radices}
 use Rattle.timer_wheels.specs.Digits.{lowest_radix}
 use Rattle.timer_wheels.proofs.FirstsLemmas.{no_firsts}

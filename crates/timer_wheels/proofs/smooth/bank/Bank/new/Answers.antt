@@ -1,7 +1,6 @@
 use Rattle.std.proofs.Common.{◌+◌, ◌<◌, ℕ, ap, ◌∙◌}
-use Rattle.timer_base.specs.WheelState.{WheelState}
 use Rattle.timer_links.proofs.NewLinks.{no_rows_at}
-use Rattle.timer_links.specs.Lists.{list_at}
+use Rattle.timer_wheels.specs.Types.{WheelState, list_at}
 use Rattle.timer_wheels.specs.Smooth.{mark, IsByLaw}
 use Rattle.timer_wheels.specs.Tables.{radices}
 use Rattle.timer_wheels.proofs.BucketLemmas.{each-none}
