@@ -5,20 +5,23 @@ ghost use Rattle.timer_commands.specs.Options.{scheme_last, config_of, over_hier
 use thiserror::Error;
 use timer_base::LAST;
 use timer_facility::{Checked, Config, ConfigFault};
+// made by tools/facts: imports of last ticks
 use timer_wheels::{LAST_OF_CLOCK, MAX_SLOTS};
 
 /// How timers are kept. A script gives the same text with each scheme if no tick or deadline is past the last one.
 #[derive(Clone, Copy, Debug, PartialEq, Eq)]
 pub enum Scheme {
-    /// One list; a tick goes through all of it.
+    // made by tools/facts: variants of schemes
+    /// One list of timers; a tick goes through all of it.
     Plain,
-    /// Buckets in a ring, one for each remainder of the deadline.
+    /// A ring of buckets: a timer is in bucket (deadline modulo SLOTS).
     Hashed,
-    /// Ten wheels of 64 slots, one for each digit of the deadline.
+    /// Ten wheels of 64 slots: a timer moves down as its deadline comes near.
     Hier,
-    /// Wheels of 60 seconds, 60 minutes, 24 hours and 100 days.
+    /// The same with wheels of 60 seconds, 60 minutes, 24 hours and 100 days; its last tick is 8639999, that of the
+    /// others is 1152921504606846975.
     Clock,
-    /// The wheels of `Hier`, whose timers move to lower wheels early, and a few at each tick.
+    /// The wheels of `hier`; timers move down early, and a few at each tick.
     Smooth,
 }
 
@@ -60,6 +63,7 @@ impl Scheme {
         ensures { result ≡ scheme_last self.now }
     {
         match self {
+            // made by tools/facts: last ticks of schemes
             Scheme::Plain | Scheme::Hashed | Scheme::Hier | Scheme::Smooth => LAST,
             Scheme::Clock => LAST_OF_CLOCK,
         }

@@ -265,6 +265,7 @@ fn a_fault_behind_the_last_byte_is_never_met(rt: HostRuntime) {
 }
 
 static SCHEMES: [Scheme; 5] = [
+    // made by tools/facts: all schemes
     Scheme::Plain,
     Scheme::Hashed,
     Scheme::Hier,

@@ -135,10 +135,9 @@ A bucket is shown as
   hier    wheel 1 slot 2: 1 3
   clock   minute 15: 1                 or second, hour, day
   smooth  wheel 0 slot 72: 1 3         slots 0 to 127, of two revolutions
-With `--counts` the last three show after the tick what they counted, `smooth` no visits:
+With `--counts` hierarchies show after the tick what they counted, `smooth` no visits:
   starts 1 moves 1 visits 3            starts and restarts, moves, visits of buckets
-With `--moves` the schemes `hier` and `clock` show each move while ticks pass, between what
-expires before and after:
+With `--moves` each move is shown while ticks pass, between what expires before and after:
   moved at 128 from wheel 1 slot 2 to wheel 0 slot 2: 1
 Less is shown, never fewer answers, with
   --client 1                           only timers of client 1
