@@ -1,10 +1,23 @@
 -- Text that grows by indented lines.
-use Rattle.std.proofs.Common.{◌≡◌, ℕ, true, List, [], ◌∷◌, ◌++◌, decimal, codes, refl, sym, ap, subst, ◌∙◌, append_assoc, append-nil, Result, OnOk}
+use Rattle.std.proofs.Common.{◌≡◌, ◌≢◌, ℕ, true, not, cond, eq-eqb, List, [], ◌∷◌, ◌++◌, decimal, codes, refl, sym, ap, subst, ◌∙◌, append_assoc, append-nil, Result, OnOk}
+use Rattle.std.specs.List.{concat}
 use Rattle.std.proofs.lemmas.Result.{on_ok_weaker}
 use Rattle.timer_script.proofs.FeedLemmas.{no_feed-append, is_bare, no_feed_if_bare, decimal_bare}
+use Rattle.timer_script.specs.Script.{HasNoFeed}
 use Rattle.timer_script.specs.Decorator.{HasGrown}
-use Rattle.timer_commands.specs.Indented.{clock_line, HasGrownByPicture, HasGrownByIndented, HasGrownByBare, HasGrownByEnd}
-use Rattle.timer_commands.specs.IndentedLaws.{adds_nothing, adds_join, adds_line}
+use Rattle.timer_commands.specs.Indented.{AddsMarked, clock_line, HasGrownByPicture, HasGrownByIndented, HasGrownByBare, HasGrownByEnd}
+use Rattle.timer_commands.specs.IndentedLaws.{adds_nothing, adds_join}
+
+-- a line that begins with the mark is added
+pub adds_line : (mark : ℕ) (front : List ℕ) → mark ≢ 10 → HasNoFeed front → AddsMarked mark [] (mark ∷ front ++ 10 ∷ [])
+adds_line mark front other free =
+    let line : List ℕ = mark ∷ front ++ 10 ∷ [] in
+    record {
+      lines = line ∷ [];
+      each = (record { front = mark ∷ front; is = refl; no_feed = (other, free) }, tt);
+      text_is = sym (append-nil line);
+      answer_is = ap (λ t. concat (cond (not t) (line ∷ []) [])) (sym (eq-eqb mark mark refl));
+    }
 
 -- nothing was added
 pub grown_none : (text : List ℕ) → HasGrownByIndented text text

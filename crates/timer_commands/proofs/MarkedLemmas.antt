@@ -4,12 +4,14 @@ use Rattle.timer_script.specs.Types.{Event, Out, FacilityState}
 use Rattle.timer_script.specs.Text.{lines_of}
 use Rattle.timer_script.specs.Service.{last_line}
 use Rattle.timer_script.specs.Decorator.{Decoration, AreDecorated}
+use Rattle.timer_script.proofs.TextLemmas.{end_line_is}
 use Rattle.timer_script.proofs.FeedLemmas.{no_feed-append, no_feed_if_bare, decimal_bare}
 use Rattle.timer_commands.specs.declared.shows.Shows.{Shows}
 use Rattle.timer_commands.specs.Shows.{is_covered}
 use Rattle.timer_commands.specs.Indented.{AddsMarked, IsPictureIf, AddsPictures}
-use Rattle.timer_commands.specs.IndentedLaws.{IsUnused, adds_nothing, adds_join, adds_line, adds_outs, adds_end}
+use Rattle.timer_commands.specs.IndentedLaws.{IsUnused, adds_nothing, adds_join, adds_line_of, adds_outs}
 use Rattle.timer_commands.specs.Wakeups.{wakeup_line, AddsWakeups}
+use Rattle.timer_commands.proofs.IndentedLemmas.{adds_line}
 
 -- what is added to a line is marked
 record AreMarked (mark : ℕ) (A : Decoration) : Type 0 where
@@ -33,7 +35,7 @@ marked_lines mark A m s t (event ∷ events) answer text h =
 whole_text : (mark : ℕ) (A : Decoration) → IsUnused mark → AreMarked mark A → (s t : FacilityState) (events : List Event)
     (answer text : List ℕ) → AreDecorated A s events t answer text → AddsMarked mark (answer ++ last_line t) (text ++ last_line t)
 whole_text mark A u m s t events answer text h = adds_join mark answer (last_line t) text (last_line t)
-    (marked_lines mark A m s t events answer text h) (adds_end mark u t.now _)
+    (marked_lines mark A m s t events answer text h) (adds_line_of mark u (last_line t) (end_line_is t.now _))
 
 -- ---- the line of a wake-up
 

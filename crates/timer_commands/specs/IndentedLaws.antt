@@ -1,14 +1,14 @@
 -- The laws of text to which marked lines are added. They are in specs/ since the decorator of `show` cites them.
-use Rattle.std.proofs.Common.{◌≡◌, ◌≢◌, ◌<◌, ◌⊎◌, ℕ, true, not, cond, eq-eqb, ne_eqb, List, [], ◌∷◌, ◌++◌, refl, sym, ap, subst, ◌∙◌, append-nil, inl, inr, arith, lit≤}
+use Rattle.std.proofs.Common.{◌≡◌, ◌≢◌, ◌<◌, ◌⊎◌, ℕ, true, not, cond, ne_eqb, List, [], ◌∷◌, ◌++◌, refl, sym, ap, subst, ◌∙◌, append-nil, inl, inr, arith, lit≤}
 use Rattle.std.specs.List.{filter, concat}
 use Rattle.std.proofs.lemmas.List.Elements.{filter-append}
 use Rattle.std.proofs.lemmas.List.Folds.{concat-append}
 use Rattle.timer_script.specs.Types.{Out}
 use Rattle.timer_script.specs.Script.{HasNoFeed}
 use Rattle.timer_script.specs.Decorator.{IsLawful}
-use Rattle.timer_script.specs.Text.{out_line, lines_of, end_line}
+use Rattle.timer_script.specs.Text.{out_line, lines_of}
 use Rattle.timer_script.proofs.Results.{all_append}
-use Rattle.timer_script.proofs.TextLemmas.{IsOutLine, out_line_is, end_line_is}
+use Rattle.timer_script.proofs.TextLemmas.{IsOutLine, out_line_is}
 use Rattle.timer_commands.specs.declared.shows.Shows.{Shows}
 use Rattle.timer_commands.specs.Indented.{EndsWithFeed, is_unmarked, AddsMarked, AddsPictures}
 
@@ -27,16 +27,6 @@ adds_join mark a b x y f g = record {
       ∙ sym (concat-append (filter (is_unmarked mark) f.lines) (filter (is_unmarked mark) g.lines))
       ∙ ap concat (sym (filter-append (is_unmarked mark) f.lines g.lines));
 }
-
-pub adds_line : (mark : ℕ) (front : List ℕ) → mark ≢ 10 → HasNoFeed front → AddsMarked mark [] (mark ∷ front ++ 10 ∷ [])
-adds_line mark front other free =
-    let line : List ℕ = mark ∷ front ++ 10 ∷ [] in
-    record {
-      lines = line ∷ [];
-      each = (record { front = mark ∷ front; is = refl; no_feed = (other, free) }, tt);
-      text_is = sym (append-nil line);
-      answer_is = ap (λ t. concat (cond (not t) (line ∷ []) [])) (sym (eq-eqb mark mark refl));
-    }
 
 -- ---- the lines of an answer
 
@@ -57,7 +47,7 @@ adds_one mark front free unmarked =
     }
 
 -- a line of an answer stays
-adds_line_of : (mark : ℕ) → IsUnused mark → (bytes : List ℕ) → IsOutLine bytes → AddsMarked mark bytes bytes
+pub adds_line_of : (mark : ℕ) → IsUnused mark → (bytes : List ℕ) → IsOutLine bytes → AddsMarked mark bytes bytes
 adds_line_of mark u bytes l =
     let letter = l.letter in
     let other : l.first ≢ mark = λ e. elim u [
@@ -66,9 +56,6 @@ adds_line_of mark u bytes l =
     ] in
     subst (λ b. AddsMarked mark b b) (sym l.is)
     (adds_one mark (l.first ∷ l.rest) l.no_feed (ap not (ne_eqb l.first mark other)))
-
-pub adds_end : (mark : ℕ) → IsUnused mark → (now pending : ℕ) → AddsMarked mark (end_line now pending) (end_line now pending)
-adds_end mark u now pending = adds_line_of mark u (end_line now pending) (end_line_is now pending)
 
 pub adds_outs : (mark : ℕ) → IsUnused mark → (outs : List Out) → AddsMarked mark (lines_of outs) (lines_of outs)
 adds_outs mark u [] = adds_nothing mark

@@ -1,13 +1,12 @@
 -- How a subcommand ends: its exit status, and what it did to its input and its outputs.
 use Rattle.std.specs.Prelude.{◌≡◌, ℕ, ◌≤◌, ◌⊎◌, Bool, true, false, List, Option, Result, Ok, Err}
-use Rattle.timer_facility.specs.State.{FacilityState}
+use Rattle.timer_facility.specs.State.{FacilityState, opened}
 use Rattle.timer_script.specs.declared.fault.RunFault.{RunFault}
 use Rattle.timer_script.specs.declared.fault.CheckFault.{CheckFault}
 use Rattle.timer_script.specs.declared.fault.ServeFault.{ServeFault}
 use Rattle.timer_script.specs.declared.cutter.OnBadLine.{OnBadLine}
 use Rattle.timer_script.specs.declared.streams.Streams.{Streams}
 use Rattle.timer_script.specs.declared.watched.Watched.{Watched}
-use Rattle.timer_facility.specs.Opened.{opened}
 use Rattle.timer_script.specs.declared.cutter.OnBadLine.TheVariants.{Stop}
 use Rattle.timer_script.specs.ScriptRun.{HasRun}
 use Rattle.timer_script.specs.ScriptReport.{HasChecked}

@@ -6,13 +6,12 @@ pub mod Extends
 pub mod Member
 pub mod Inlet
 pub mod Looks
-pub mod Memory
 pub mod Report
 pub mod Laws
 pub mod Event
 pub mod RingEnds
 pub mod Settlement
-pub mod Locked
 pub mod WindingUp
 pub mod Driver
 pub mod Flush
+pub mod test_lines

@@ -1,6 +1,6 @@
 //! The owner's desk: one facility, and for each client its line and its backlog.
 ghost use Rattle.std.specs.Prelude.{◌≡◌, ◌<◌, ◌≤◌, ◌⊎◌, [], ◌∷◌, length, get_or, true, IfOk, IfErr, OnOk, OnErr, slice_set, vec_len};
-ghost use Rattle.timer_facility.specs.State.{FacilityState, IsSound, with_room};
+ghost use Rattle.timer_facility.specs.State.{FacilityState, IsSound, with_room_made};
 ghost use Rattle.timer_facility.specs.Facility.{NoRoomToClose, with_nothing_waiting};
 ghost use Rattle.timer_desk.specs.Flush.{FlushesClient};
 ghost use Rattle.timer_desk.specs.Member.{IsKept};
@@ -104,7 +104,7 @@ impl<W: Wheel + Drop, I: Inlet + Drop> Desk<W, I> {
     /// memory, and then nothing changes. After it no close runs out of memory, and no serve over lines that don't
     /// allocate.
     pub fn reserve(&mut self) -> Result<(), OutOfMemory>
-        ensures ok { OnOk result (self.new ≡ record self.old { facility = with_room self.old.facility }) }
+        ensures ok { OnOk result (self.new ≡ record self.old { facility = with_room_made self.old.facility }) }
         ensures err { OnErr result (self.new ≡ self.old) }
     {
         self.facility.reserve()

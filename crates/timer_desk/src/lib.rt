@@ -7,7 +7,7 @@
 //! of members, each of which leads from one moment of the desk to the next (`specs/Member.antt`). What a
 //! whole report says (`specs/Report.antt`) follows by the lemmas of `laws`. Read `inlet` first, which is
 //! what every line does, then `desk` and `turn`. `ring_ends` is the line between threads;
-//! `test_lines` has those that tests alone use.
+//! `test_lines` has those that tests alone use, with their definitions in `specs/test_lines/`.
 #![tactic(auto)]
 
 mod backlog;

@@ -1,7 +1,7 @@
 -- The lists of a `ReadLine`.
 use Rattle.std.specs.Prelude.{false}
 use Rattle.timer_desk.specs.Inlet.{LineKind}
-use Rattle.timer_desk.specs.Memory.{got_of_memory, standing_of_memory, SameMemoryLine, SameMemoryLine-refl, SameMemoryLine-trans}
+use Rattle.timer_desk.specs.test_lines.Memory.{got_of_memory, standing_of_memory, SameMemoryLine, SameMemoryLine-refl, SameMemoryLine-trans}
 use Rattle.timer_desk_bench.specs.declared.read_line.ReadLine.{ReadLine}
 
 -- lines whose words are read, as a kind of line: never full, and without an allocation

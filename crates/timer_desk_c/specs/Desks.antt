@@ -12,8 +12,7 @@ use Rattle.timer_facility.specs.declared.request.CloseFault.{CloseFault}
 use Rattle.timer_facility.specs.declared.request.TickFault.TheVariants as TickFaults
 use Rattle.timer_facility.specs.declared.request.CloseFault.TheVariants as CloseFaults
 use Rattle.timer_facility.specs.Config.{config_fault}
-use Rattle.timer_facility.specs.Opened.{opened}
-use Rattle.timer_facility.specs.State.{FacilityState, with_room}
+use Rattle.timer_facility.specs.State.{FacilityState, opened, with_room_made}
 use Rattle.timer_desk.specs.declared.constructor.TheConstants.{MIN_ROOM, MAX_ROOM}
 use Rattle.timer_desk_c.specs.Types.{Served, Done, RingInlet, CLine, Line}
 use Rattle.timer_desk.specs.declared.report.Served.TheVariants as Serveds
@@ -155,7 +154,7 @@ pub record HasClosed (status returned : ℕ) (old new : RingDesk) : Type 0 where
 
 -- the same desk, and room was made for as many timers as may be pending
 abbrev pub with_reserve : RingDesk → RingDesk
-with_reserve d = record d { facility = with_room d.facility }
+with_reserve d = record d { facility = with_room_made d.facility }
 
 -- the first tick at which a timer expires or moves to a lower wheel, and before which nothing expires
 abbrev pub IsNextTick : ℕ → FacilityState → Type 0

@@ -12,11 +12,10 @@ use Rattle.timer_facility.specs.Types.{LAST, Timer, Handle, MAX_PENDING, Config,
 use Rattle.timer_base.specs.Pending.{Entry, timer_of, timers_of, is_due_at, has_handle, first_timer, without_found, has_serial}
 use Rattle.timer_base.proofs.HeldLaws.{held_when_none_due, held_start-last_serial, removal_when_none_due}
 use Rattle.timer_base.specs.WheelState as Wheels
-use Rattle.timer_facility.specs.State.{FacilityState, ByHandle, Tick, Close, one_of, count_of, pending_of}
+use Rattle.timer_facility.specs.State.{FacilityState, opened, ByHandle, Tick, Close, one_of, count_of, pending_of}
 use Rattle.timer_facility.specs.Verdict.{interval_refusal, first_refusal, name_refusal, timer_named, tick_refusal}
 use Rattle.timer_facility.specs.Step.{step, step_of_close, new_timer, handle_of, answer_to, due_at_start, with_number, after_request, expired_next, accepted}
 use Rattle.timer_facility.specs.Run.{notices_in}
-use Rattle.timer_facility.specs.Opened.{opened}
 use Rattle.timer_facility.specs.Config.{IsInRange}
 use Rattle.timer_facility.specs.Facility.{FacilityView, Fields, view_of, kept_in, AreCounted, IsFacility, view_after, with_nothing_waiting, with_expiries, place_in, IsAnswered}
 use Rattle.timer_facility.proofs.FacilityCounts.{count-append, count-kept, count-put, count-tick, count-without, count-front, counted-none, counted-as, counted-more, counted-less, IsCounted, is_counted, count_in_range}

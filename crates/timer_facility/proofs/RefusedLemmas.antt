@@ -59,14 +59,14 @@ outs_verdict s Close place = told_close s s.is_closed
 -- After a close.
 
 -- a step that hands nothing out and changes nothing
-abbrev IsIdle : FacilityState → StepResult → Type 0
-IsIdle s st = (notices_in st.outs ≡ []) × (st.state ≡ s)
+abbrev DoesNothing : FacilityState → StepResult → Type 0
+DoesNothing s st = (notices_in st.outs ≡ []) × (st.state ≡ s)
 
-step-closed : (s : FacilityState) (event : SingleEvent) (place : ℕ) → s.is_closed ≡ true → IsIdle s (step s event place)
-step-closed s event place h = subst (IsIdle s) (sym (step_refused s event place (closed_refusal event) (verdict_closed s event h)))
+step-closed : (s : FacilityState) (event : SingleEvent) (place : ℕ) → s.is_closed ≡ true → DoesNothing s (step s event place)
+step-closed s event place h = subst (DoesNothing s) (sym (step_refused s event place (closed_refusal event) (verdict_closed s event h)))
     (idle event)
   where
-    idle : (event : SingleEvent) → IsIdle s (refused s event (closed_refusal event))
+    idle : (event : SingleEvent) → DoesNothing s (refused s event (closed_refusal event))
     idle (Asked client number request) = (refl, refl)
     idle Tick = (refl, refl)
     idle Close = (refl, refl)
@@ -79,5 +79,5 @@ pub none_after_close : (s : FacilityState) (ps : List PlacedEvent) → s.is_clos
 none_after_close s [] h = refl
 none_after_close s (p ∷ ps) h =
     let st : StepResult = step s p.event p.place in
-    let one : IsIdle s st = step-closed s p.event p.place h in
+    let one : DoesNothing s st = step-closed s p.event p.place h in
     rw (notices_in-append st.outs (outs_of (history st.state ps)), one.0, one.1) (none_after_close s ps h)

@@ -8,7 +8,7 @@ use Rattle.timer_facility.specs.declared.request.Request.TheVariants as Requests
 use Rattle.timer_facility.specs.declared.request.NotTaken.TheVariants as NotTakens
 use Rattle.timer_facility.specs.declared.request.CloseFault.TheVariants as CloseFaults
 use Rattle.timer_facility.specs.declared.event.Out.TheVariants as Outs
-use Rattle.timer_facility.specs.State.{FacilityState, with_room, count_of, After, At, ByHandle, ModelRequest, Start, Stop, Restart, SingleEvent, Asked}
+use Rattle.timer_facility.specs.State.{FacilityState, with_room_made, count_of, After, At, ByHandle, ModelRequest, Start, Stop, Restart, SingleEvent, Asked}
 use Rattle.timer_facility.specs.Verdict.{not_taken, refusal}
 use Rattle.timer_facility.specs.Step.{StepResult, timer_stopped, timer_started, answer_to, due_at_start, after_request, step}
 use Rattle.timer_facility.specs.Run.{notices_in}
@@ -31,8 +31,8 @@ abbrev pub with_expiries : List Timer → FacilityState → FacilityView
 with_expiries due s = record { state = s; waiting = map (λ t. Expired t) due }
 
 -- the same view, and room was made
-abbrev pub view_with_room : FacilityView → FacilityView
-view_with_room v = record v { state = with_room v.state }
+abbrev pub view_with_room_made : FacilityView → FacilityView
+view_with_room_made v = record v { state = with_room_made v.state }
 
 -- a request as the model has it
 abbrev pub model_of : Request → ModelRequest

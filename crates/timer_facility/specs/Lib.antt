@@ -6,7 +6,6 @@ pub mod Step
 pub mod Refused
 pub mod Run
 pub mod Owed
-pub mod Opened
 pub mod Facility
 pub mod Played
 pub mod Handles

@@ -1,7 +1,7 @@
 -- The abstract state of a facility, and single events.
-use Rattle.std.specs.Prelude.{◌<◌, ◌≤◌, ◌==◌, ℕ, ◌+◌, ◌-◌, max, Bool, true, if◌then◌else◌, List, [], ◌∷◌, length, slice_index}
+use Rattle.std.specs.Prelude.{◌<◌, ◌≤◌, ◌==◌, ℕ, ◌+◌, ◌-◌, max, Bool, true, false, if◌then◌else◌, List, [], ◌∷◌, length, replicate, slice_index}
 use Rattle.std.specs.List.{AllByRecursion}
-use Rattle.timer_facility.specs.Types.{LAST, Timer, Handle, MAX_CLIENTS, MAX_PENDING}
+use Rattle.timer_facility.specs.Types.{LAST, Timer, Handle, Config, MAX_CLIENTS, MAX_PENDING}
 use Rattle.timer_base.specs.Layout.{Layout}
 use Rattle.timer_base.specs.Order.{IsOrdered, AreDistinct, AreBelow}
 use Rattle.timer_base.specs.Pending.{Entry, timers_of}
@@ -25,9 +25,24 @@ pub record FacilityState : Type 0 where
   -- room was made for as many timers as the capacity; no event changes it
   pub has_room : Bool
 
+-- a newly opened facility: the state of a configuration over a clock with this last tick, and a wheel whose slots are
+-- laid out like this
+abbrev pub opened : Config → ℕ → Layout → FacilityState
+opened config last layout = record {
+  capacity = config.capacity;
+  last = last;
+  layout = layout;
+  now = config.first_tick;
+  next_serial = config.first_serial;
+  pending = [];
+  numbers = replicate config.clients config.first_number;
+  is_closed = false;
+  has_room = false;
+}
+
 -- the same state, and room was made
-abbrev pub with_room : FacilityState → FacilityState
-with_room s = record s { has_room = true }
+abbrev pub with_room_made : FacilityState → FacilityState
+with_room_made s = record s { has_room = true }
 
 -- the next request number of a client
 abbrev pub number_of : FacilityState → ℕ → ℕ

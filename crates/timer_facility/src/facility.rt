@@ -9,15 +9,14 @@ ghost use Rattle.timer_facility.specs.Types.{LAST, Timer, MAX_CLIENTS};
 ghost use Rattle.timer_base.specs.Pending.{timers_of};
 ghost use Rattle.timer_base.specs.WheelState.{after_clear};
 ghost use Rattle.timer_base.specs.WakeUps.{IsQuietUntil, next_deadline};
-ghost use Rattle.timer_facility.specs.State.{FacilityState, IsSound, At, ByHandle, Stop, Tick, Close, number_of, pending_of, ticks_until};
+ghost use Rattle.timer_facility.specs.State.{FacilityState, IsSound, opened, At, ByHandle, Stop, Tick, Close, number_of, pending_of, ticks_until};
 ghost use Rattle.timer_facility.specs.Verdict.{not_taken, timer_named, start_refusal, restart_refusal, interval_refusal, refusal, tick_refusal, TickRefused, verdict};
 ghost use Rattle.timer_facility.specs.Refused.{verdict_on_close};
 ghost use Rattle.timer_facility.specs.Step.{step, new_timer, timer_started};
 ghost use Rattle.timer_facility.specs.Owed.{timer_handed};
-ghost use Rattle.timer_facility.specs.Opened.{opened};
 ghost use Rattle.timer_facility.specs.Handles.{is_pending};
 ghost use Rattle.timer_facility.specs.Ticked.{AreTicked};
-ghost use Rattle.timer_facility.specs.Facility.{FacilityView, view_of, view_after, view_with_room, with_nothing_waiting, NoRoomToClose, IsTaken, IsNotTaken, Fields, IsFacilityOver, model_of, is_for_a_tick, IsStart, IsAnswered, MakesTimer, HasAnswered};
+ghost use Rattle.timer_facility.specs.Facility.{FacilityView, view_of, view_after, view_with_room_made, with_nothing_waiting, NoRoomToClose, IsTaken, IsNotTaken, Fields, IsFacilityOver, model_of, is_for_a_tick, IsStart, IsAnswered, MakesTimer, HasAnswered};
 
 use crate::config::{CLIENTS, Checked};
 use crate::request::{Answer, CloseFault, NotTaken, Notice, Reason, Request, TickFault};
@@ -113,7 +112,7 @@ impl<W: Wheel + Drop> Facility<W> {
     /// refused. Over a wheel of this project no start or close allocates or copies a table later. So an owner
     /// who calls this right after `open` pays for memory there. A second call changes nothing.
     pub fn reserve(&mut self) -> Result<(), OutOfMemory>
-        ensures ok { OnOk result (self.new ≡ view_with_room self.old) }
+        ensures ok { OnOk result (self.new ≡ view_with_room_made self.old) }
         ensures err { OnErr result (self.new ≡ self.old) }
     {
         let most = self.capacity as usize;

@@ -1,5 +1,5 @@
 -- The positions of line feeds in lines.
-use Rattle.std.proofs.Common.{rules, ◌⊎◌, ◌==◌, ◌&&◌, not, Bool, true, false, cond, inl, inr, ◌≡◌, zero, suc, ℕ, ◌+◌, ◌-◌, ◌*◌, ◌/◌, ◌%◌, ◌<◌, ◌≤◌, nat_lt, List, [], ◌∷◌, ◌++◌, length, get_or, take, decimal, codes, refl, sym, ap, subst, ◌∙◌, arith, append_assoc, length-append, lit≤}
+use Rattle.std.proofs.Common.{◌==◌, ◌&&◌, not, Bool, true, false, cond, inl, inr, ◌≡◌, zero, suc, ℕ, ◌+◌, ◌-◌, ◌*◌, ◌/◌, ◌%◌, ◌<◌, ◌≤◌, nat_lt, List, [], ◌∷◌, ◌++◌, length, get_or, take, decimal, refl, sym, ap, subst, ◌∙◌, arith, append_assoc, length-append, lit≤}
 use Rattle.std.specs.List.{AllByRecursion}
 use Rattle.std.specs.Fmt.{digits, digits_onto, digit_glyph}
 use Rattle.std.proofs.lemmas.Fmt.{length-decimal-le}

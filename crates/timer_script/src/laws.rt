@@ -3,6 +3,7 @@ ghost use Rattle.std.specs.Prelude.{◌≡◌, ◌++◌, ℕ, List, [], length, 
 ghost use Rattle.timer_script.specs.Types.{LAST, Event, FacilityState, MAX_BYTES, MAX_TICKS, ServeFault, OnBadLine};
 ghost use Rattle.timer_facility.specs.Run.{bare_state};
 ghost use Rattle.timer_script.specs.Script.{IsScript, IsBadLine};
+ghost use Rattle.timer_script.specs.ScriptReport.{IsScriptReport};
 ghost use Rattle.timer_script.specs.ScriptRun.{IsAnswer};
 ghost use Rattle.timer_script.specs.Decorator.{AddsNothing, AreDecorated};
 ghost use Rattle.timer_script.specs.Peer.{PeerCall};
@@ -29,6 +30,14 @@ pub fn one_bad_line()
     ensures no_script { (xs : List Event) (bytes : List ℕ) (n : ℕ) → IsScript xs bytes → IsBadLine bytes n
         → ⊥ }
     ensures one { (bytes : List ℕ) (m n : ℕ) → IsBadLine bytes m → IsBadLine bytes n → m ≡ n }
+{}
+
+/// Bytes with no bad line are the script of some events, and their report is empty; a script has no bad line.
+pub fn scripts_have_no_bad_line()
+    ensures script { (bytes text : List ℕ) → IsScriptReport bytes text 0
+        → (text ≡ []) × ((events : List Event) × IsScript events bytes) }
+    ensures none { (events : List Event) (bytes text : List ℕ) (bad : ℕ) → IsScript events bytes
+        → IsScriptReport bytes text bad → bad ≡ 0 }
 {}
 
 /// The answer to events is one text, over each wheel with the same last tick: it contains no places.

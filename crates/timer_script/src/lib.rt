@@ -49,7 +49,7 @@ pub use lines::MAX_TICKS;
 pub use output::write_text;
 pub use peer::Peer;
 pub use script::parse_script;
-pub use script_report::{check, scripts_have_no_bad_line};
+pub use script_report::check;
 pub use script_run::run;
 pub use service::serve;
 pub use streams::Streams;

@@ -1,7 +1,5 @@
 //! Reports every bad line of a script, and plays nothing: `line L, column C: FIELD: REASON`.
-ghost use Rattle.std.specs.Prelude.{◌≡◌, ◌↔◌, ◌++◌, ℕ, List, [], false, IsTrue, IfOk, OnOk, IsErrOf, decimal};
-ghost use Rattle.timer_facility.specs.declared.event.Event.{Event};
-ghost use Rattle.timer_script.specs.Script.{IsScript};
+ghost use Rattle.std.specs.Prelude.{◌≡◌, ◌↔◌, ◌++◌, ℕ, false, IsTrue, IfOk, OnOk, IsErrOf, decimal};
 ghost use Rattle.timer_script.specs.ScriptReport.{fault_line, of_field, IsScriptReport, HasChecked};
 ghost use Rattle.timer_script.specs.Watched.{has_failed};
 
@@ -95,11 +93,3 @@ pub fn check<R: Read, S: Write>(
     write_text(writer, &report)?;
     Ok(bad)
 }
-
-/// Bytes with no bad line are the script of some events, and their report is empty; a script has no bad line.
-pub fn scripts_have_no_bad_line()
-    ensures script { (bytes text : List ℕ) → IsScriptReport bytes text 0
-        → (text ≡ []) × ((events : List Event) × IsScript events bytes) }
-    ensures none { (events : List Event) (bytes text : List ℕ) (bad : ℕ) → IsScript events bytes
-        → IsScriptReport bytes text bad → bad ≡ 0 }
-{}

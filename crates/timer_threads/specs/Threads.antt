@@ -6,8 +6,7 @@ use Rattle.timer_wheels.specs.Tables.{layout_of_table}
 use Rattle.timer_wheels.specs.declared.table.Table.TheVariants.{Wide}
 use Rattle.timer_desk.specs.declared.looks.Found.TheVariants.{Nothing}
 use Rattle.timer_desk.specs.declared.driver.DriveEnd.TheVariants as DriveEnds
-use Rattle.timer_facility.specs.State.{FacilityState}
-use Rattle.timer_facility.specs.Opened.{opened}
+use Rattle.timer_facility.specs.State.{FacilityState, opened}
 use Rattle.timer_desk.specs.Desk.{DeskState, opened_desk, IsIdle, backlog_at}
 use Rattle.timer_desk.specs.Driver.{Drives}
 use Rattle.timer_desk.specs.WindingUp.{IsWaiting}

@@ -27,7 +27,7 @@ pub struct LockedInlet<R: Wait> {
 
 impl LockedEnd {
     ghost use Rattle.std.specs.Prelude.{◌≡◌, ◌+◌, ◌≤◌, IfOk, IfErr};
-    ghost use Rattle.timer_desk.specs.Locked.{next_of_locked};
+    ghost use Rattle.timer_desk.specs.test_lines.Locked.{next_of_locked};
     ghost use Rattle.timer_desk.specs.RingEnds.{IsUnsent};
 
     /// Sends a request, and returns its number. It may wait for the lock.
@@ -65,7 +65,7 @@ impl LockedEnd {
 impl<R: Wait> Inlet for LockedInlet<R> {
     ghost use Rattle.std.specs.Prelude.{◌≡◌, [], ◌++◌, true};
     ghost use Rattle.timer_desk.specs.Inlet.{taken_of, put_of, HandsBack};
-    ghost use Rattle.timer_desk.specs.Locked.{got_by_locked, given_by_locked, SameLockedLine, locked_lines};
+    ghost use Rattle.timer_desk.specs.test_lines.Locked.{got_by_locked, given_by_locked, SameLockedLine, locked_lines};
 
     ghost kind = { locked_lines };
 

@@ -1,6 +1,6 @@
 //! The maker of a locked line.
 ghost use Rattle.std.specs.Prelude.{◌≡◌, ◌≤◌, [], IfOk};
-ghost use Rattle.timer_desk.specs.Locked.{next_of_locked, got_by_locked, given_by_locked};
+ghost use Rattle.timer_desk.specs.test_lines.Locked.{next_of_locked, got_by_locked, given_by_locked};
 
 use crate::test_lines::locked::{LockedEnd, LockedInlet};
 use crate::test_lines::queues::Queues;

@@ -18,7 +18,7 @@ pub struct MemoryInlet {
 }
 
 impl MemoryInlet {
-    ghost use Rattle.timer_desk.specs.Memory.{got_of_memory, standing_of_memory, given_of_memory, room_of_memory};
+    ghost use Rattle.timer_desk.specs.test_lines.Memory.{got_of_memory, standing_of_memory, given_of_memory, room_of_memory};
 
     /// A line in which all these requests stand, with room for `room` words. Does not allocate.
     pub fn new(alloc: Global, requests: Vec<Numbered>, room: usize) -> MemoryInlet
@@ -45,7 +45,7 @@ impl MemoryInlet {
 
 impl Inlet for MemoryInlet {
     ghost use Rattle.std.specs.Prelude.{◌≡◌, [], ◌++◌, ◌<◌, ◌≤◌, ◌⊎◌, length, take, true, false, ◌↔◌};
-    ghost use Rattle.timer_desk.specs.Memory.{got_of_memory, standing_of_memory, given_of_memory, room_of_memory, fitting, LacksMemory, SameMemoryLine, memory_lines};
+    ghost use Rattle.timer_desk.specs.test_lines.Memory.{got_of_memory, standing_of_memory, given_of_memory, room_of_memory, fitting, LacksMemory, SameMemoryLine, memory_lines};
     ghost use Rattle.timer_desk.specs.Inlet.{taken_of, put_of, HandsBack};
 
     ghost kind = { memory_lines };

@@ -19,7 +19,7 @@ pub struct Queues {
 impl Queues {
     ghost use Rattle.std.specs.Prelude.{◌≡◌, ◌≢◌, ◌≤◌, ◌<◌, [], ◌∷◌, ◌++◌, length, drop, slice_get, IfOk, IfErr, OnOk, OnErr, IsOk, ◌↔◌, true};
     ghost use Rattle.timer_desk.specs.Inlet.{taken_of, put_of, HandsBack};
-    ghost use Rattle.timer_desk.specs.Locked.{requests_queued, words_queued, capacity_of};
+    ghost use Rattle.timer_desk.specs.test_lines.Locked.{requests_queued, words_queued, capacity_of};
 
     /// Two empty queues.
     pub fn new(alloc: Global, capacity: usize) -> Result<Queues, AllocError>

@@ -1,4 +1,4 @@
-use Rattle.std.proofs.Common.{sym, ◌∙◌, rules}
+use Rattle.std.proofs.Common.{sym, ◌∙◌}
 use Rattle.std.proofs.lemmas.Result.{on_ok_weaker}
 use Rattle.timer_commands.proofs.PictureLemmas.{node_rounds, node_alone}
 use Rattle.timer_commands.proofs.render.push_node.Goals as goal

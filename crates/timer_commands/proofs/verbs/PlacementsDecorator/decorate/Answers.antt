@@ -1,4 +1,4 @@
-use Rattle.std.proofs.Common.{◌≡◌, Bool, true, false, [], refl, sym, subst, ◌∙◌, ap, append-nil, rules}
+use Rattle.std.proofs.Common.{◌≡◌, true, false, [], refl, sym, subst, ◌∙◌, ap, append-nil, rules}
 use Rattle.std.proofs.lemmas.Result.{on_ok_weaker}
 use Rattle.timer_commands.specs.Shows.{is_covered}
 use Rattle.timer_commands.specs.Indented.{IsPictureIf}

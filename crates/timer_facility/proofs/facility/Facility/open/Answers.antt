@@ -1,6 +1,6 @@
 use Rattle.std.proofs.Common.{◌∙◌, ◌<◌, ap, sym, subst, vec_capacity}
 use Rattle.timer_facility.specs.Facility.{with_nothing_waiting}
-use Rattle.timer_facility.specs.Opened.{opened}
+use Rattle.timer_facility.specs.State.{opened}
 use Rattle.timer_facility.specs.Types.{Config}
 use Rattle.timer_facility.proofs.FacilityFields.{view-open, facility-open}
 use Rattle.timer_facility.proofs.facility.Facility.open.Goals as goal
