@@ -1,4 +1,4 @@
-//! The functions that C calls. Each that takes a struct checks whether it is open, then forwards the call.
+//! The functions that C calls. Each that takes a struct checks whether it is open, then calls `timer_total`.
 //!
 //! Most contracts have the same parts: what the call did if it returns `OK`; the first reason that holds
 //! if it returns another status; that nothing changed then; and that nothing but the state of the timers
@@ -15,7 +15,9 @@ ghost use Rattle.timer_total.specs.Ticks.{IsTakenBy, IsAdvanced};
 ghost use Rattle.timer_wheels.specs.TieredWheel.{counts_at_advance, is_smooth};
 
 use crate::c_timers::CTimers;
-use crate::calls::{self, from_c_handle, to_c_counts, to_c_expired, to_c_handle};
+use crate::calls::{
+    from_c_handle, restart_in_smooth, restart_status, start_status, to_c_expired, to_c_handle,
+};
 use crate::const_timers::ConstTimers;
 use crate::layout::{CHandle, Counts, Expired};
 use crate::status::{
@@ -119,9 +121,15 @@ pub extern "C" fn timers_start(
     ensures kept { 0 < result → (t.new ≡ t.old) × (handle.new ≡ handle.old) }
     ensures only { t.new ≡ with_timers t.old t.new.slot.state }
 {
-    match t.timers() {
-        Some(timers) => calls::start(timers, interval, action, handle),
-        None => NOT_OPEN,
+    let Some(timers) = t.timers() else {
+        return NOT_OPEN;
+    };
+    match timers.start(interval, action) {
+        Ok(made) => {
+            *handle = to_c_handle(made);
+            OK
+        }
+        Err(fault) => start_status(fault),
     }
 }
 
@@ -141,9 +149,15 @@ pub extern "C" fn timers_start_at(
     ensures kept { 0 < result → (t.new ≡ t.old) × (handle.new ≡ handle.old) }
     ensures only { t.new ≡ with_timers t.old t.new.slot.state }
 {
-    match t.timers() {
-        Some(timers) => calls::start_at(timers, deadline, action, handle),
-        None => NOT_OPEN,
+    let Some(timers) = t.timers() else {
+        return NOT_OPEN;
+    };
+    match timers.start_at(deadline, action) {
+        Ok(made) => {
+            *handle = to_c_handle(made);
+            OK
+        }
+        Err(fault) => start_status(fault),
     }
 }
 
@@ -163,9 +177,18 @@ pub extern "C" fn timers_restart(
     ensures kept { 0 < result → (t.new ≡ t.old) × (restarted.new ≡ restarted.old) }
     ensures only { t.new ≡ with_timers t.old t.new.slot.state }
 {
-    match t.timers() {
-        Some(timers) => calls::restart(timers, handle, interval, action, restarted),
-        None => NOT_OPEN,
+    let Some(timers) = t.timers() else {
+        return NOT_OPEN;
+    };
+    if timers.wheel().is_smooth() {
+        return restart_in_smooth(timers, handle, interval, action, restarted);
+    }
+    match timers.restart(from_c_handle(handle), interval, action) {
+        Ok(made) => {
+            *restarted = to_c_handle(made);
+            OK
+        }
+        Err(fault) => restart_status(fault),
     }
 }
 
@@ -184,9 +207,15 @@ pub extern "C" fn timers_restart_at(
     ensures kept { 0 < result → (t.new ≡ t.old) × (restarted.new ≡ restarted.old) }
     ensures only { t.new ≡ with_timers t.old t.new.slot.state }
 {
-    match t.timers() {
-        Some(timers) => calls::restart_at(timers, handle, deadline, action, restarted),
-        None => NOT_OPEN,
+    let Some(timers) = t.timers() else {
+        return NOT_OPEN;
+    };
+    match timers.restart_at(from_c_handle(handle), deadline, action) {
+        Ok(made) => {
+            *restarted = to_c_handle(made);
+            OK
+        }
+        Err(fault) => restart_status(fault),
     }
 }
 
@@ -205,9 +234,15 @@ pub extern "C" fn timers_set_at(
     ensures kept { 0 < result → (t.new ≡ t.old) × (handle.new ≡ handle.old) }
     ensures only { t.new ≡ with_timers t.old t.new.slot.state }
 {
-    match t.timers() {
-        Some(timers) => calls::set_at(timers, handle, deadline, action),
-        None => NOT_OPEN,
+    let Some(timers) = t.timers() else {
+        return NOT_OPEN;
+    };
+    match timers.set_at(from_c_handle(*handle), deadline, action) {
+        Ok(made) => {
+            *handle = to_c_handle(made);
+            OK
+        }
+        Err(fault) => start_status(fault),
     }
 }
 
@@ -240,9 +275,15 @@ pub extern "C" fn timers_stop(t: &mut CTimers, handle: CHandle, action: &mut u64
     ensures kept { 0 < result → (t.new ≡ t.old) × (action.new ≡ action.old) }
     ensures only { t.new ≡ with_timers t.old t.new.slot.state }
 {
-    match t.timers() {
-        Some(timers) => calls::stop(timers, handle, action),
-        None => NOT_OPEN,
+    let Some(timers) = t.timers() else {
+        return NOT_OPEN;
+    };
+    match timers.stop(from_c_handle(handle)) {
+        Some(timer) => {
+            *action = timer.action;
+            OK
+        }
+        None => NOT_PENDING,
     }
 }
 
@@ -364,10 +405,17 @@ pub extern "C" fn timers_expire_batch(t: &mut CTimers, out: &mut [Expired]) -> u
     ensures not_open { IsShut t.old → (result ≡ 0) × (t.new ≡ t.old) × (out.new ≡ out.old) }
     ensures only { t.new ≡ with_timers t.old t.new.slot.state }
 {
-    match t.timers() {
-        Some(timers) => calls::expire_batch(timers, out),
-        None => 0,
+    let Some(timers) = t.timers() else {
+        return 0;
+    };
+    let room = out.len();
+    for count in 0..room {
+        match timers.expire() {
+            Some(timer) => out[count] = to_c_expired(timer),
+            None => return count,
+        }
     }
+    room
 }
 
 /// Whether a timer expired and was not yet taken.
@@ -419,10 +467,13 @@ pub extern "C" fn timers_wakeup(t: &mut ConstTimers) -> u64
     ensures not_open { IsShut t.old.held → result ≡ NEVER }
     ensures same { t.new ≡ t.old }
 {
-    match t.timers() {
-        Some(timers) => calls::wakeup(timers),
-        None => NEVER,
+    let Some(timers) = t.timers() else {
+        return NEVER;
+    };
+    if timers.has_due() {
+        return timers.now();
     }
+    timers.quiet_until().unwrap_or(NEVER)
 }
 
 /// The deadline of the timer that is handed out next: the present tick when an expired one waits, `NEVER`
@@ -517,11 +568,14 @@ pub extern "C" fn timers_counts(t: &mut ConstTimers, counts: &mut Counts) -> u32
     ensures kept { 0 < result → counts.new ≡ counts.old }
     ensures same { t.new ≡ t.old }
 {
-    match t.timers() {
-        Some(timers) => {
-            *counts = to_c_counts(timers.wheel());
-            OK
-        }
-        None => NOT_OPEN,
-    }
+    let Some(timers) = t.timers() else {
+        return NOT_OPEN;
+    };
+    let wheel = timers.wheel();
+    *counts = Counts {
+        starts: wheel.starts(),
+        moves: wheel.moves(),
+        visits: wheel.visits(),
+    };
+    OK
 }
