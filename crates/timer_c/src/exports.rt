@@ -7,7 +7,7 @@ ghost use Rattle.std.specs.Prelude.{◌≡◌, ◌*◌, ◌<◌, ◌≤◌, ◌�
 ghost use Rattle.timer_base.specs.Pending.{timers_of};
 ghost use Rattle.timer_base.specs.WheelState.{first_due, after_reserve, after_expiry};
 ghost use Rattle.timer_c.specs.Frames.{IsOpen, IsShut, IsRefused, with_timers};
-ghost use Rattle.timer_c.specs.Outcomes.{IsEmptyAt, IsOpenable, WhyNoWheel, IsStarted, IsStartedAt, IsStartRefusal, IsStartAtRefusal, IsRestarted, IsRestartedAt, IsRestartRefusal, IsRestartAtRefusal, IsSet, IsSetRefusal, IsSeen, IsStopped, WhyNotStopped, IsTicked, IsAdvancedTo, WhyNotTicked, WhyNotAdvanced, IsTaken, IsNextCall, IsNextDeadline, IsVisited, IsAllVisited, IsCounted, told, tell, after_expiries};
+ghost use Rattle.timer_c.specs.Outcomes.{IsEmptyAt, IsOpenable, WhyNoWheel, IsStarted, IsStartedAt, IsStartRefusal, IsStartAtRefusal, IsRestarted, IsRestartedAt, IsRestartRefusal, IsRestartAtRefusal, IsSet, IsSetRefusal, IsSeen, IsStopped, IsStopRefusal, IsTicked, IsAdvancedTo, IsTickRefusal, IsAdvanceRefusal, IsNextTaken, IsNextCall, IsNextDeadline, IsVisited, IsAllVisited, IsCounted, told, tell, after_expiries};
 ghost use Rattle.timer_c.specs.declared.status.TheConstants.{OK, NOT_OPEN, OPEN, NO_MEMORY, NEVER, VERSION_NUMBER};
 ghost use Rattle.timer_total.specs.TimersState.{after_drop, with_wheel};
 ghost use Rattle.timer_total.specs.Refusals.{left_until};
@@ -250,7 +250,7 @@ pub extern "C" fn timers_set_at(
 #[unsafe(no_mangle)]
 pub extern "C" fn timers_look(t: &mut ConstTimers, handle: CHandle, out: &mut Expired) -> u32
     ensures seen { result ≡ OK → IsOpen t.old.held × IsSeen handle t.old.held.slot.state.wheel out.new }
-    ensures refused { 0 < result → IsRefused t.old.held result (WhyNotStopped handle t.old.held.slot.state result) }
+    ensures refused { 0 < result → IsRefused t.old.held result (IsStopRefusal handle t.old.held.slot.state result) }
     ensures kept { 0 < result → out.new ≡ out.old }
     ensures same { t.new ≡ t.old }
 {
@@ -271,7 +271,7 @@ pub extern "C" fn timers_look(t: &mut ConstTimers, handle: CHandle, out: &mut Ex
 pub extern "C" fn timers_stop(t: &mut CTimers, handle: CHandle, action: &mut u64) -> u32
     ensures stopped { result ≡ OK → IsOpen t.old × IsStopped handle t.old.slot.state t.new.slot.state
         action.new }
-    ensures refused { 0 < result → IsRefused t.old result (WhyNotStopped handle t.old.slot.state result) }
+    ensures refused { 0 < result → IsRefused t.old result (IsStopRefusal handle t.old.slot.state result) }
     ensures kept { 0 < result → (t.new ≡ t.old) × (action.new ≡ action.old) }
     ensures only { t.new ≡ with_timers t.old t.new.slot.state }
 {
@@ -291,7 +291,7 @@ pub extern "C" fn timers_stop(t: &mut CTimers, handle: CHandle, action: &mut u64
 #[unsafe(no_mangle)]
 pub extern "C" fn timers_tick(t: &mut CTimers) -> u32
     ensures ticked { result ≡ OK → IsOpen t.old × IsTicked t.old.slot.state t.new.slot.state }
-    ensures refused { 0 < result → IsRefused t.old result (WhyNotTicked t.old.slot.state result) }
+    ensures refused { 0 < result → IsRefused t.old result (IsTickRefusal t.old.slot.state result) }
     ensures kept { 0 < result → t.new ≡ t.old }
     ensures only { t.new ≡ with_timers t.old t.new.slot.state }
 {
@@ -311,7 +311,7 @@ pub extern "C" fn timers_tick(t: &mut CTimers) -> u32
 pub extern "C" fn timers_advance(t: &mut CTimers, most: u64, passed: &mut u64) -> u32
     ensures advanced { result ≡ OK → IsOpen t.old × IsAdvanced counts_at_advance most passed.new
         t.old.slot.state t.new.slot.state }
-    ensures refused { 0 < result → IsRefused t.old result (WhyNotAdvanced most t.old.slot.state result) }
+    ensures refused { 0 < result → IsRefused t.old result (IsAdvanceRefusal most t.old.slot.state result) }
     ensures kept { 0 < result → (t.new ≡ t.old) × (passed.new ≡ passed.old) }
     ensures only { t.new ≡ with_timers t.old t.new.slot.state }
 {
@@ -334,7 +334,7 @@ pub extern "C" fn timers_advance(t: &mut CTimers, most: u64, passed: &mut u64) -
 pub extern "C" fn timers_advance_to(t: &mut CTimers, tick: u64) -> u32
     ensures advanced { result ≡ OK → IsOpen t.old × IsAdvancedTo tick t.old.slot.state t.new.slot.state }
     ensures refused { 0 < result → IsRefused t.old result
-        (WhyNotAdvanced (left_until tick t.old.slot.state) t.old.slot.state result) }
+        (IsAdvanceRefusal (left_until tick t.old.slot.state) t.old.slot.state result) }
     ensures kept { 0 < result → t.new ≡ t.old }
     ensures only { t.new ≡ with_timers t.old t.new.slot.state }
 {
@@ -353,7 +353,7 @@ pub extern "C" fn timers_advance_to(t: &mut CTimers, tick: u64) -> u32
 #[unsafe(no_mangle)]
 pub extern "C" fn timers_take(t: &mut CTimers, tick: u64, out: &mut Expired) -> bool
     ensures taken { result ≡ true
-        → IsOpen t.old × IsTaken tick t.old.slot.state t.new.slot.state out.new }
+        → IsOpen t.old × IsNextTaken tick t.old.slot.state t.new.slot.state out.new }
     ensures none { result ≡ false → IsOpen t.old → IsTakenBy counts_at_advance tick None
         t.old.slot.state t.new.slot.state }
     ensures not_open { IsShut t.old → (result ≡ false) × (t.new ≡ t.old) }
