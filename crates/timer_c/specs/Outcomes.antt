@@ -135,20 +135,21 @@ restart_status restart.ZeroInterval = ZERO_INTERVAL
 restart_status restart.TooLate = TOO_LATE
 restart_status restart.SerialsSpent = SERIALS_SPENT
 
--- the action that a start was given
-abbrev pub action_of : Option Timer → Option ℕ
-action_of None = None
-action_of (Some t) = Some t.action
+-- the action that its start was given
+abbrev pub action_of_timer : Option Timer → Option ℕ
+action_of_timer None = None
+action_of_timer (Some t) = Some t.action
 
 -- a stop was done: the timer is removed, and no timer has its handle
 abbrev pub IsStopped : CHandle → TimersState → TimersState → ℕ → Type 0
 IsStopped handle old new action =
     (new ≡ with_wheel (after_removal (base_handle handle) old.wheel) old)
-    × (action_of (held_at (base_handle handle) old.wheel) ≡ Some action)
+    × (action_of_timer (held_at (base_handle handle) old.wheel) ≡ Some action)
     × (held_at (base_handle handle) new.wheel ≡ None)
 
-abbrev pub WhyNotStopped : CHandle → TimersState → ℕ → Type 0
-WhyNotStopped handle old status =
+-- why it was not; a look that finds no timer has the same reason
+abbrev pub IsStopRefusal : CHandle → TimersState → ℕ → Type 0
+IsStopRefusal handle old status =
     (status ≡ NOT_PENDING) × (held_at (base_handle handle) old.wheel ≡ None)
 
 -- a tick was done
@@ -164,14 +165,14 @@ abbrev pub IsAdvancedTo : ℕ → TimersState → TimersState → Type 0
 IsAdvancedTo tick old new = (passed : ℕ) × IsAdvanced counts_at_advance (left_until tick old) passed old new
 
 -- why the clock does not advance; at its end nothing is left, neither due nor pending
-abbrev pub WhyNotTicked : TimersState → ℕ → Type 0
-WhyNotTicked old status =
+abbrev pub IsTickRefusal : TimersState → ℕ → Type 0
+IsTickRefusal old status =
     ((status ≡ DUE) × (0 < length old.wheel.due))
     ⊎ ((status ≡ CLOCK_END) × (old.wheel.due ≡ []) × (old.wheel.now ≡ old.wheel.last_tick) × (old.wheel.pending ≡ []))
 
 -- why no tick of those that were asked for is passed
-abbrev pub WhyNotAdvanced : ℕ → TimersState → ℕ → Type 0
-WhyNotAdvanced most old status = (0 < most) × WhyNotTicked old status
+abbrev pub IsAdvanceRefusal : ℕ → TimersState → ℕ → Type 0
+IsAdvanceRefusal most old status = (0 < most) × IsTickRefusal old status
 
 -- a timer as C's struct
 abbrev pub tell : Timer → Expired
@@ -182,8 +183,8 @@ told None = None
 told (Some t) = Some (tell t)
 
 -- the next timer that is due by this tick was taken
-abbrev pub IsTaken : ℕ → TimersState → TimersState → Expired → Type 0
-IsTaken tick old new out = (timer : Timer) × (out ≡ tell timer)
+abbrev pub IsNextTaken : ℕ → TimersState → TimersState → Expired → Type 0
+IsNextTaken tick old new out = (timer : Timer) × (out ≡ tell timer)
     × IsTakenBy counts_at_advance tick (Some timer) old new
 
 -- the timer with this handle, pending or expired and not yet taken

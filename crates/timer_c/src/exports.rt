@@ -1,4 +1,4 @@
-//! The functions that C calls. Each that takes a struct checks whether it is open, then forwards the call.
+//! The functions that C calls. Each that takes a struct checks whether it is open, then calls `timer_total`.
 //!
 //! Most contracts have the same parts: what the call did if it returns `OK`; the first reason that holds
 //! if it returns another status; that nothing changed then; and that nothing but the state of the timers
@@ -7,7 +7,7 @@ ghost use Rattle.std.specs.Prelude.{◌≡◌, ◌*◌, ◌<◌, ◌≤◌, ◌�
 ghost use Rattle.timer_base.specs.Pending.{timers_of};
 ghost use Rattle.timer_base.specs.WheelState.{first_due, after_reserve, after_expiry};
 ghost use Rattle.timer_c.specs.Frames.{IsOpen, IsShut, IsRefused, with_timers};
-ghost use Rattle.timer_c.specs.Outcomes.{IsEmptyAt, IsOpenable, WhyNoWheel, IsStarted, IsStartedAt, IsStartRefusal, IsStartAtRefusal, IsRestarted, IsRestartedAt, IsRestartRefusal, IsRestartAtRefusal, IsSet, IsSetRefusal, IsSeen, IsStopped, WhyNotStopped, IsTicked, IsAdvancedTo, WhyNotTicked, WhyNotAdvanced, IsTaken, IsNextCall, IsNextDeadline, IsVisited, IsAllVisited, IsCounted, told, tell, after_expiries};
+ghost use Rattle.timer_c.specs.Outcomes.{IsEmptyAt, IsOpenable, WhyNoWheel, IsStarted, IsStartedAt, IsStartRefusal, IsStartAtRefusal, IsRestarted, IsRestartedAt, IsRestartRefusal, IsRestartAtRefusal, IsSet, IsSetRefusal, IsSeen, IsStopped, IsStopRefusal, IsTicked, IsAdvancedTo, IsTickRefusal, IsAdvanceRefusal, IsNextTaken, IsNextCall, IsNextDeadline, IsVisited, IsAllVisited, IsCounted, told, tell, after_expiries};
 ghost use Rattle.timer_c.specs.declared.status.TheConstants.{OK, NOT_OPEN, OPEN, NO_MEMORY, NEVER, VERSION_NUMBER};
 ghost use Rattle.timer_total.specs.TimersState.{after_drop, with_wheel};
 ghost use Rattle.timer_total.specs.Refusals.{left_until};
@@ -15,7 +15,9 @@ ghost use Rattle.timer_total.specs.Ticks.{IsTakenBy, IsAdvanced};
 ghost use Rattle.timer_wheels.specs.TieredWheel.{counts_at_advance, is_smooth};
 
 use crate::c_timers::CTimers;
-use crate::calls::{self, from_c_handle, to_c_counts, to_c_expired, to_c_handle};
+use crate::calls::{
+    from_c_handle, restart_in_smooth, restart_status, start_status, to_c_expired, to_c_handle,
+};
 use crate::const_timers::ConstTimers;
 use crate::layout::{CHandle, Counts, Expired};
 use crate::status::{
@@ -119,9 +121,15 @@ pub extern "C" fn timers_start(
     ensures kept { 0 < result → (t.new ≡ t.old) × (handle.new ≡ handle.old) }
     ensures only { t.new ≡ with_timers t.old t.new.slot.state }
 {
-    match t.timers() {
-        Some(timers) => calls::start(timers, interval, action, handle),
-        None => NOT_OPEN,
+    let Some(timers) = t.timers() else {
+        return NOT_OPEN;
+    };
+    match timers.start(interval, action) {
+        Ok(made) => {
+            *handle = to_c_handle(made);
+            OK
+        }
+        Err(fault) => start_status(fault),
     }
 }
 
@@ -141,9 +149,15 @@ pub extern "C" fn timers_start_at(
     ensures kept { 0 < result → (t.new ≡ t.old) × (handle.new ≡ handle.old) }
     ensures only { t.new ≡ with_timers t.old t.new.slot.state }
 {
-    match t.timers() {
-        Some(timers) => calls::start_at(timers, deadline, action, handle),
-        None => NOT_OPEN,
+    let Some(timers) = t.timers() else {
+        return NOT_OPEN;
+    };
+    match timers.start_at(deadline, action) {
+        Ok(made) => {
+            *handle = to_c_handle(made);
+            OK
+        }
+        Err(fault) => start_status(fault),
     }
 }
 
@@ -163,9 +177,18 @@ pub extern "C" fn timers_restart(
     ensures kept { 0 < result → (t.new ≡ t.old) × (restarted.new ≡ restarted.old) }
     ensures only { t.new ≡ with_timers t.old t.new.slot.state }
 {
-    match t.timers() {
-        Some(timers) => calls::restart(timers, handle, interval, action, restarted),
-        None => NOT_OPEN,
+    let Some(timers) = t.timers() else {
+        return NOT_OPEN;
+    };
+    if timers.wheel().is_smooth() {
+        return restart_in_smooth(timers, handle, interval, action, restarted);
+    }
+    match timers.restart(from_c_handle(handle), interval, action) {
+        Ok(made) => {
+            *restarted = to_c_handle(made);
+            OK
+        }
+        Err(fault) => restart_status(fault),
     }
 }
 
@@ -184,9 +207,15 @@ pub extern "C" fn timers_restart_at(
     ensures kept { 0 < result → (t.new ≡ t.old) × (restarted.new ≡ restarted.old) }
     ensures only { t.new ≡ with_timers t.old t.new.slot.state }
 {
-    match t.timers() {
-        Some(timers) => calls::restart_at(timers, handle, deadline, action, restarted),
-        None => NOT_OPEN,
+    let Some(timers) = t.timers() else {
+        return NOT_OPEN;
+    };
+    match timers.restart_at(from_c_handle(handle), deadline, action) {
+        Ok(made) => {
+            *restarted = to_c_handle(made);
+            OK
+        }
+        Err(fault) => restart_status(fault),
     }
 }
 
@@ -205,9 +234,15 @@ pub extern "C" fn timers_set_at(
     ensures kept { 0 < result → (t.new ≡ t.old) × (handle.new ≡ handle.old) }
     ensures only { t.new ≡ with_timers t.old t.new.slot.state }
 {
-    match t.timers() {
-        Some(timers) => calls::set_at(timers, handle, deadline, action),
-        None => NOT_OPEN,
+    let Some(timers) = t.timers() else {
+        return NOT_OPEN;
+    };
+    match timers.set_at(from_c_handle(*handle), deadline, action) {
+        Ok(made) => {
+            *handle = to_c_handle(made);
+            OK
+        }
+        Err(fault) => start_status(fault),
     }
 }
 
@@ -215,7 +250,7 @@ pub extern "C" fn timers_set_at(
 #[unsafe(no_mangle)]
 pub extern "C" fn timers_look(t: &mut ConstTimers, handle: CHandle, out: &mut Expired) -> u32
     ensures seen { result ≡ OK → IsOpen t.old.held × IsSeen handle t.old.held.slot.state.wheel out.new }
-    ensures refused { 0 < result → IsRefused t.old.held result (WhyNotStopped handle t.old.held.slot.state result) }
+    ensures refused { 0 < result → IsRefused t.old.held result (IsStopRefusal handle t.old.held.slot.state result) }
     ensures kept { 0 < result → out.new ≡ out.old }
     ensures same { t.new ≡ t.old }
 {
@@ -236,13 +271,19 @@ pub extern "C" fn timers_look(t: &mut ConstTimers, handle: CHandle, out: &mut Ex
 pub extern "C" fn timers_stop(t: &mut CTimers, handle: CHandle, action: &mut u64) -> u32
     ensures stopped { result ≡ OK → IsOpen t.old × IsStopped handle t.old.slot.state t.new.slot.state
         action.new }
-    ensures refused { 0 < result → IsRefused t.old result (WhyNotStopped handle t.old.slot.state result) }
+    ensures refused { 0 < result → IsRefused t.old result (IsStopRefusal handle t.old.slot.state result) }
     ensures kept { 0 < result → (t.new ≡ t.old) × (action.new ≡ action.old) }
     ensures only { t.new ≡ with_timers t.old t.new.slot.state }
 {
-    match t.timers() {
-        Some(timers) => calls::stop(timers, handle, action),
-        None => NOT_OPEN,
+    let Some(timers) = t.timers() else {
+        return NOT_OPEN;
+    };
+    match timers.stop(from_c_handle(handle)) {
+        Some(timer) => {
+            *action = timer.action;
+            OK
+        }
+        None => NOT_PENDING,
     }
 }
 
@@ -250,7 +291,7 @@ pub extern "C" fn timers_stop(t: &mut CTimers, handle: CHandle, action: &mut u64
 #[unsafe(no_mangle)]
 pub extern "C" fn timers_tick(t: &mut CTimers) -> u32
     ensures ticked { result ≡ OK → IsOpen t.old × IsTicked t.old.slot.state t.new.slot.state }
-    ensures refused { 0 < result → IsRefused t.old result (WhyNotTicked t.old.slot.state result) }
+    ensures refused { 0 < result → IsRefused t.old result (IsTickRefusal t.old.slot.state result) }
     ensures kept { 0 < result → t.new ≡ t.old }
     ensures only { t.new ≡ with_timers t.old t.new.slot.state }
 {
@@ -270,7 +311,7 @@ pub extern "C" fn timers_tick(t: &mut CTimers) -> u32
 pub extern "C" fn timers_advance(t: &mut CTimers, most: u64, passed: &mut u64) -> u32
     ensures advanced { result ≡ OK → IsOpen t.old × IsAdvanced counts_at_advance most passed.new
         t.old.slot.state t.new.slot.state }
-    ensures refused { 0 < result → IsRefused t.old result (WhyNotAdvanced most t.old.slot.state result) }
+    ensures refused { 0 < result → IsRefused t.old result (IsAdvanceRefusal most t.old.slot.state result) }
     ensures kept { 0 < result → (t.new ≡ t.old) × (passed.new ≡ passed.old) }
     ensures only { t.new ≡ with_timers t.old t.new.slot.state }
 {
@@ -293,7 +334,7 @@ pub extern "C" fn timers_advance(t: &mut CTimers, most: u64, passed: &mut u64) -
 pub extern "C" fn timers_advance_to(t: &mut CTimers, tick: u64) -> u32
     ensures advanced { result ≡ OK → IsOpen t.old × IsAdvancedTo tick t.old.slot.state t.new.slot.state }
     ensures refused { 0 < result → IsRefused t.old result
-        (WhyNotAdvanced (left_until tick t.old.slot.state) t.old.slot.state result) }
+        (IsAdvanceRefusal (left_until tick t.old.slot.state) t.old.slot.state result) }
     ensures kept { 0 < result → t.new ≡ t.old }
     ensures only { t.new ≡ with_timers t.old t.new.slot.state }
 {
@@ -312,7 +353,7 @@ pub extern "C" fn timers_advance_to(t: &mut CTimers, tick: u64) -> u32
 #[unsafe(no_mangle)]
 pub extern "C" fn timers_take(t: &mut CTimers, tick: u64, out: &mut Expired) -> bool
     ensures taken { result ≡ true
-        → IsOpen t.old × IsTaken tick t.old.slot.state t.new.slot.state out.new }
+        → IsOpen t.old × IsNextTaken tick t.old.slot.state t.new.slot.state out.new }
     ensures none { result ≡ false → IsOpen t.old → IsTakenBy counts_at_advance tick None
         t.old.slot.state t.new.slot.state }
     ensures not_open { IsShut t.old → (result ≡ false) × (t.new ≡ t.old) }
@@ -364,10 +405,17 @@ pub extern "C" fn timers_expire_batch(t: &mut CTimers, out: &mut [Expired]) -> u
     ensures not_open { IsShut t.old → (result ≡ 0) × (t.new ≡ t.old) × (out.new ≡ out.old) }
     ensures only { t.new ≡ with_timers t.old t.new.slot.state }
 {
-    match t.timers() {
-        Some(timers) => calls::expire_batch(timers, out),
-        None => 0,
+    let Some(timers) = t.timers() else {
+        return 0;
+    };
+    let room = out.len();
+    for count in 0..room {
+        match timers.expire() {
+            Some(timer) => out[count] = to_c_expired(timer),
+            None => return count,
+        }
     }
+    room
 }
 
 /// Whether a timer expired and was not yet taken.
@@ -419,10 +467,13 @@ pub extern "C" fn timers_wakeup(t: &mut ConstTimers) -> u64
     ensures not_open { IsShut t.old.held → result ≡ NEVER }
     ensures same { t.new ≡ t.old }
 {
-    match t.timers() {
-        Some(timers) => calls::wakeup(timers),
-        None => NEVER,
+    let Some(timers) = t.timers() else {
+        return NEVER;
+    };
+    if timers.has_due() {
+        return timers.now();
     }
+    timers.quiet_until().unwrap_or(NEVER)
 }
 
 /// The deadline of the timer that is handed out next: the present tick when an expired one waits, `NEVER`
@@ -517,11 +568,14 @@ pub extern "C" fn timers_counts(t: &mut ConstTimers, counts: &mut Counts) -> u32
     ensures kept { 0 < result → counts.new ≡ counts.old }
     ensures same { t.new ≡ t.old }
 {
-    match t.timers() {
-        Some(timers) => {
-            *counts = to_c_counts(timers.wheel());
-            OK
-        }
-        None => NOT_OPEN,
-    }
+    let Some(timers) = t.timers() else {
+        return NOT_OPEN;
+    };
+    let wheel = timers.wheel();
+    *counts = Counts {
+        starts: wheel.starts(),
+        moves: wheel.moves(),
+        visits: wheel.visits(),
+    };
+    OK
 }

@@ -3,8 +3,8 @@
 //! C keeps a `struct timers` (`CTimers`), which owns the timers on the heap. A call requires nothing of C but
 //! the rules of that header; if it can't be done it returns a status that says why, and nothing changes.
 //!
-//!     exports      the functions that C calls: each checks the struct, if it takes one, and then forwards the call
-//!     calls        the calls, with C's statuses and structs
+//!     exports      the functions that C calls: each checks the struct, if it takes one, and then does the call
+//!     calls        what they share: C's statuses and structs of what timer_total takes and returns
 //!     wheel_maker  C's wheel, and how one is made by C's number for its table
 //!     c_timers     `struct timers`: the slot, and the last serial while the slot is empty
 //!     const_timers `struct timers` behind a const pointer, whose timers can only be read

@@ -2,8 +2,7 @@ pub mod Types
 pub mod Messages
 pub mod Lines
 pub mod DeskSlots
-pub mod DeskLent
-pub mod LineLent
+pub mod Lent
 pub mod Frames
 pub mod Desks
 pub mod Ticks

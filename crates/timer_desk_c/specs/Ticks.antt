@@ -20,8 +20,8 @@ HasAdvanced most passed old new =
     ⊎ Says (event_report old.facility (Dones.Passed most (Ok passed))) old new
 
 -- why the clock does not advance, if a tick was asked for
-abbrev pub WhyNotAdvanced : ℕ → FacilityState → ℕ → Type 0
-WhyNotAdvanced most s status =
+abbrev pub WhyNoTickPassed : ℕ → FacilityState → ℕ → Type 0
+WhyNoTickPassed most s status =
     (0 < most) × (((status ≡ CLOSED) × (tick_refusal s ≡ Some TickFaults.Closed))
     ⊎ ((status ≡ CLOCK_END) × (tick_refusal s ≡ Some TickFaults.ClockEnd)))
 

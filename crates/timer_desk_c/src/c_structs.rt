@@ -19,7 +19,7 @@ pub struct CDesk {
 
 impl CDesk {
     ghost use Rattle.timer_desk_c.specs.Frames.{IsOpen, IsShut, with_desk};
-    ghost use Rattle.timer_desk_c.specs.DeskLent.{c_desk, the_desk};
+    ghost use Rattle.timer_desk_c.specs.Lent.{c_desk, the_desk};
 
     /// Lends the desk, if there is one.
     pub(crate) fn desk(&mut self) -> Option<&mut Desk<TieredWheel, RingInlet>>
@@ -45,7 +45,7 @@ pub struct CLine {
 
 impl CLine {
     ghost use Rattle.timer_desk_c.specs.Frames.{HasLine, HasNoLine, with_line};
-    ghost use Rattle.timer_desk_c.specs.LineLent.{c_line, the_line};
+    ghost use Rattle.timer_desk_c.specs.Lent.{c_line, the_line};
 
     /// Lends the line, if there is one.
     pub(crate) fn line(&mut self) -> Option<&mut Line>

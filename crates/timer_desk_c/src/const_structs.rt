@@ -20,7 +20,7 @@ pub struct ConstDesk {
 impl ConstDesk {
     ghost use Rattle.timer_ffi_base.specs.Cells.{EndsUnchanged};
     ghost use Rattle.timer_desk_c.specs.Frames.{IsOpen, IsShut};
-    ghost use Rattle.timer_desk_c.specs.DeskLent.{const_desk};
+    ghost use Rattle.timer_desk_c.specs.Lent.{const_desk};
 
     /// Lends the desk to be read, if there is one.
     pub(crate) fn desk(&mut self) -> Option<&Desk<TieredWheel, RingInlet>>
@@ -44,7 +44,7 @@ pub struct ConstLine {
 impl ConstLine {
     ghost use Rattle.timer_ffi_base.specs.Cells.{EndsUnchanged};
     ghost use Rattle.timer_desk_c.specs.Frames.{HasLine, HasNoLine};
-    ghost use Rattle.timer_desk_c.specs.LineLent.{const_line};
+    ghost use Rattle.timer_desk_c.specs.Lent.{const_line};
 
     /// Lends the line to be read, if there is one.
     pub(crate) fn line(&mut self) -> Option<&Line>

@@ -27,13 +27,13 @@ impl Model for DeskCell {
 }
 
 impl DeskCell {
-    ghost use Rattle.timer_desk_c.specs.DeskLent.{as_cell, as_slot, the_desk, the_desk_slot};
+    ghost use Rattle.timer_desk_c.specs.Lent.{desk_as_cell, cell_as_desk, the_desk, the_desk_slot};
     ghost use Rattle.timer_ffi_base.specs.contracts.heap_cell.HeapCell.{the_row as cell_of};
 
     /// The same two words, as the cell whose methods are proved for any content.
     pub(crate) fn cell(&mut self) -> &mut HeapCell<Desk<TieredWheel, RingInlet>>
-        ensures* writes_back { sem 𝓛 (Lends the_desk_slot (cell_of the_desk) self.entry result as_slot) }
-        ensures value { result.now ≡ as_cell self.old }
+        ensures* writes_back { sem 𝓛 (Lends the_desk_slot (cell_of the_desk) self.entry result cell_as_desk) }
+        ensures value { result.now ≡ desk_as_cell self.old }
     {
         // Both structs have the same words, and own the same.
         unsafe { &mut *(self as *mut DeskCell as *mut HeapCell<Desk<TieredWheel, RingInlet>>) }

@@ -10,7 +10,7 @@ ghost use Rattle.timer_desk.specs.WindingUp.{KeepsLines};
 ghost use Rattle.timer_desk_c.specs.Frames.{IsOpen, IsShut, with_desk, HasLine, HasNoLine, with_line, is_own, next_life};
 ghost use Rattle.timer_desk_c.specs.Desks.{IsFit, IsMade, AllEmpty, IsOneHeld, WhyNotMade, with_reserve, HasServed, HasTicked, HasClosed, IsNextTick, IsFirstDeadline, IsSettled, IsGivenAs, IsAsBefore, WhyNotSettled};
 ghost use Rattle.timer_desk_c.specs.Rounds.{HasServedAll, HasFlushedAll};
-ghost use Rattle.timer_desk_c.specs.Ticks.{HasAdvanced, WhyNotAdvanced, HasFlushed};
+ghost use Rattle.timer_desk_c.specs.Ticks.{HasAdvanced, WhyNoTickPassed, HasFlushed};
 ghost use Rattle.timer_desk_c.specs.Ending.{IsTied, AreTied, OnlySettles, OnlyStates, HasEnded, AllEnded, WhyNotEnded, WhyNotAllEnded};
 ghost use Rattle.timer_desk_c.specs.Freed.{OnlyLooks, IsSeenFreed};
 ghost use Rattle.timer_desk_c.specs.Opening.{HasOpened, WhyNotOpened};
@@ -158,7 +158,7 @@ pub extern "C" fn timers_desk_advance(d: &mut CDesk, most: u64, passed: &mut u64
     ensures advanced { result ≡ OK → IsOpen d.old × HasAdvanced most passed.new d.old.slot.state
         d.new.slot.state }
     ensures refused { 0 < result → ((result ≡ NOT_OPEN) × IsShut d.old)
-        ⊎ (IsOpen d.old × WhyNotAdvanced most d.old.slot.state.facility result) }
+        ⊎ (IsOpen d.old × WhyNoTickPassed most d.old.slot.state.facility result) }
     ensures kept { 0 < result → (d.new ≡ d.old) × (passed.new ≡ passed.old) }
     ensures only { d.new ≡ with_desk d.old d.new.slot.state }
 {

@@ -26,13 +26,13 @@ impl Model for LineCell {
 }
 
 impl LineCell {
-    ghost use Rattle.timer_desk_c.specs.LineLent.{as_cell, as_slot, the_line, the_line_slot};
+    ghost use Rattle.timer_desk_c.specs.Lent.{line_as_cell, cell_as_line, the_line, the_line_slot};
     ghost use Rattle.timer_ffi_base.specs.contracts.heap_cell.HeapCell.{the_row as cell_of};
 
     /// The same two words, as the cell whose methods are proved for any content.
     pub(crate) fn cell(&mut self) -> &mut HeapCell<Line>
-        ensures* writes_back { sem 𝓛 (Lends the_line_slot (cell_of the_line) self.entry result as_slot) }
-        ensures value { result.now ≡ as_cell self.old }
+        ensures* writes_back { sem 𝓛 (Lends the_line_slot (cell_of the_line) self.entry result cell_as_line) }
+        ensures value { result.now ≡ line_as_cell self.old }
     {
         // Both structs have the same words, and own the same.
         unsafe { &mut *(self as *mut LineCell as *mut HeapCell<Line>) }

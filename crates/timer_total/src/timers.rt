@@ -5,7 +5,8 @@ ghost use Rattle.timer_base.specs.WakeUps.{IsQuietUntil, next_deadline};
 ghost use Rattle.timer_base.specs.WheelState.{held_at, first_due, after_start, after_held_start, after_removal, after_reserve, after_tick, after_expiry};
 ghost use Rattle.timer_total.specs.Refusals.{interval_until, after_start_at, next_timer, timer_due, left_until, IsAt, IsStartable, IsRoomUsed, WhyNotStarted, WhyNotRestarted, WhyNotTicked, WhyNotAdvanced};
 ghost use Rattle.timer_total.specs.Ticks.{IsTakenBy, IsAdvanced};
-ghost use Rattle.timer_total.specs.TimersState.{with_wheel, with_start, KeepsUnowned, without_due, after_drop};
+ghost use Rattle.timer_base.specs.declared.timer.Handle.{Handle};
+ghost use Rattle.timer_total.specs.TimersState.{TimersState, with_wheel, with_start, KeepsUnowned, without_due, after_drop};
 
 use crate::fault::{AdvanceFault, RestartFault, StartFault};
 use std::marker::Model;
@@ -331,28 +332,16 @@ impl<W: Wheel + Drop> Timers<W> {
         }
         let now = self.wheel.now();
         if deadline > now {
-            self.admit_restart(deadline > self.wheel.last_tick())?;
-            self.replace(handle, deadline, action)
+            match self.admit_at(deadline > self.wheel.last_tick()) {
+                Ok(()) => self.replace(handle, deadline, action),
+                Err(fault) => Err(restart_fault(fault)),
+            }
         } else {
-            self.admit_restart(now >= self.wheel.last_tick())?;
-            self.replace(handle, now, action)
+            match self.admit_at(now >= self.wheel.last_tick()) {
+                Ok(()) => self.replace(handle, now, action),
+                Err(fault) => Err(restart_fault(fault)),
+            }
         }
-    }
-
-    /// Whether a restart is accepted, once there is a timer and it is known whether its deadline is too late.
-    #[inline(always)]
-    fn admit_restart(&self, is_too_late: bool) -> Result<(), RestartFault>
-        ensures in_order { IfOk result (λ _. (is_too_late ≡ false) × (self.now.last_serial < LAST)) }
-        ensures fault { IfErr result (λ fault. ((fault ≡ RestartFault.TooLate) × (is_too_late ≡ true))
-            ⊎ ((fault ≡ RestartFault.SerialsSpent) × (is_too_late ≡ false) × (LAST ≤ self.now.last_serial))) }
-    {
-        if is_too_late {
-            return Err(RestartFault::TooLate);
-        }
-        if self.last_serial >= LAST {
-            return Err(RestartFault::SerialsSpent);
-        }
-        Ok(())
     }
 
     /// Starts a timer that expires at the tick `deadline`, as `start_at`, in place of the timer with exactly this
@@ -536,4 +525,18 @@ fn drop_due<W: Wheel>(wheel: &mut W)
     ensures counts { W.counts wheel.new ≡ W.counts wheel.old }
 {
     while wheel.expire().is_some() {}
+}
+
+/// Why a restart is refused that finds its timer, if a start with its interval or deadline is.
+#[inline(always)]
+fn restart_fault(fault: StartFault) -> RestartFault
+    ensures { (handle : Handle) → (interval : ℕ) → (s : TimersState) → IsAt handle s → WhyNotStarted interval s fault
+        → WhyNotRestarted handle interval s result }
+{
+    match fault {
+        StartFault::ZeroInterval => RestartFault::ZeroInterval,
+        StartFault::TooLate => RestartFault::TooLate,
+        // No start is refused for memory before it allocates.
+        StartFault::SerialsSpent | StartFault::OutOfMemory => RestartFault::SerialsSpent,
+    }
 }

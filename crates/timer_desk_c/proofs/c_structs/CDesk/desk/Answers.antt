@@ -1,6 +1,6 @@
 use Rattle.timer_ffi_base.proofs.CellLaws.{unchanged}
 use Rattle.timer_desk_c.specs.Frames.{with_desk}
-use Rattle.timer_desk_c.specs.DeskLent.{as_cell}
+use Rattle.timer_desk_c.specs.Lent.{desk_as_cell}
 use Rattle.timer_desk_c.proofs.c_structs.CDesk.desk.Goals as goal
 
 pub returns : goal.returns
@@ -10,7 +10,7 @@ returns c =
       record {
         writes_back = tt;
         held = lent.held;
-        same = unchanged c.get.result (as_cell c.args.self.now.slot) (with_desk c.args.self.now) lent.held;
+        same = unchanged c.get.result (desk_as_cell c.args.self.now.slot) (with_desk c.args.self.now) lent.held;
         none = lent.none;
       },
     )

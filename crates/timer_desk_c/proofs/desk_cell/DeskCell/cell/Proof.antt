@@ -2,7 +2,7 @@
 use Rattle.std.proofs.Common.{refl}
 use prog.Wp.{WpFn}
 use Rattle.timer_ffi_base.proofs.Casts.{Cast, casts}
-use Rattle.timer_desk_c.specs.DeskLent.{the_desk_slot, the_desk, as_cell, as_slot}
+use Rattle.timer_desk_c.specs.Lent.{the_desk_slot, the_desk, desk_as_cell, cell_as_desk}
 use Rattle.timer_desk_c.specs.contracts.desk_cell.DeskCell.cell.Key.{name}
 use Rattle.timer_desk_c.proofs.desk_cell.DeskCell.cell.Statement.{statement}
 use Rattle.timer_desk_c.proofs.desk_cell.DeskCell.cell.Code as code
@@ -11,8 +11,8 @@ abbrev slot_cast : Cast
 slot_cast = record {
   S = the_desk_slot;
   R = the_desk;
-  as_cell = as_cell;
-  as_slot = as_slot;
+  as_cell = desk_as_cell;
+  as_slot = cell_as_desk;
   one = tt;
   words = λ us b o. refl;
   there = λ s us. refl;

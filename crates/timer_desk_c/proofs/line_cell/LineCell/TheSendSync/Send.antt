@@ -6,7 +6,7 @@ use Rattle.std_alloc.proofs.SendSync.{quiet}
 use Rattle.timer_desk_c.proofs.line.Line.TheSendSync as line'
 use Rattle.timer_ffi_base.specs.Cells.{is_open}
 use Rattle.timer_ffi_base.proofs.CellLaws.{keyless}
-use Rattle.timer_desk_c.specs.LineLent.{the_line}
+use Rattle.timer_desk_c.specs.Lent.{the_line}
 use Rattle.timer_desk_c.specs.contracts.line_cell.LineCell.{the_row, the_type}
 
 pub send : IsSend the_row

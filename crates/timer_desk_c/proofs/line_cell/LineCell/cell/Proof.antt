@@ -2,7 +2,7 @@
 use Rattle.std.proofs.Common.{refl}
 use prog.Wp.{WpFn}
 use Rattle.timer_ffi_base.proofs.Casts.{Cast, casts}
-use Rattle.timer_desk_c.specs.LineLent.{the_line_slot, the_line, as_cell, as_slot}
+use Rattle.timer_desk_c.specs.Lent.{the_line_slot, the_line, line_as_cell, cell_as_line}
 use Rattle.timer_desk_c.specs.contracts.line_cell.LineCell.cell.Key.{name}
 use Rattle.timer_desk_c.proofs.line_cell.LineCell.cell.Statement.{statement}
 use Rattle.timer_desk_c.proofs.line_cell.LineCell.cell.Code as code
@@ -11,8 +11,8 @@ abbrev slot_cast : Cast
 slot_cast = record {
   S = the_line_slot;
   R = the_line;
-  as_cell = as_cell;
-  as_slot = as_slot;
+  as_cell = line_as_cell;
+  as_slot = cell_as_line;
   one = tt;
   words = λ us b o. refl;
   there = λ s us. refl;
