@@ -15,15 +15,13 @@ ghost use Rattle.timer_total.specs.Ticks.{IsTakenBy, IsAdvanced};
 ghost use Rattle.timer_wheels.specs.TieredWheel.{counts_at_advance, is_smooth};
 
 use crate::c_timers::CTimers;
-use crate::calls::{
-    from_c_handle, restart_in_smooth, restart_status, start_status, to_c_expired, to_c_handle,
-};
 use crate::const_timers::ConstTimers;
+use crate::conversions::{from_c_handle, restart_status, start_status, to_c_expired, to_c_handle};
 use crate::layout::{CHandle, Counts, Expired};
 use crate::status::{
     CLOCK_END, DUE, NEVER, NO_MEMORY, NOT_OPEN, NOT_PENDING, OK, OPEN, VERSION_NUMBER,
 };
-use crate::wheel_maker::wheel_of;
+use crate::wheel_maker::{CWheel, wheel_of};
 use std::alloc::Global;
 use timer_total::{AdvanceFault, Timers};
 
@@ -182,6 +180,35 @@ pub extern "C" fn timers_restart(
     };
     if timers.wheel().is_smooth() {
         return restart_in_smooth(timers, handle, interval, action, restarted);
+    }
+    match timers.restart(from_c_handle(handle), interval, action) {
+        Ok(made) => {
+            *restarted = to_c_handle(made);
+            OK
+        }
+        Err(fault) => restart_status(fault),
+    }
+}
+
+/// A restart in a smooth wheel, out of line.
+// So the restart in a hierarchy has no call, for which a compiler would save registers at its start. The body stands twice:
+// what a compiler knows of the wheel makes of it two.
+#[inline(never)]
+fn restart_in_smooth(
+    timers: &mut Timers<CWheel>,
+    handle: CHandle,
+    interval: u64,
+    action: u64,
+    restarted: &mut CHandle,
+) -> u32
+    requires { is_smooth timers.old.wheel.layout ≡ true }
+    ensures restarted { result ≡ OK → IsRestarted handle interval action timers.old timers.new restarted.new }
+    ensures refused { 0 < result → IsRestartRefusal handle interval timers.old result }
+    ensures kept { 0 < result → (timers.new ≡ timers.old) × (restarted.new ≡ restarted.old) }
+{
+    // Never taken: but a compiler that knows so leaves out the hierarchy.
+    if !timers.wheel().is_smooth() {
+        return NOT_PENDING;
     }
     match timers.restart(from_c_handle(handle), interval, action) {
         Ok(made) => {

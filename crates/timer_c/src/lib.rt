@@ -4,7 +4,7 @@
 //! the rules of that header; if it can't be done it returns a status that says why, and nothing changes.
 //!
 //!     exports      the functions that C calls: each checks the struct, if it takes one, and then does the call
-//!     calls        what they share: C's statuses and structs of what timer_total takes and returns
+//!     conversions  what timer_total takes and returns, as C's statuses and structs
 //!     wheel_maker  C's wheel, and how one is made by C's number for its table
 //!     c_timers     `struct timers`: the slot, and the last serial while the slot is empty
 //!     const_timers `struct timers` behind a const pointer, whose timers can only be read
@@ -14,8 +14,8 @@
 #![tactic(auto)]
 
 mod c_timers;
-mod calls;
 mod const_timers;
+mod conversions;
 mod exports;
 mod layout;
 mod owned_cell;
