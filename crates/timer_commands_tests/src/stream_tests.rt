@@ -264,8 +264,8 @@ fn a_fault_behind_the_last_byte_is_never_met(rt: HostRuntime) {
     }
 }
 
+// made by tools/facts: all schemes
 static SCHEMES: [Scheme; 5] = [
-    // made by tools/facts: all schemes
     Scheme::Plain,
     Scheme::Hashed,
     Scheme::Hier,
@@ -273,6 +273,7 @@ static SCHEMES: [Scheme; 5] = [
     Scheme::Smooth,
 ];
 
+// by hand
 /// The script of the row `one_timer`, whose text has 40 bytes.
 const ONE_TIMER: &str = "start 0 1 1 7\ntick 1\n";
 
