@@ -110,7 +110,7 @@
  *     loop that holds some 100,000 timers or more, passes a tick or a few at a time, and must not pause.
  *
  *     With TIMERS_WIDE a tick at a multiple of 64 moves all timers of its bucket. That may be all of a million timers.
- *     It then takes 11 ms, and up to 140 ms if they lie in random order in memory. With TIMERS_SMOOTH they move
+ *     It then takes some 10 ms, and some 140 ms if they lie in random order in memory. With TIMERS_SMOOTH they move
  *     earlier, a few at each tick. Let n be the most timers that were held at one time since timers_new or
  *     timers_clear. Then
  *
