@@ -73,11 +73,32 @@ ERRORS = said("errors", "line")
 OF_ANY = dict(zip(["TOO_LONG", "READ_FAILED", "WRITE_FAILED", "OUT_OF_MEMORY"], ERRORS[1:5]))
 TOO_LONG, READ_FAILED, WRITE_FAILED, OUT_OF_MEMORY = (f"{line}\n".encode() for line in OF_ANY.values())
 
+
+def strings(words):
+    return ", ".join(f'"{word}"' for word in words)
+
+
+def table_of(scheme):
+    """The table of wheels of a scheme. Empty: it has none."""
+    return TABLES.get(scheme.get("table"), {})
+
+
+def rows_of_tables():
+    """An array of C, by schemes: radices, revolutions, and the names of the wheels."""
+    for name, scheme in SCHEMES.items():
+        if table := table_of(scheme):
+            radices, hands = ", ".join(map(str, table["radices"])), strings(scheme.get("hands", [])) or "0"
+            yield f"[{name.upper()}] = {{{{{radices}}}, {table.get('revolutions', 1)}, {{{hands}}}}}"
+
+
 if __name__ == "__main__":
     for name, value in {**LIMITS, **{f"EXIT_{name}": end["status"] for name, end in OPTIONS["exit"].items()}}.items():
         print(f"#define {name} UINT64_C({value})")
-    for name, words in {"REASONS_OF_A_LINE": said("check", "word"), "CLOCK_HANDS": SCHEMES["clock"]["hands"]}.items():
-        print(f"#define {name}", ", ".join(f'"{word}"' for word in words))
+    print("#define REASONS_OF_A_LINE", strings(said("check", "word")))
+    print("#define SCHEMES_OF_THE_PROGRAM", ", ".join(map(str.upper, SCHEMES)))
+    rows = (f'row("{name}", {name.upper()}, {table_of(scheme).get("last", "LAST")})' for name, scheme in SCHEMES.items())
+    print("#define EACH_SCHEME(row)", " ".join(rows))
+    print("#define TABLES_OF_SCHEMES", ", ".join(rows_of_tables()))
     forms = (f'{{"{word}", {{{", ".join([*(chr(34) + name + chr(34) for name in FIELDS[word]), "0"])}}}}}' for word in WORDS["script"])
     print("#define FORMS_OF_A_LINE", ", ".join(forms))
     for scheme, place in PLACES.items():

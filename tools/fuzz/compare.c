@@ -29,10 +29,15 @@ struct run {
 #define DEFAULTS {MAX_CLIENTS, DEFAULT_CAPACITY, 0, LAST, HIER, 0, 0, 0, ALL}
 #define NEAR_THE_END {MAX_CLIENTS, DEFAULT_CAPACITY, 8639000, LAST_OF_CLOCK, CLOCK, 0, 0, 0, ALL}
 
+/* A scheme with the defaults of its options. */
+#define OVER(name, scheme, last) \
+	{{"play", "--scheme", name}, {MAX_CLIENTS, DEFAULT_CAPACITY, 0, last, scheme, DEFAULT_SLOTS, 0, 0, ALL}, PLAY}, \
+	{{"show", "--moves", "--counts", "--scheme", name}, \
+	 {MAX_CLIENTS, DEFAULT_CAPACITY, 0, last, scheme, DEFAULT_SLOTS, 1, 1, ALL}, SHOW},
+
 /* Small limits, both ends of the clock, one bucket and many. */
 static const struct run RUNS[] = {
-	{{"play", "--scheme", "plain"}, DEFAULTS, PLAY},
-	{{"play", "--scheme", "hier"}, DEFAULTS, PLAY},
+	EACH_SCHEME(OVER)
 	{{"play", "--scheme", "hashed", "--slots", "1", "--capacity", "3", "--clients", "2"},
 	 {2, 3, 0, LAST, HASHED, 1, 0, 0, ALL}, PLAY},
 	{{"play", "--scheme", "hier", "--first-tick", "1152921504606846900"},
@@ -41,7 +46,6 @@ static const struct run RUNS[] = {
 	 {MAX_CLIENTS, DEFAULT_CAPACITY, 4090, LAST, HASHED, 8, 0, 0, ALL}, PLAY},
 	{{"play", "--scheme", "clock", "--first-tick", "8639000", "--capacity", "5"},
 	 {MAX_CLIENTS, 5, 8639000, LAST_OF_CLOCK, CLOCK, 0, 0, 0, ALL}, PLAY},
-	{{"play", "--scheme", "smooth"}, DEFAULTS, PLAY},
 	{{"serve"}, DEFAULTS, SERVE},
 	{{"serve", "--keep-going", "--scheme", "plain"}, DEFAULTS, KEEP_GOING},
 	{{"serve", "--wakeups"}, DEFAULTS, WAKEUPS},
@@ -52,11 +56,9 @@ static const struct run RUNS[] = {
 	{{"serve", "--wakeups", "--keep-going"}, DEFAULTS, KEEP_GOING_WAKEUPS},
 	{{"show"}, DEFAULTS, SHOW},
 	{{"show", "--counts", "--first-tick", "4000"}, {MAX_CLIENTS, DEFAULT_CAPACITY, 4000, LAST, HIER, 0, 1, 0, ALL}, SHOW},
-	{{"show", "--counts", "--scheme", "clock"}, {MAX_CLIENTS, DEFAULT_CAPACITY, 0, LAST_OF_CLOCK, CLOCK, 0, 1, 0, ALL}, SHOW},
 	{{"show", "--counts", "--scheme", "hashed", "--slots", "5"},
 	 {MAX_CLIENTS, DEFAULT_CAPACITY, 0, LAST, HASHED, 5, 1, 0, ALL}, SHOW},
 	{{"show", "--scheme", "plain"}, {MAX_CLIENTS, DEFAULT_CAPACITY, 0, LAST, PLAIN, 0, 0, 0, ALL}, SHOW},
-	{{"show", "--moves"}, {MAX_CLIENTS, DEFAULT_CAPACITY, 0, LAST, HIER, 0, 0, 1, ALL}, SHOW},
 	{{"show", "--moves", "--counts", "--scheme", "clock", "--first-tick", "8600000"},
 	 {MAX_CLIENTS, DEFAULT_CAPACITY, 8600000, LAST_OF_CLOCK, CLOCK, 0, 1, 1, ALL}, SHOW},
 	{{"show", "--moves", "--scheme", "hashed", "--slots", "8"},

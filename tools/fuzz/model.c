@@ -249,7 +249,7 @@ static void ticks(struct facility *f, uint64_t count, struct text *out)
 	uint64_t tick = f->now + (count < left ? count : left);
 	if (f->is.scheme == SMOOTH)
 		pass_smooth(f, tick, out);
-	else
+	else if (revolutions_of(f->is.scheme) > 0)
 		count_ticks(f, tick);
 	for (uint64_t stop; f->is.moves && (stop = next_stop(f, tick)) <= tick; f->now = stop) {
 		expire(f, stop, out);

@@ -7,9 +7,9 @@
 /* The page's numbers and words, some as lists in the order of their table, made by tools/formats.py. */
 #include "formats.h"
 
-enum scheme { HIER, PLAIN, HASHED, CLOCK, SMOOTH };
+enum scheme { SCHEMES_OF_THE_PROGRAM };
 
-/* Of a smooth wheel. */
+/* At most so many wheels has a table; a smooth wheel has so many. */
 enum { WHEELS = 10 };
 
 /* Which timers `show` shows, and at which ticks. */
@@ -54,6 +54,9 @@ enum form { PLAY, SERVE, KEEP_GOING, WAKEUPS, KEEP_GOING_WAKEUPS, SHOW, CHECK };
 
 /* Adds a line. */
 void add(struct text *text, const char *format, ...);
+
+/* How many revolutions of its wheels have slots: 0 if the scheme has no wheels, and 2 if timers move early. */
+int revolutions_of(enum scheme scheme);
 
 /* How many ticks a slot of a wheel is; and in which wheel a pending timer is. */
 uint64_t unit_of(enum scheme scheme, int wheel);

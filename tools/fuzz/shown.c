@@ -8,13 +8,24 @@ struct place {
 	uint64_t bucket, serial, rounds, from;
 };
 
-/* How many ticks a slot of each wheel is, from the lowest. */
-static const uint64_t CLOCK_UNITS[] = {1, 60, 3600, 86400, 8640000};
-static const char *const HANDS[] = {CLOCK_HANDS};
+/* Of a scheme with wheels: how many slots each has in a revolution, from the lowest; and the names of a clock's hands. */
+static const struct {
+	uint64_t radices[WHEELS];
+	int revolutions;
+	const char *hands[WHEELS];
+} TABLES[] = {[PLAIN] = {{0}, 0, {0}}, TABLES_OF_SCHEMES};
+
+int revolutions_of(enum scheme scheme)
+{
+	return TABLES[scheme].revolutions;
+}
 
 uint64_t unit_of(enum scheme scheme, int wheel)
 {
-	return scheme == CLOCK ? CLOCK_UNITS[wheel] : UINT64_C(1) << 6 * wheel;
+	uint64_t ticks = 1;
+	while (wheel-- > 0)
+		ticks *= TABLES[scheme].radices[wheel];
+	return ticks;
 }
 
 int wheel_of(enum scheme scheme, uint64_t now, uint64_t deadline)
@@ -35,8 +46,8 @@ static void name_bucket(struct text *text, enum scheme scheme, uint64_t bucket)
 	int wheel = (int)(bucket >> 8), slot = (int)(bucket & 255);
 	if (scheme == HASHED)
 		add(text, HASHED_PLACE, (int)bucket);
-	else if (scheme == CLOCK)
-		add(text, "%s %d", HANDS[wheel], slot);
+	else if (TABLES[scheme].hands[0])
+		add(text, "%s %d", TABLES[scheme].hands[wheel], slot);
 	else
 		add(text, HIER_PLACE, wheel, slot);
 }
@@ -110,7 +121,7 @@ static void show_buckets(struct text *text, const struct options *is, uint64_t n
 
 uint64_t next_move(enum scheme scheme, uint64_t now, uint64_t deadline)
 {
-	if (scheme != HIER && scheme != CLOCK)
+	if (revolutions_of(scheme) != 1)
 		return deadline;
 	return deadline - deadline % unit_of(scheme, wheel_of(scheme, now, deadline));
 }
@@ -148,9 +159,9 @@ static void show_all(struct text *text, const struct options *is, const struct c
                      const struct timer *pending, size_t len)
 {
 	add(text, "  now %" PRIu64 "\n", now);
-	if (is->counts && (is->scheme == HIER || is->scheme == CLOCK))
+	if (is->counts && revolutions_of(is->scheme) == 1)
 		add(text, "  starts %" PRIu64 " moves %" PRIu64 " visits %" PRIu64 "\n", counts->starts, counts->moves, counts->visits);
-	if (is->counts && is->scheme == SMOOTH)
+	if (is->counts && revolutions_of(is->scheme) == 2)
 		add(text, "  starts %" PRIu64 " moves %" PRIu64 "\n", counts->starts, counts->moves);
 	if (is->scheme == PLAIN)
 		show_plain(text, pending, len);
