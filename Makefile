@@ -102,7 +102,7 @@ rpm:
 
 bench: lib
 	cd crates/timer_bench && rt lib
-	INCREMENTAL=1 tools/lower timer_bench bench/build/product -mbranches-within-32B-boundaries
+	INCREMENTAL=out/incremental tools/lower timer_bench bench/build/product -mbranches-within-32B-boundaries
 	$(MAKE) -C bench run PRODUCT=$(CURDIR)/bench/build/product/object PRODUCT_HEAP=$(KIT)c/liblibc_c.a \
 	    TIMERS_C=$(CURDIR)/build/lib/libtimers.a OPTIONS="$(OPTIONS)"
 	$(MAKE) bench-lines
