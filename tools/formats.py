@@ -1,4 +1,4 @@
-"""What facts/ says, for the tools that need it. Run, it prints a header for tools/fuzz."""
+"""What facts/ and the table COSTS of timers.h say, for the tools that need it. Run, it prints a header for tools/fuzz."""
 import math
 import os
 import re
@@ -72,6 +72,18 @@ PLACES = {name: scheme["place"] for name, scheme in SCHEMES.items() if "place" i
 ERRORS = said("errors", "line")
 OF_ANY = dict(zip(["TOO_LONG", "READ_FAILED", "WRITE_FAILED", "OUT_OF_MEMORY"], ERRORS[1:5]))
 TOO_LONG, READ_FAILED, WRITE_FAILED, OUT_OF_MEMORY = (f"{line}\n".encode() for line in OF_ANY.values())
+
+
+# How a row of COSTS begins whose time grows with the timers that are pending or were.
+GROWING = ("each timer that is held", "the most timers that were held")
+
+
+def costs():
+    """What each call of timers.h takes time for, by its name without timers_."""
+    with open(os.path.join(TOP, "include", "timers.h"), encoding="utf-8") as file:
+        table = re.search(r"^ \* COSTS\n(.*?)^ \* WHICH TABLE\n", file.read(), re.M | re.S)[1]
+    rows = re.findall(r"^ \* {9}([a-z_, ]+?)  +(\S.*)$", table, re.M)
+    return {name: says for names, says in rows for name in names.split(", ")}
 
 
 def strings(words):

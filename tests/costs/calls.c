@@ -19,7 +19,7 @@ enum { ROUNDS = 300, NAMES_MOST = 64 };
 
 static struct timers t = TIMERS_INIT;
 static struct timers_handle *handles;
-static uint64_t pending, failed, later;
+static uint64_t pending, failed, later, rounds;
 static char shape;
 
 static struct longest {
@@ -148,36 +148,34 @@ static void cost_ticks(void)
 }
 
 /* Some timer, and in order the first one. */
-static uint64_t chosen(int round)
+static uint64_t chosen(void)
 {
 	if (shape == 'o')
-		return 2 * (uint64_t)round;
-	return round < 4 ? (pending - 1) * (round % 2) : below(pending);
+		return 2 * rounds;
+	return rounds < 4 ? (pending - 1) * (rounds % 2) : below(pending);
 }
 
 /* The first timer is pushed back, so that the first deadline is that of the next one, and no walk finds it. */
-static void cost_order(int round)
+static void cost_order(void)
 {
-	const uint64_t next = (UINT64_C(1) << 48) + 2 * (uint64_t)round + 2;
+	const uint64_t next = (UINT64_C(1) << 48) + 2 * rounds + 2;
 
 	if (shape != 'o')
 		return;
-	OK(timers_restart_at(&t, handles[2 * round + 1], far_deadline(), 8, &handles[2 * round + 1]));
+	OK(timers_restart_at(&t, handles[2 * rounds + 1], far_deadline(), 8, &handles[2 * rounds + 1]));
 	COST(next, failed += timers_next(&t) != next);
 	COST(find_next, failed += timers_find_next(&t) != next);
 }
 
 static void cost_rounds(void)
 {
-	int round;
-
-	for (round = 0; round < ROUNDS; round++) {
-		struct timers_handle *const handle = &handles[chosen(round)];
+	for (rounds = 0; rounds < ROUNDS; rounds++) {
+		struct timers_handle *const handle = &handles[chosen()];
 
 		cost_starts(handle);
 		cost_reads(*handle);
 		cost_next(handle);
-		cost_order(round);
+		cost_order();
 		cost_expiry();
 		cost_ticks();
 	}
