@@ -65,23 +65,25 @@ export class Timers<T = unknown> {
   constructor(first?: number);
   [Symbol.dispose](): void;
   // made by tools/facts: calls in JavaScript
-  /** Starts a timer that expires so many ticks after `now`, 1 or more. */
+  /** Starts a timer that expires so many ticks after `now`, 1 or more, and returns its handle. */
   start(interval: number, value: T): Handle;
-  /** Starts a timer that expires at this tick. One that is not after `now` has expired, and waits to be taken. */
+  /** Starts a timer that expires at this tick, and returns its handle. One not after `now` has expired, and waits to be taken. */
   startAt(deadline: number, value: T): Handle;
-  /** Stops the timer, and starts another in its place. Without a value it has the same. The old handle is dead. */
+  /** Stops the timer, starts another in its place, by default with its value, and returns the new handle. The old one is dead. */
   restart(handle: Handle, interval: number, value?: T): Handle;
+  /** Does the same as `restart`, for a timer that expires at this tick, as by `startAt`. */
   restartAt(handle: Handle, deadline: number, value?: T): Handle;
-  /** Restarts the timer with this handle, or starts one if there is none. */
+  /** Restarts the timer for this tick, or starts one if the handle is dead, `null` or `undefined`. Returns the new handle. */
   setAt(handle: Handle | null | undefined, deadline: number, value: T): Handle;
   /** Stops the timer, and returns its value. */
   stop(handle: Handle): T;
   /** Whether a timer, pending or expired and not yet taken, has this handle. */
   has(handle: Handle): boolean;
+  /** The timer with this handle, pending or expired. Refused with NOT_PENDING if there is none. */
   look(handle: Handle): Timer<T>;
-  /** Takes the next timer that is due by this tick, by default `now`, and passes the ticks up to its deadline. */
+  /** Takes the next timer due by this tick, by default `now`, and passes the ticks up to its deadline. `undefined` if none is. */
   take(tick?: number): Timer<T> | undefined;
-  /** Takes all that are due by this tick, one by one. What one of them stops does not come out. */
+  /** An iterator that takes all timers due by this tick, by default `now`, one by one. One stopped meanwhile does not come out. */
   expired(tick?: number): Generator<Timer<T>, void, undefined>;
   /** Passes ticks up to this one, or to the first at which a timer expires. Returns the present tick. */
   advanceTo(tick: number): number;

@@ -114,30 +114,31 @@ export class Timers {
     forgotten.register(this, at, this);
   }
 
-  /** Starts a timer that expires so many ticks after `now`, 1 or more.
+  /** Starts a timer that expires so many ticks after `now`, 1 or more, and returns its handle.
    * @type {(interval: number, value: T) => Handle} */
   start(interval, value) {
     const ticks = this.#interval(interval);
     return this.#own(value, (slot) => c.timers_start(this.#at, ticks, slot, made));
   }
-  /** Starts a timer that expires at this tick. One that is not after `now` has expired, and waits to be taken.
+  /** Starts a timer that expires at this tick, and returns its handle. One not after `now` has expired, and waits to be taken.
    * @type {(deadline: number, value: T) => Handle} */
   startAt(deadline, value) {
     const tick = whole(deadline, "the deadline");
     return this.#own(value, (slot) => c.timers_start_at(this.#at, tick, slot, made));
   }
-  /** Stops the timer, and starts another in its place. Without a value it has the same. The old handle is dead.
+  /** Stops the timer, starts another in its place, by default with its value, and returns the new handle. The old one is dead.
    * @type {(handle: Handle, interval: number, value?: T) => Handle} */
   restart(handle, interval, ...value) {
     const ticks = this.#interval(interval);
     return this.#keep(handle, value, (slot) => c.timers_restart(this.#at, given, ticks, slot, made));
   }
-  /** @type {(handle: Handle, deadline: number, value?: T) => Handle} */
+  /** Does the same as `restart`, for a timer that expires at this tick, as by `startAt`.
+   * @type {(handle: Handle, deadline: number, value?: T) => Handle} */
   restartAt(handle, deadline, ...value) {
     const tick = whole(deadline, "the deadline");
     return this.#keep(handle, value, (slot) => c.timers_restart_at(this.#at, given, tick, slot, made));
   }
-  /** Restarts the timer with this handle, or starts one if there is none.
+  /** Restarts the timer for this tick, or starts one if the handle is dead, `null` or `undefined`. Returns the new handle.
    * @type {(handle: Handle | null | undefined, deadline: number, value: T) => Handle} */
   setAt(handle, deadline, value) {
     if (handle != null && this.has(handle)) return this.restartAt(handle, deadline, value);
@@ -157,20 +158,21 @@ export class Timers {
     store_handle(handle);
     return c.timers_look(this.#at, given, expired) === Status.OK;
   }
-  /** @type {(handle: Handle) => Timer<T>} */
+  /** The timer with this handle, pending or expired. Refused with NOT_PENDING if there is none.
+   * @type {(handle: Handle) => Timer<T>} */
   look(handle) {
     store_handle(handle);
     check(c.timers_look(this.#at, given, expired));
     return { deadline: load(expired), serial: load(expired + 8), value: this.#values[load(expired + 16)] };
   }
 
-  /** Takes the next timer that is due by this tick, by default `now`, and passes the ticks up to its deadline.
+  /** Takes the next timer due by this tick, by default `now`, and passes the ticks up to its deadline. `undefined` if none is.
    * @type {(tick?: number) => Timer<T> | undefined} */
   take(tick = this.now) {
     if (!c.timers_take(this.#at, whole(tick, "the tick"), expired)) return undefined;
     return { deadline: load(expired), serial: load(expired + 8), value: this.#release(load(expired + 16)) };
   }
-  /** Takes all that are due by this tick, one by one. What one of them stops does not come out.
+  /** An iterator that takes all timers due by this tick, by default `now`, one by one. One stopped meanwhile does not come out.
    * @type {(tick?: number) => Generator<Timer<T>, void, undefined>} */
   *expired(tick = this.now) {
     for (let timer = this.take(tick); timer; timer = this.take(tick)) yield timer;
