@@ -68,6 +68,13 @@ static void *read_all(void *unused)
 	while (timers_each(t, &cursor, &handle, &e))
 		sum += e.action;
 	wrong += sum != (uint64_t)TIMERS * (TIMERS - 1) / 2;
+	/* made by tools/facts: reads that write nothing */
+	(void)timers_has_due(t), (void)timers_has_due(&all->later);
+	(void)timers_now(t), (void)timers_now(&all->later);
+	(void)timers_len(t), (void)timers_len(&all->later);
+	(void)timers_wakeup(t), (void)timers_wakeup(&all->later);
+	(void)timers_next(t), (void)timers_next(&all->later);
+	/* by hand, with what some of them return */
 	wrong += timers_now(t) != 10 || !timers_has_due(t) || timers_len(t) >= TIMERS;
 	wrong += timers_wakeup(t) != 10 || timers_next(t) != 10;
 	/* nothing is due, and all stand in one bucket of a high wheel: what comes first is found by a walk */
