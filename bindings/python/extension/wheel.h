@@ -655,37 +655,39 @@ static PyMethodDef timers_methods[] = {
 	  "One that is not after now() is due at once: it is taken after those that have expired already." },
 	{ "restart", FAST(timers_object_restart), /* -> Handle */
 	  "restart($self, handle, interval, action=..., /)\n--\n\n"
-	  "Stops the timer with this handle, starts another in its place, and returns the new handle.\n\n"
-	  "The old handle names no timer any more. Without an action the new timer has that of the old one." },
+	  "Stops the timer with this handle, starts another in its place, and returns the new handle. Without an action\n"
+	  "the new timer has that of the old one. The old handle names no timer any more." },
 	{ "restart_at", FAST(timers_object_restart_at), /* -> Handle */
 	  "restart_at($self, handle, deadline, action=..., /)\n--\n\n"
 	  "The same as restart, for a timer that expires at this tick, or at once, as by start_at." },
 	{ "set_at", FAST(timers_object_set_at), /* -> Handle */
 	  "set_at($self, handle, deadline, action, /)\n--\n\n"
-	  "Restarts the timer with this handle for this tick, or starts one if there is none. Returns its handle.\n\n"
+	  "Restarts the timer with this handle for this tick, or starts one if the handle is dead or None. Returns the new\n"
+	  "handle.\n\n"
 	  "Before the first start the handle is None, which names no timer. The old handle names none any more." },
 	{ "stop", timers_object_stop, METH_O, /* -> _T */
 	  "stop($self, handle, /)\n--\n\n"
-	  "Stops the timer with this handle, pending or expired, and returns its action.\n\n"
-	  "Refused (NOT_PENDING) if the handle is dead or None: also restart, restart_at and look are." },
+	  "Stops the timer with this handle, pending or expired, and returns its action. Refused (NOT_PENDING) if the handle\n"
+	  "is dead or None: also restart, restart_at and look are." },
 	{ "look", timers_object_look, METH_O, /* -> tuple[int, int, _T] */
 	  "look($self, handle, /)\n--\n\n"
 	  "The timer with this handle, pending or expired, as (deadline, serial, action)." },
 	{ "take", timers_object_take, METH_O, /* -> tuple[int, int, _T] | None */
 	  "take($self, tick, /)\n--\n\n"
-	  "Takes the next timer that is due by this tick, and passes the ticks up to its deadline.\n\n"
-	  "Returns it as (deadline, serial, action), or None. After None the ticks up to `tick` have passed, as far\n"
-	  "as the clock has them: one after the last tick counts as the last, while catch_up refuses it. A tick\n"
-	  "before now() is none to pass.\n\n"
+	  "Takes the next timer that is due by this tick, and passes the ticks up to its deadline. Returns it as (deadline,\n"
+	  "serial, action), or None.\n\n"
+	  "After None the ticks up to `tick` have passed, as far as the clock has them: one after the last tick counts\n"
+	  "as the last, while catch_up refuses it. A tick before now() is none to pass.\n\n"
 	  "Don't take by LAST to get what is left. The clock is at its end then, and each later start is refused\n"
 	  "(TOO_LATE), also after clear. An iteration has all timers, and passes no tick." },
 	{ "catch_up", FAST(timers_object_catch_up), /* -> None */
 	  "catch_up($self, now, run=None, /)\n--\n\n"
-	  "Passes the ticks up to `now`, and calls run(deadline, serial, action) for each timer on the way.\n\n"
-	  "Without `run` it calls action(). The timers are taken one at a time: what one of them stops does not come\n"
-	  "out. If a call raises, that timer is taken, and a further catch_up continues. It returns only once nothing\n"
-	  "is due: work that always starts a timer which is due at once keeps it from returning. With a tick before\n"
-	  "now() it does nothing. One after the last tick is refused (TOO_LATE), and nothing was run then." },
+	  "Passes the ticks up to `now`, and calls run(deadline, serial, action) for each timer on the way. Without `run` it\n"
+	  "calls action().\n\n"
+	  "The timers are taken one at a time: what one of them stops does not come out. If a call raises, that timer\n"
+	  "is taken, and a further catch_up continues. It returns only once nothing is due: work that always starts a\n"
+	  "timer which is due at once keeps it from returning. With a tick before now() it does nothing. One after the\n"
+	  "last tick is refused (TOO_LATE), and nothing was run then." },
 	{ "expire", timers_object_expire, METH_NOARGS, /* -> tuple[int, int, _T] | None */
 	  "expire($self, /)\n--\n\n"
 	  "Takes the first of the expired timers, and returns it as (deadline, serial, action), or None." },
@@ -721,8 +723,8 @@ static PyMethodDef timers_methods[] = {
 	  "The present tick." },
 	{ "wakeup", timers_object_wakeup, METH_NOARGS, /* -> int | None */
 	  "wakeup($self, /)\n--\n\n"
-	  "A tick until which nothing expires, at most the next deadline, or None if no timer is held.\n\n"
-	  "For a loop that sleeps. Constant time. At that tick maybe nothing has expired: then ask again." },
+	  "A tick until which nothing expires, at most the next deadline, or None if no timer is held. Constant time.\n\n"
+	  "For a loop that sleeps. At that tick maybe nothing has expired: then ask again." },
 	{ "next", timers_object_next, METH_NOARGS, /* -> int | None */
 	  "next($self, /)\n--\n\n"
 	  "The deadline of the timer that is taken next, exactly, or None if no timer is held.\n\n"
@@ -739,9 +741,8 @@ static PyMethodDef timers_methods[] = {
 	  "What the wheels did since they were made, as (starts, moves, visits)." },
 	{ "close", timers_object_close, METH_NOARGS, /* -> None */
 	  "close($self, /)\n--\n\n"
-	  "Frees all timers, and releases their actions.\n\n"
-	  "From then on each call that starts, stops, looks up or takes timers or passes ticks is refused (NOT_OPEN),\n"
-	  "and so is `with timers`. The others find no timer." },
+	  "Frees all timers, and releases their actions. From then on each call that starts, stops, looks up or takes timers,\n"
+	  "makes room, counts or passes ticks is refused (NOT_OPEN), and so is `with timers`. The others find no timer." },
 	{ "__enter__", timers_object_enter, METH_NOARGS, "The timers themselves. Refused (NOT_OPEN) if they are closed." },
 	{ "__exit__", FAST(timers_object_exit), "Frees all timers, as close." },
 	{ "__reduce__", refuse_copy, METH_NOARGS, "Refused: timers own memory." },
