@@ -13,6 +13,10 @@ try:
     import _testcapi
 except ImportError:
     _testcapi = None
+TABLES = [
+    # made by tools/facts: tables of desks in Python
+    td.WIDE, td.CLOCK, td.SMOOTH, td.SMALL,
+]
 
 
 def refused(status, call, *arguments):
@@ -193,7 +197,7 @@ def numbers_out_of_range():
             else:
                 raise AssertionError(f"not refused: {timers} {requests}")
     assert td.room_for(2**64 - 2, 0) == 2**64 - 1
-    for table in (4, 2**32 - 1):
+    for table in (len(TABLES), 2**32 - 1):
         refused(td.OUT_OF_RANGE, lambda table=table: Desk(1, 1, 1, 1, table=table))
     for clients in (0, td.CLIENTS + 1, 10**11, 2**64 - 1):
         refused(td.OUT_OF_RANGE, lambda clients=clients: Desk(clients, 1, 1, 1))
@@ -237,7 +241,7 @@ def owns_what_it_holds():
     desk.lines.clear()
     del first, owner
     assert desk.line_freed(0) and not desk.line_freed(1)
-    refused(td.OUT_OF_RANGE, lambda: desk.__init__(1, 1, 1, 1, table=4))
+    refused(td.OUT_OF_RANGE, lambda: desk.__init__(1, 1, 1, 1, table=len(TABLES)))
     assert not second.abandoned
     desk.__init__(2, 9, 4, 4)
     assert second.abandoned and not desk.line_freed(0)

@@ -5,11 +5,20 @@ use std::error;
 use std::rc::Rc;
 use std::thread;
 use std::time::Duration;
-use timers::{at_least, Counts, Error, Handle, Refused, Table, Timers, LAST, LAST_OF_CLOCK};
+use timers::{at_least, Counts, Error, Handle, Refused, Table, Timers, LAST_OF_CLOCK};
+
+/// The tables, each with its last tick.
+const TABLES: &[(Table, u64)] = &[
+    // made by tools/facts: tables in tests of Rust
+    (Table::Wide, timers::LAST),
+    (Table::Clock, timers::LAST_OF_CLOCK),
+    (Table::Smooth, timers::LAST),
+    (Table::Small, timers::LAST_OF_SMALL),
+];
 
 #[test]
 fn a_clock_begins_no_later_than_its_last_tick() {
-    for (table, last) in [(Table::Wide, LAST), (Table::Clock, LAST_OF_CLOCK), (Table::Smooth, LAST)] {
+    for &(table, last) in TABLES {
         assert_eq!(Timers::<u8>::with_table(table, last).unwrap().now(), last);
         assert_eq!(Timers::<u8>::with_table(table, last + 1).err(), Some(Error::TooLate));
     }
@@ -166,7 +175,8 @@ fn moves_are_counted() {
 /// At tick 64 the slot of tick 130 is the next one of wheel 1: what was started before moves when it is asked to.
 #[test]
 fn moves_are_made_ahead_of_their_ticks_with_a_smooth_table_alone() {
-    for (table, all) in [(Table::Smooth, 3), (Table::Wide, 0), (Table::Clock, 0), (Table::Small, 0)] {
+    for &(table, _) in TABLES {
+        let all = if table == Table::Smooth { 3 } else { 0 };
         let mut timers = Timers::with_table(table, 0).unwrap();
         for i in 0..3 {
             timers.start(130, i).unwrap();
