@@ -6,6 +6,7 @@ Most lines are such as a client would send, so that timers start, move, expire a
 is wrong in some way. Each script goes to COMPARE, which plays it with every scheme. A script at which they
 differ is kept in FOLDER, and the run ends with status 1. The last line is 'N scripts, M lines'.
 """
+import math
 import os
 import random
 import subprocess
@@ -14,12 +15,13 @@ import time
 
 sys.path.insert(0, os.path.join(os.path.dirname(os.path.abspath(__file__)), ".."))
 sys.dont_write_bytecode = True
-from formats import FIELDS, LIMITS, WORDS, said  # noqa: E402
+from formats import FIELDS, LIMITS, TABLES, WORDS, said  # noqa: E402
 
 LAST, TICKS, MOST = (LIMITS[name] for name in ("LAST", "MAX_TICKS", "MAX_CLIENTS"))
-# Numbers at which something changes.
-EDGES = [0, 1, 2, 59, 60, 63, 64, 65, 3599, 3600, 4095, 4096, 4097, 86400, 262144, TICKS, TICKS + 1]
-EDGES += [LIMITS["LAST_OF_CLOCK"], LAST - 1, LAST]
+# Numbers at which something changes: the ticks of a slot of wheels 1 to 3 of each table, and limits.
+SLOTS = {math.prod(table["radices"][:wheel]) for table in TABLES.values() for wheel in (1, 2, 3)}
+EDGES = [0, 1, 2, *sorted({slot + by for slot in SLOTS for by in (-1, 0, 1)}), TICKS, TICKS + 1, LAST - 1]
+EDGES += [limit for name, limit in LIMITS.items() if name.startswith("LAST")]
 # The words of requests, with how often each is made, of other lines with a number, and of those that are made seldom.
 REQUESTS = {word: 0.23 if "serial" in FIELDS[word] else 0.55 for word in WORDS["script"] if "client" in FIELDS[word]}
 OTHERS = [word for word in WORDS["script"] if FIELDS[word] and word not in REQUESTS]
