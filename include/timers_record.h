@@ -28,9 +28,9 @@
  *     that has passed is due at once in a program, and one tick later in the script. One that expired and was stopped
  *     before it was taken expires in the script. The script has the lowest 60 bits of an action.
  *
- *     Give timers show the program's first tick (--first-tick), the most timers that are pending (--capacity), and
- *     --scheme clock for TIMERS_CLOCK. It plays scripts of any length. tools/wheels_page, in the repository, makes a page
- *     of a shorter one.
+ *     Give timers show the program's first tick (--first-tick), the most timers that are pending (--capacity), and the
+ *     scheme with its table's name, if there is one: --scheme clock for TIMERS_CLOCK. It plays scripts of any length.
+ *     tools/wheels_page, in the repository, makes a page of a shorter one.
  */
 /* SPDX-License-Identifier: MIT OR Apache-2.0 */
 #ifndef TIMERS_RECORD_H
