@@ -5,7 +5,7 @@ import json
 import random
 import time
 
-from formats import parts
+from formats import DRAWN, parts
 from selenium.webdriver.common.action_chains import ActionChains
 from selenium.webdriver.common.by import By
 from selenium.webdriver.common.keys import Keys
@@ -185,7 +185,7 @@ def schemes(reader):
     reader.open(link="#lesson=shown_rounds")
     reader.tab.run("go(play.last - 2)")
     now = reader.tab.value("document.querySelector('#now').textContent")
-    for number in ("7", "1", "clock", "6"):
+    for number in (*(number for number in DRAWN if number != "6"), "6"):
         reader.tab.run(f"$('scheme').value = '{number}'; changeScheme()")
         reader.expect(f"the tick on scheme {number}", reader.tab.value("document.querySelector('#now').textContent"), now)
         reader.tab.run("go(play.last - 3); go(play.last)")

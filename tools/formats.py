@@ -95,6 +95,13 @@ def table_of(scheme):
     return TABLES.get(scheme.get("table"), {})
 
 
+# By schemes: the names of their last ticks, and of hierarchies with a picture the slots of the wheels.
+LASTS = {name: table_of(scheme).get("last", "LAST") for name, scheme in SCHEMES.items()}
+RADICES = {name: table_of(scheme)["radices"] for name, scheme in SCHEMES.items() if {"table", "drawn"} <= set(scheme)}
+# The schemes with a picture, by what addresses of the page call them.
+DRAWN = {scheme["drawn"][0]: name for name, scheme in SCHEMES.items() if "drawn" in scheme}
+
+
 def rows_of_tables():
     """An array of C, by schemes: radices, revolutions, and the names of the wheels."""
     for name, scheme in SCHEMES.items():
@@ -108,7 +115,7 @@ if __name__ == "__main__":
         print(f"#define {name} UINT64_C({value})")
     print("#define REASONS_OF_A_LINE", strings(said("check", "word")))
     print("#define SCHEMES_OF_THE_PROGRAM", ", ".join(map(str.upper, SCHEMES)))
-    rows = (f'row("{name}", {name.upper()}, {table_of(scheme).get("last", "LAST")})' for name, scheme in SCHEMES.items())
+    rows = (f'row("{name}", {name.upper()}, {last})' for name, last in LASTS.items())
     print("#define EACH_SCHEME(row)", " ".join(rows))
     print("#define TABLES_OF_SCHEMES", ", ".join(rows_of_tables()))
     forms = (f'{{"{word}", {{{", ".join([*(chr(34) + name + chr(34) for name in FIELDS[word]), "0"])}}}}}' for word in WORDS["script"])

@@ -253,6 +253,7 @@ function listenToHands() {
     render(shown.step);
   });
   act("apply", apply);
+  $("scheme").append(...Object.entries(CHOICES).map(([value, text]) => make("option", {value}, text)));
   $("scheme").onchange = () => inPlace(changeScheme);
   $("slots").onchange = () => inPlace(changeScheme);
   $("edit").ontoggle = fillHands;

@@ -4,7 +4,6 @@
 //     #scheme=7&script=start+0+1+130+1;tick+64&step=2
 "use strict";
 
-const SCHEMES = {1: "plain", 6: "hashed", 7: "hier", clock: "clock"};
 const NUMBERS = {slots: "--slots", first: "--first-tick", clients: "--clients", capacity: "--capacity"};
 const MAX_LINK = 6000; // bytes of a script that is written into the address
 

@@ -1,8 +1,5 @@
-// The schemes, their wheels, and the digits of a tick.
+// The schemes, their wheels, and the digits of a tick. lessons.js has RADICES, HANDS and LASTS.
 "use strict";
-
-const HANDS = ["second", "minute", "hour", "day"];
-const LAST = 2n ** 60n - 1n;
 
 function keyOf(wheel, slot) { return wheel * 65536 + slot; }
 
@@ -28,7 +25,7 @@ class Scheme {
     this.slots = Number(this.option("--slots", "256"));
     this.firstTick = BigInt(this.option("--first-tick", "0"));
     this.wheels = this.made();
-    this.isHierarchy = this.name === "hier" || this.name === "clock";
+    this.isHierarchy = this.name in RADICES;
   }
 
   // The value of an option, written `--name value` or `--name=value`.
@@ -43,14 +40,14 @@ class Scheme {
     if (this.name === "hashed") return [{name: "the wheel", place: "slot S", slots: this.slots, ticks: 1n}];
     const isClock = this.name === "clock";
     let ticks = 1n;
-    return (isClock ? [60, 60, 24, 100] : Array(10).fill(64)).map((slots, k) => {
+    return RADICES[this.name].map((slots, k) => {
       const wheel = {name: isClock ? HANDS[k] : `wheel ${k}`, slots, ticks};
       ticks *= BigInt(slots);
       return {...wheel, place: isClock ? `${HANDS[k]} S` : `wheel ${k} slot S`};
     });
   }
 
-  get last() { return this.name === "clock" ? 8639999n : LAST; }
+  get last() { return BigInt(LASTS[this.name]); }
 
   // The key of a place that `timers show` names: 'wheel 1 slot 2', 'slot 2', 'minute 15' or 'pending'.
   key(name) {

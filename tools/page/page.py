@@ -3,7 +3,8 @@ import json
 import os
 import re
 
-import formats
+from formats import DRAWN, FIELDS, LASTS, LIMITS, RADICES, SCHEMES, reasons
+from schemes import HANDS
 
 PAGES = os.path.join(os.path.dirname(os.path.abspath(__file__)), "../../docs/pages")
 
@@ -26,12 +27,15 @@ def lesson(script, name):
 
 
 def data(scripts):
-    """The file lessons.js: scripts, of which the first is shown at first, and words of docs/formats.md."""
+    """The file lessons.js: scripts, of which the first is shown at first, and what facts/ says."""
     names = [os.path.basename(script.path) for script in scripts]
     numbered = [f"{name}-{at}" if names.count(name) > 1 else name for at, name in enumerate(names, 1)]
     rows = [json.dumps(lesson(*pair), ensure_ascii=True, separators=(",", ":")) for pair in zip(scripts, numbered)]
+    told = {"REASONS": reasons(), "FIELDS": FIELDS, "RADICES": RADICES, "HANDS": HANDS, "SCHEMES": DRAWN}
+    told["LASTS"] = {name: str(LIMITS[last]) for name, last in LASTS.items()}
+    told["CHOICES"] = dict(SCHEMES[name]["drawn"] for name in DRAWN.values())
+    words = "".join(f"const {name} = {json.dumps(value)};\n" for name, value in told.items())
     # Within a script element the text may not end it, nor open a comment.
-    words = f"const REASONS = {json.dumps(formats.reasons())};\nconst FIELDS = {json.dumps(formats.FIELDS)};\n"
     return "const LESSONS = [\n" + ",\n".join(rows).replace("<", "\\u003c") + "\n];\n" + words
 
 

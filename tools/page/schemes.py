@@ -2,7 +2,7 @@
 import re
 from dataclasses import dataclass
 
-from formats import OPTIONS, SCHEMES, TABLES
+from formats import DRAWN, OPTIONS, RADICES, SCHEMES, TABLES
 
 HANDS = SCHEMES["clock"]["hands"]
 
@@ -27,10 +27,10 @@ class Scheme:
         return (HANDS.index(word), numbers[0]) if word in HANDS else tuple([0, 0, *numbers][-2:])
 
     def is_hierarchy(self):
-        return self.name in ("hier", "clock")
+        return self.name in RADICES
 
     def is_drawn(self):
-        return SCHEMES[self.name].get("drawn", True)
+        return self.name in DRAWN.values()
 
     def digit(self, wheel, tick):
         return tick // self.wheels[wheel].ticks % self.wheels[wheel].slots

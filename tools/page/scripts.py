@@ -3,8 +3,11 @@ import os
 import random
 from dataclasses import dataclass, field
 
+from formats import DRAWN, LIMITS
+
 HASHED = ["--scheme", "hashed", "--slots"]
-SCHEMES = [["--scheme", "plain"], [*HASHED, "8"], [*HASHED, "65536"], [], ["--scheme", "clock"]]
+SCHEMES = [["--scheme", name] for name in DRAWN.values() if name not in ("hashed", "hier")]
+SCHEMES += [[*HASHED, "8"], [*HASHED, "65536"], []]
 BAD = {
     "two_spaces": b"start 0 1 5 7\nstart 0  2 5 7\ntick 1\n",
     "carriage_return": b"start 0 1 5 7\r\n",
@@ -13,7 +16,7 @@ BAD = {
     "leading_zero": b"start 0 01 5 7\n",
     "upper_case": b"tick 3\nTICK 3\n",
     "no_tick": b"tick 0\n",
-    "too_large": b"start 0 1 1152921504606846976 7\n",
+    "too_large": b"start 0 1 %d 7\n" % (LIMITS["LAST"] + 1),
     "too_few": b"start 0 1 5\n",
     "markup": b"start 0 1 5 7\n</script><b><script src=\"model.js\"></script>&amp;\n",
     "not_text": b"start 0 1 5 7\n\xff\x00\x01\n",
