@@ -185,8 +185,9 @@ def schemes(reader):
     reader.open(link="#lesson=shown_rounds")
     reader.tab.run("go(play.last - 2)")
     now = reader.tab.value("document.querySelector('#now').textContent")
-    for number in (*(number for number in DRAWN if number != "6"), "6"):
+    for number, name in sorted(DRAWN.items(), key=lambda choice: choice[0] == "6"):
         reader.tab.run(f"$('scheme').value = '{number}'; changeScheme()")
+        reader.expect(f"scheme {number}", reader.tab.value("play.scheme.name"), name)
         reader.expect(f"the tick on scheme {number}", reader.tab.value("document.querySelector('#now').textContent"), now)
         reader.tab.run("go(play.last - 3); go(play.last)")
         reader.as_shown(f"scheme {number}")
