@@ -105,9 +105,9 @@
  *
  * WHICH TABLE
  *     TIMERS_WIDE is for all but these cases. TIMERS_CLOCK shows hands of a clock. TIMERS_SMALL is for machines with little
- *     memory: its buckets take 2.7 KB in place of 15, its clock is short, and a timer moves five times at most. Above the
- *     lowest wheel its calls look at one digit after another, so some take a little longer. TIMERS_SMOOTH is for a
- *     loop that holds some 100,000 timers or more, passes a tick or a few at a time, and must not pause.
+ *     memory: its clock is short, and a timer moves five times at most. Above the lowest wheel its calls look at one digit
+ *     after another, so some take a little longer. TIMERS_SMOOTH is for a loop that holds some 100,000 timers or more,
+ *     passes a tick or a few at a time, and must not pause.
  *
  *     With TIMERS_WIDE a tick at a multiple of 64 moves all timers of its bucket. That may be all of a million timers.
  *     It then takes some 10 ms, and some 140 ms if they lie in random order in memory. With TIMERS_SMOOTH they move
@@ -148,12 +148,11 @@
  *     timer has the handle. A start does so only if more timers are held than ever before, and more than
  *     timers_reserve made room for. One that re-arms a timer which was just taken does not.
  *
- *     timers_new allocates some 15 KB for the buckets, and the first start some 5 KB more, unless timers_reserve
- *     made room (with TIMERS_CLOCK 6 KB and 2 KB, with TIMERS_SMOOTH 11 KB and 10 KB). Of the 15 KB some 10 are for
- *     first deadlines; TIMERS_SMOOTH keeps none, and has twice the buckets. A timer takes 40 bytes, in two arrays. An
- *     array that is full grows, the larger one to twice its length. So above some 1,000 timers they have 40 to 82
- *     bytes for each, of the most that were ever held. With a timers_reserve before the first start they have 40 for
- *     each, up to its room.
+ *     timers_new allocates the buckets, and the first start some KB more, unless timers_reserve made room: enum
+ *     timers_table has both numbers. Most of the first one is for first deadlines; TIMERS_SMOOTH keeps none, and has
+ *     twice the buckets. A timer takes 40 bytes, in two arrays. An array that is full grows, the larger one to twice
+ *     its length. So above some 1,000 timers they have 40 to 82 bytes for each, of the most that were ever held. With a
+ *     timers_reserve before the first start they have 40 for each, up to its room.
  *
  *     No block has more than SIZE_MAX / 2 bytes. A call that needed one returns TIMERS_NO_MEMORY.
  *
@@ -311,13 +310,13 @@ enum timers_status {
 	TIMERS_CLOCK_END = 10      /* the clock is at its last tick */
 };
 
-/* The slots of the wheels, and when their timers move: see WHICH TABLE. */
+/* The slots of the wheels, and when their timers move: see WHICH TABLE. The KB: see MEMORY. */
 enum timers_table {
 	/* made by tools/facts: tables */
-	TIMERS_WIDE = 0,    /* ten wheels of 64 slots: the last tick is TIMERS_LAST */
-	TIMERS_CLOCK = 1,   /* 60 seconds, 60 minutes, 24 hours, 100 days: the last tick is TIMERS_CLOCK_LAST */
-	TIMERS_SMOOTH = 2,  /* as TIMERS_WIDE, with twice the slots, and a few moves at a tick */
-	TIMERS_SMALL = 3    /* six wheels of 16 slots: the last tick is TIMERS_SMALL_LAST */
+	TIMERS_WIDE = 0,    /* ten wheels of 64 slots: the last tick is TIMERS_LAST; 15 + 5 KB */
+	TIMERS_CLOCK = 1,   /* 60 seconds, 60 minutes, 24 hours, 100 days: the last tick is TIMERS_CLOCK_LAST; 6 + 2.2 KB */
+	TIMERS_SMOOTH = 2,  /* as TIMERS_WIDE, with twice the slots, and a few moves at a tick; 11 + 10 KB */
+	TIMERS_SMALL = 3    /* six wheels of 16 slots: the last tick is TIMERS_SMALL_LAST; 2.7 + 1.0 KB */
 };
 
 /* made by tools/facts: last ticks */

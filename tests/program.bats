@@ -37,14 +37,15 @@ gives() {
     return 1
 }
 
-# row NAME OPTIONS SCRIPT TEXT..: played and served with each scheme, whose wheels may have any number of slots
+# row NAME OPTIONS SCRIPT TEXT..: played and served with each scheme, whose wheels may have any number of slots. OWN_LAST is
+# the scheme's last tick.
 row() {
-    local scheme verb
+    local scheme verb last text
+    text=$(printf %s "${@:4}")
     for scheme in $schemes "hashed --slots 1" "hashed --slots 8" "hashed --slots {MAX_SLOTS}"; do
-        # The clock of days ends earlier.
-        if [ "$1 $scheme" = "clock_end clock" ]; then continue; fi
+        last=LAST_${scheme%% *}
         for verb in play serve; do
-            gives 0 "$verb --scheme $scheme $2" "$3" "$(printf %s "${@:4}")"
+            gives 0 "$verb --scheme $scheme ${2/OWN_LAST/$last}" "$3" "${text//OWN_LAST/$last}"
         done
     done
 }
@@ -68,9 +69,9 @@ clock_row() {
         'started 0 1 1 5\nstopped 0 2 1\nrefused 0 3 {NoSuch}\nend 5 0\n'
     row zero_interval '' 'start 0 1 0 9\nstart 0 2 1 9\ntick 1\n' \
         'refused 0 1 {ZeroInterval}\nstarted 0 2 1 1\nexpired 1 0 1 9\nend 1 0\n'
-    row clock_end '--first-tick {LAST-1}' 'start 0 1 2 5\nstart 0 2 1 5\ntick 5\n' \
-        'refused 0 1 {TooLate}\nstarted 0 2 1 {LAST}\nexpired {LAST} 0 1 5\n' \
-        'tick refused {ClockEnd}\nend {LAST} 0\n'
+    row clock_end '--first-tick {OWN_LAST-1}' 'start 0 1 2 5\nstart 0 2 1 5\ntick 5\n' \
+        'refused 0 1 {TooLate}\nstarted 0 2 1 {OWN_LAST}\nexpired {OWN_LAST} 0 1 5\n' \
+        'tick refused {ClockEnd}\nend {OWN_LAST} 0\n'
     row capacity '--capacity 1' 'start 0 1 1 4\nstart 0 2 1 4\ntick 1\nstart 0 3 2 6\n' \
         'started 0 1 1 1\nrefused 0 2 {Full}\nexpired 1 0 1 4\nstarted 0 3 2 3\nend 1 1\n'
     row other_client '' 'start 0 1 3 7\nstop 1 1 1\ntick 3\n' \

@@ -11,7 +11,7 @@
 
 #define MOST 100
 
-/* TIMERS_WIDE without a resize takes five blocks, of 20,904 bytes and 64 for each timer. A block may be rounded up. */
+/* TIMERS_WIDE without a resize takes five blocks: its buckets, and 64 bytes for each timer. A block may be rounded up. */
 static union {
 	max_align_t aligned;
 	unsigned char bytes[20904 + 64 * MOST + 5 * sizeof(max_align_t)];
