@@ -8,7 +8,8 @@
 #include "memory.h"
 #include "trace.h"
 
-enum { NAMES = 8, LINES = 72 };   /* handles that are kept of each client; lines, some more than a desk may have */
+/* Handles that are kept of each client; lines, some more than a desk may have. */
+enum { NAMES = 8, LINES = TIMERS_DESK_CLIENTS + 8 };
 
 /* The desk, the client and the line that the next steps are about. A line is at times another client's. */
 static struct timers_desk desks[2], *d;
@@ -69,7 +70,7 @@ static void make_new(void)
 
 	switch (below(48)) {
 	case 0: asked.size += below(3) - 1; break;
-	case 1: asked.table = (uint32_t)below(5); break;
+	case 1: asked.table = (uint32_t)below(TIMERS_TABLES + 1); break;
 	case 2: asked.first_tick = next_random(); break;
 	case 3: asked.capacity = below_power(25); break;
 	case 4: asked.room = below_power(18); break;

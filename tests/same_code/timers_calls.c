@@ -101,7 +101,7 @@ static const struct timers_expired OLD_TIMER = { 71, 72, 73 };
 
 static void make_new(void)
 {
-	const uint32_t asked = below(16) == 0 ? (uint32_t)below(5) : table;
+	const uint32_t asked = below(16) == 0 ? (uint32_t)below(TIMERS_TABLES + 1) : table;
 	const uint64_t edge = random_edge(below_power(spread)) - below(4);
 	const uint64_t tick = below(8) == 0 ? last + 2 - below(40) : edge > last || below(3) == 0 ? 0 : edge;
 	const uint64_t status = status_seen(timers_new(t, asked, tick));
