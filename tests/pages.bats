@@ -142,7 +142,7 @@ statuses_of() {
     done
     for command in play serve show; do run -1 timers $command <<< "tick 0"; done
     run -1 bash -c "timers threads --clients 1 --timers 1 > /dev/full"
-    run -1 timers check <<< "tick 0"
+    run -"$(tools/facts BAD)" timers check <<< "tick 0"
 }
 
 # An example has a remark with its fields, but for `end` and `closed`, of which it says what they count.

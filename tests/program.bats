@@ -455,7 +455,7 @@ shown() { gives 0 "show $1" "$2" "$(printf '%s\\n' "${@:3}")"; }
         'closed 0\nclose refused {Closed}\nend 0 0\n' "bad line 2, column 6: $reason\n"
     gives "{SKIPPED}" "serve --wakeups --keep-going" 'close\ntick 0\nclose\n' \
         'closed 0\nwakeup never\nclose refused {Closed}\nwakeup never\nend 0 0\n' "bad line 2, column 6: $reason\n"
-    gives 1 "check" 'close\ntick 0\nclose\n' "line 2, column 6: $reason\n"
+    gives "{BAD}" "check" 'close\ntick 0\nclose\n' "line 2, column 6: $reason\n"
 }
 
 @test "check --why tells 20,000 ends of timers apart" {
@@ -509,12 +509,12 @@ help_of() {
     statuses() {
         # shellcheck disable=SC2086  # words
         help_of $1 --help
-        tr '\n' ' ' < output | grep -qE -e "$2" || { echo "timers $1 --help: not $2"; return 1; }
+        tr '\n' ' ' < output | grep -qE "exit status is $(put_names <<< "$2")" || { echo "timers $1 --help: not $2"; return 1; }
     }
-    statuses "" 'exit status is 0 if it was\. It is 1 after an error, [^.]*, and 2 if the arguments are refused\.'
-    statuses serve 'exit status is 0 if the input came to its end [^.]*\. It is 1 after an error, [^.]*\. It is 2 if the arguments'
-    statuses threads 'exit status is 0 if each client finished\. It is 1 after an error, [^.]*\. It is 2 if the arguments'
-    statuses check 'exit status is 0 if no line is bad, [^.]*\. It is 1 if a line is bad, [^.]*\. It is 2 after any other error'
+    statuses "" '{DONE} if it was\. It is {FAILED} after an error, [^.]*, and {REFUSED} if the arguments are refused\.'
+    statuses serve '{DONE} if the input came to its end [^.]*\. It is {FAILED} after an error, [^.]*\. It is {REFUSED} if the arguments'
+    statuses threads '{DONE} if each client finished\. It is {FAILED} after an error, [^.]*\. It is {REFUSED} if the arguments'
+    statuses check '{DONE} if no line is bad, [^.]*\. It is {BAD} if a line is bad, [^.]*\. It is {CHECK_FAILED} after any other error'
 }
 
 @test "each help of a subcommand says how it is called" {
@@ -532,7 +532,13 @@ help_of() {
 }
 
 @test "help and version are whole where they are asked for, and a full output is told" {
+    # last_of NAME: the last two lines of this text of help.rt
+    last_of() {
+        sed "/^pub static $1: /,/\";\$/!d; s/\";\$//" "$BATS_TEST_DIRNAME/../crates/timer_program/src/help.rt" |
+            tail -n 2 | paste -sd ' '
+    }
     whole() {
+        [ -n "$3" ]
         # shellcheck disable=SC2086  # words
         help_of $1
         case $(tr '\n' ' ' < output) in
@@ -547,11 +553,11 @@ help_of() {
         "$TIMERS" $1 > /dev/full 2> errors || status=$?
         [ "$status" -eq 1 ] && named errors <(echo "{Write}")
     }
-    for words in --help help; do whole "$words" "Plays a script" "of scripts and output."; done
-    for words in "play --help" "help play"; do whole "$words" "Plays the script" "have all of it."; done
-    for words in "serve --help" "help serve"; do whole "$words" "Answers each line" "been written then."; done
-    whole "show --help" "Answers lines" "from bucket to bucket."
-    whole "threads --help" "Runs clients" "standard input."
-    whole "check --help" "Reports every" "arguments are refused."
+    for words in --help help; do whole "$words" "Plays a script" "$(last_of SCRIPTS)"; done
+    for words in "play --help" "help play"; do whole "$words" "Plays the script" "$(last_of SCHEMES)"; done
+    for words in "serve --help" "help serve"; do whole "$words" "Answers each line" "$(last_of STREAMS)"; done
+    whole "show --help" "Answers lines" "$(last_of PLACEMENTS)"
+    whole "threads --help" "Runs clients" "$(last_of THREADS)"
+    whole "check --help" "Reports every" "$(last_of CHECKS)"
     for words in --version -V; do whole "$words" "timers " "$(cat "$BATS_TEST_DIRNAME/../tools/install/version")"; done
 }
