@@ -668,7 +668,7 @@ static PyMethodDef timers_methods[] = {
 	{ "stop", timers_object_stop, METH_O, /* -> _T */
 	  "stop($self, handle, /)\n--\n\n"
 	  "Stops the timer with this handle, pending or expired, and returns its action. Refused (NOT_PENDING) if the handle\n"
-	  "is dead or None: also restart, restart_at and look are." },
+	  "is dead or None. So are restart, restart_at and look." },
 	{ "look", timers_object_look, METH_O, /* -> tuple[int, int, _T] */
 	  "look($self, handle, /)\n--\n\n"
 	  "The timer with this handle, pending or expired, as (deadline, serial, action)." },
