@@ -1,19 +1,20 @@
 -- The clock after events, and the clients that there are not.
-use Rattle.std.proofs.Common.{◌≡◌, ◌≤◌, ◌+◌, ℕ, Bool, true, false, ◌==◌, List, [], ◌∷◌, length, refl, sym, ap, subst, arith}
+use Rattle.std.proofs.Common.{◌≡◌, ◌≤◌, ◌+◌, ℕ, Bool, true, false, ◌==◌, List, [], ◌∷◌, length, inl, inr, refl, sym, ap, subst, arith}
 use Rattle.std.specs.Prelude.{if◌then◌else◌, Option, Some, None}
 use Rattle.std.proofs.lemmas.Bool.Decides.{nat_tests}
 use Rattle.std.proofs.lemmas.List.{length-set}
+use Rattle.timer_base.proofs.Basics.{either}
 use Rattle.timer_facility.specs.Types.{Timer, TickFault, Expired}
 use Rattle.timer_facility.specs.declared.request.NotTaken.TheVariants as NotTakens
-use Rattle.timer_facility.specs.State.{FacilityState, count_of, pending_of, ModelRequest, SingleEvent, Asked, Tick, Close}
+use Rattle.timer_facility.specs.State.{FacilityState, count_of, pending_of, ModelRequest, SingleEvent, Asked, Tick}
 use Rattle.timer_facility.specs.Verdict.{tick_refusal}
-use Rattle.timer_facility.specs.Step.{StepResult, with_number, timer_stopped, timer_started, after_request, expired_next, step, step_of_tick, step_of_close}
+use Rattle.timer_facility.specs.Step.{StepResult, with_number, timer_stopped, timer_started, after_request, expired_next, step, step_of_tick}
 use Rattle.timer_facility.specs.Run.{PlacedEvent, history, state_after}
 use Rattle.timer_facility.specs.Owed.{accepted_ticks, ticks_by}
 use Rattle.timer_facility.specs.HandedOver.{timers_handed}
 use Rattle.timer_facility.proofs.VerdictLemmas.{not_taken-closed, not_taken-no_client}
 use Rattle.timer_facility.proofs.StepLemmas.{by_verdict, step-not_taken}
-use Rattle.timer_facility.proofs.HandedOverLemmas.{adds_at_most_one, hands_over_tick, hands_over_close}
+use Rattle.timer_facility.proofs.HandedOverLemmas.{adds_at_most_one, hands_over_tick}
 use Rattle.timer_facility.proofs.NoticeLists.{refusal-map}
 
 -- the tick and the number of clients are the same
@@ -45,15 +46,11 @@ now_ticked : (s : FacilityState) (o : Option TickFault) → (step_of_tick s o).s
 now_ticked s (Some fault) = omega arith
 now_ticked s None = ap (λ b. s.now + (if b then 0 else 1)) (sym (refusal-map (λ t. Expired t) (expired_next s)))
 
-clock_closed : (s : FacilityState) (b : Bool) → IsSameClock s (step_of_close s b).state
-clock_closed s true = record { now_is = refl; clients_are = refl }
-clock_closed s false = record { now_is = refl; clients_are = refl }
-
 now_step : (s : FacilityState) (event : SingleEvent) (place : ℕ)
     → (step s event place).state.now ≡ s.now + ticks_by event (step s event place).outs
 now_step s (Asked client number request) place = omega (arith, (clock_asked s client number request place).now_is)
 now_step s Tick place = now_ticked s (tick_refusal s)
-now_step s Close place = omega (arith, (clock_closed s s.is_closed).now_is)
+now_step s event place = elim (either s.is_closed) [ inl h ↦ rw h (omega arith) | inr h ↦ rw h (omega arith) ]
 
 -- each accepted tick, and nothing else, brings the clock one tick on
 pub now_run : (s : FacilityState) (ps : List PlacedEvent) → (state_after s ps).now ≡ s.now + accepted_ticks (history s ps)
@@ -103,10 +100,10 @@ none_step s c Tick place h = record {
   no_client = omega (arith, h.no_client, clients_ticked s (tick_refusal s));
   none = omega (arith, h.none, (hands_over_tick s place).of_client c);
 }
-none_step s c Close place h = record {
-  no_client = omega (arith, h.no_client, (clock_closed s s.is_closed).clients_are);
-  none = omega (arith, h.none, (hands_over_close s place).of_client c);
-}
+none_step s c event place h = elim (either s.is_closed) [
+  | inl e ↦ rw e (record { no_client = h.no_client; none = h.none })
+  | inr e ↦ rw e (record { no_client = h.no_client; none = omega (arith, h.none) })
+]
 
 none_run : (s : FacilityState) (c : ℕ) (ps : List PlacedEvent) → HasNone c s → HasNone c (state_after s ps)
 none_run s c [] h = h

@@ -1,24 +1,22 @@
 -- The verdict on an event, read from its outs; and events after the close, which hand nothing out and change nothing.
-use Rattle.std.proofs.Common.{◌≡◌, ℕ, Bool, true, false, List, [], ◌∷◌, refl, sym, ap, subst}
-use Rattle.std.specs.Prelude.{if◌then◌else◌, Option, Some, None}
-use Rattle.timer_facility.specs.Types.{Timer, NotTaken, Reason, TickFault, Expired, Returned}
-use Rattle.timer_base.specs.Pending.{timers_of}
+use Rattle.std.proofs.Common.{◌≡◌, ℕ, true, List, [], ◌∷◌, inl, inr, refl, sym, subst}
+use Rattle.std.specs.Prelude.{Option, Some, None}
+use Rattle.timer_facility.specs.Types.{Timer, NotTaken, Reason, TickFault, Expired}
+use Rattle.timer_base.proofs.Basics.{either}
 use Rattle.timer_facility.specs.declared.event.Out.TheVariants as Outs
-use Rattle.timer_facility.specs.State.{FacilityState, ModelRequest, SingleEvent, Asked, Tick, Close}
-use Rattle.timer_facility.specs.Verdict.{not_taken, refusal, tick_refusal, CloseRefused, verdict_on_request, verdict_on_tick, verdict, closed_refusal}
-use Rattle.timer_facility.specs.Step.{StepResult, refused, expiries, timer_stopped, timer_started, answer_to, due_at_start, accepted, expired_next, step_by, step, step_of_tick, step_of_close}
+use Rattle.timer_facility.specs.State.{FacilityState, ModelRequest, SingleEvent, Asked, Tick}
+use Rattle.timer_facility.specs.Verdict.{not_taken, refusal, tick_refusal, verdict_on_request, verdict_on_tick, verdict, closed_refusal}
+use Rattle.timer_facility.specs.Step.{StepResult, refused, expiries, timer_stopped, timer_started, answer_to, due_at_start, accepted, expired_next, step_by, step, step_of_tick}
 use Rattle.timer_facility.specs.Run.{PlacedEvent, history, state_after, outs_of, notices, notices_in}
 use Rattle.timer_facility.specs.Refused.{refusals_in, refusals_of}
 use Rattle.timer_facility.proofs.NoticeLists.{notices_in-append, refusals_in-map}
-use Rattle.timer_facility.proofs.VerdictLemmas.{not_taken-closed, tick_refusal-closed}
 use Rattle.timer_facility.proofs.StepLemmas.{accepted-some, step_refused}
 
 -- a closed facility refuses each event as such
 pub verdict_closed : (s : FacilityState) (event : SingleEvent) → s.is_closed ≡ true → verdict s event ≡ Some (closed_refusal event)
-verdict_closed s (Asked client number request) h = ap (λ v. verdict_on_request v (refusal s client request))
-    (not_taken-closed s client number h)
-verdict_closed s Tick h = ap verdict_on_tick (tick_refusal-closed s h)
-verdict_closed s Close h = ap (λ b. if b then Some CloseRefused else None) h
+unfolding not_taken tick_refusal
+verdict_closed s Tick h = rw h refl
+verdict_closed s event h = rw h refl
 
 -- From the outs.
 
@@ -43,10 +41,6 @@ told_tick : (s : FacilityState) (v : Option TickFault) → refusals_in (step_of_
 told_tick s (Some fault) = refl
 told_tick s None = refusals_in-map (λ t. Expired t) (expired_next s)
 
-told_close : (s : FacilityState) (b : Bool) → refusals_in (step_of_close s b).outs ≡ refusals_of (if b then Some CloseRefused else None)
-told_close s true = refl
-told_close s false = refusals_in-map (λ t. Returned t) (timers_of s.pending)
-
 -- the refusals among the outs of an event are those of the verdict on it
 pub outs_verdict : (s : FacilityState) (event : SingleEvent) (place : ℕ)
     → refusals_in (step s event place).outs ≡ refusals_of (verdict s event)
@@ -54,7 +48,10 @@ outs_verdict s (Asked client number request) place =
     told_request s client number request place (not_taken s client number) (refusal s client request)
     (accepted-some s client number request)
 outs_verdict s Tick place = told_tick s (tick_refusal s)
-outs_verdict s Close place = told_close s s.is_closed
+outs_verdict s event place = elim (either s.is_closed) [
+  | inl h ↦ rw h refl
+  | inr h ↦ rw h (search refusals_in-map)
+]
 
 -- After a close.
 
@@ -67,9 +64,8 @@ step-closed s event place h = subst (DoesNothing s) (sym (step_refused s event p
     (idle event)
   where
     idle : (event : SingleEvent) → DoesNothing s (refused s event (closed_refusal event))
-    idle (Asked client number request) = (refl, refl)
     idle Tick = (refl, refl)
-    idle Close = (refl, refl)
+    idle event = (refl, refl)
 
 pub state_closed : (s : FacilityState) (ps : List PlacedEvent) → s.is_closed ≡ true → state_after s ps ≡ s
 state_closed s [] h = refl

@@ -1,6 +1,6 @@
 -- The outs of events do not depend on the places that a wheel chooses.
-use Rattle.std.proofs.Common.{◌≡◌, ℕ, ◌+◌, Bool, true, false, not, inl, inr, List, [], ◌∷◌, length, refl, sym, ◌∙◌, ap, subst}
-use Rattle.std.specs.Prelude.{map, filter, min, nat_lt, if◌then◌else◌, Option, Some, None}
+use Rattle.std.proofs.Common.{◌≡◌, ℕ, ◌+◌, Bool, false, not, inl, inr, List, [], ◌∷◌, length, refl, sym, ◌∙◌, ap, subst}
+use Rattle.std.specs.Prelude.{map, filter, nat_lt, if◌then◌else◌, Option, Some, None}
 use Rattle.std.specs.List.{AllByRecursion}
 use Rattle.std.proofs.lemmas.List.{length-map, map-append}
 use Rattle.std.proofs.lemmas.List.Elements.{All-replicate, recursion_from_All}
@@ -12,11 +12,11 @@ use Rattle.timer_facility.specs.Types.{Timer, NotTaken, Reason, TickFault, Notic
 use Rattle.timer_base.specs.Pending.{Entry, timer_of, timers_of, put, is_due_at, has_serial, first_timer, without_found}
 use Rattle.timer_facility.specs.declared.event.Event.TheVariants as Events
 use Rattle.timer_facility.specs.declared.event.Out.TheVariants as Outs
-use Rattle.timer_facility.specs.State.{FacilityState, Deadline, After, At, interval_until, ByHandle, BySerial, ModelRequest, Start, Stop, Restart, SingleEvent, Asked, Tick, Close}
+use Rattle.timer_facility.specs.State.{FacilityState, Deadline, After, At, interval_until, ByHandle, BySerial, ModelRequest, Start, Stop, Restart, SingleEvent, Asked, Tick}
 use Rattle.timer_facility.specs.Verdict.{not_taken, of_client, timer_named, interval_refusal, room_refusal, refusal, tick_refusal, verdict_on_request}
-use Rattle.timer_facility.specs.Step.{StepResult, with_number, answered, timer_stopped, timer_started, due_at_start, answer_to, put_later, without_timer, with_timer, after_request, step_by, step, step_of_tick, step_of_close}
+use Rattle.timer_facility.specs.Step.{StepResult, with_number, answered, timer_stopped, timer_started, due_at_start, answer_to, put_later, without_timer, with_timer, after_request, step_by, step, step_of_tick}
 use Rattle.timer_facility.specs.Run.{PlacedEvent, state_after, run, bare_answer, bare, bare_outs, bare_entry, bare_state, NamesBySerial, AreSameButForPlaces}
-use Rattle.timer_facility.specs.Played.{ticks_left, singles_of, ArePlaced, IsRun}
+use Rattle.timer_facility.specs.Played.{singles_of, ArePlaced, IsRun}
 
 -- Lists of entries.
 
@@ -150,14 +150,6 @@ tick-bare s None = (
   ap (λ es. record s { layout = NoSlots; now = s.now + 1; pending = es; has_room = false }) (filter-bare (λ t. not (is_due_at (s.now + 1) t)) s.pending),
 )
 
-close-bare : (s : FacilityState) (b : Bool) → IsBareStep (step_of_close s b) (step_of_close (bare_state s) b)
-close-bare s true = (refl, refl)
-close-bare s false = (
-  rw (length-bare s.pending, timers_of-bare s.pending)
-      (ap (λ os. Outs.Closed (length s.pending) ∷ os) (notices-bare (λ t. Returned t) (timers_of s.pending))),
-  refl,
-)
-
 step-bare : (s : FacilityState) (event : SingleEvent) (place : ℕ) → NamesBySerial event
     → IsBareStep (step s event place) (step (bare_state s) event 0)
 step-bare s (Asked client number request) place n =
@@ -169,7 +161,10 @@ step-bare s (Asked client number request) place n =
     ) (request-bare s client number request place (timer_stopped s client request) (timer_started s client number request)
     (not_taken s client number) (refusal s client request))
 step-bare s Tick place n = rw (tick_refusal-bare s) (tick-bare s (tick_refusal s))
-step-bare s Close place n = close-bare s s.is_closed
+step-bare s event place n = elim (either s.is_closed) [
+  | inl h ↦ rw h (refl, refl)
+  | inr h ↦ rw h (simp (length-bare s.pending, timers_of-bare s.pending, notices-bare (λ t. Returned t) (timers_of s.pending)), refl)
+]
 
 -- Nor does a run.
 
@@ -207,19 +202,14 @@ runs-bare s t ps qs e f n =
 -- The events of a list that is played.
 
 singles_of-bare : (s : FacilityState) (event : Event) → singles_of (bare_state s) event ≡ singles_of s event
-singles_of-bare s (Events.Start client number interval action) = refl
-singles_of-bare s (Events.Stop client number serial) = refl
-singles_of-bare s (Events.Restart client number serial interval action) = refl
 singles_of-bare s (Events.Ticks count) = refl
-singles_of-bare s Events.Close = refl
+singles_of-bare s event = refl
+
+ruleset names = (recursion_from_All, All-replicate)
 
 singles_name : (s : FacilityState) (event : Event) → AllByRecursion NamesBySerial (singles_of s event)
-singles_name s (Events.Start client number interval action) = (tt, tt)
-singles_name s (Events.Stop client number serial) = (tt, tt)
-singles_name s (Events.Restart client number serial interval action) = (tt, tt)
-singles_name s (Events.Ticks count) =
-    recursion_from_All NamesBySerial _ (All-replicate NamesBySerial (min count (ticks_left s + 1)) Tick tt)
-singles_name s Events.Close = (tt, tt)
+singles_name s (Events.Ticks count) = search names
+singles_name s event = search names
 
 -- the single events that two places of one list make are the same, and name their timers by serial
 record AreAlike (ps qs : List PlacedEvent) : Type 0 where
