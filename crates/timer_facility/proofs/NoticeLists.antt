@@ -5,7 +5,7 @@ use Rattle.std.proofs.lemmas.List.{length-map}
 use Rattle.std.proofs.lemmas.Simd.{map-map}
 use Rattle.timer_facility.specs.Types.{Timer, Notice, Out}
 use Rattle.timer_facility.specs.declared.event.Out.TheVariants as Outs
-use Rattle.timer_facility.specs.Refused.{refusals_in}
+use Rattle.timer_facility.specs.Step.{refusals_in}
 use Rattle.timer_facility.specs.Run.{notice_in, notices_in}
 use Rattle.timer_facility.specs.Owed.{timers_in, serials_told, any_out, is_closing, is_tick_refusal}
 

@@ -5,10 +5,9 @@ use Rattle.timer_facility.specs.Types.{Timer, NotTaken, Reason, TickFault, Expir
 use Rattle.timer_base.proofs.Basics.{either}
 use Rattle.timer_facility.specs.declared.event.Out.TheVariants as Outs
 use Rattle.timer_facility.specs.State.{FacilityState, ModelRequest, SingleEvent, Asked, Tick}
-use Rattle.timer_facility.specs.Verdict.{not_taken, refusal, tick_refusal, verdict_on_request, verdict_on_tick, verdict, closed_refusal}
-use Rattle.timer_facility.specs.Step.{StepResult, refused, expiries, timer_stopped, timer_started, answer_to, due_at_start, accepted, expired_next, step_by, step, step_of_tick}
+use Rattle.timer_facility.specs.Verdict.{not_taken, refusal, tick_refusal, verdict_on_request, verdict_on_tick, verdict, refusals_of, closed_refusal}
+use Rattle.timer_facility.specs.Step.{StepResult, refused, refusals_in, expiries, timer_stopped, timer_started, answer_to, due_at_start, accepted, expired_next, step_by, step, step_of_tick}
 use Rattle.timer_facility.specs.Run.{PlacedEvent, history, state_after, outs_of, notices, notices_in}
-use Rattle.timer_facility.specs.Refused.{refusals_in, refusals_of}
 use Rattle.timer_facility.proofs.NoticeLists.{notices_in-append, refusals_in-map}
 use Rattle.timer_facility.proofs.StepLemmas.{accepted-some, step_refused}
 

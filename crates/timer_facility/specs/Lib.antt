@@ -3,7 +3,6 @@ pub mod Config
 pub mod State
 pub mod Verdict
 pub mod Step
-pub mod Refused
 pub mod Run
 pub mod Owed
 pub mod Facility

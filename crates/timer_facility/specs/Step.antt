@@ -1,6 +1,6 @@
 -- One event: its outs, and the state after it. An event that the verdict refuses changes at most a number. A timer that
 -- is started for a tick that has passed is due at once: its notice follows the answer, and it is never pending.
-use Rattle.std.specs.Prelude.{ℕ, ◌+◌, Bool, true, nat_lt, List, [], ◌∷◌, Option, Some, None, if◌then◌else◌, map, filter, length, slice_set}
+use Rattle.std.specs.Prelude.{ℕ, ◌+◌, Bool, true, nat_lt, List, [], ◌∷◌, ◌++◌, Option, Some, None, if◌then◌else◌, map, filter, length, slice_set}
 use Rattle.timer_facility.specs.Types.{Timer, Handle, Answer, TickFault, Out, Started, Stopped, Restarted, Refused, Expired, Returned}
 use Rattle.timer_base.specs.Pending.{Entry, timers_of, put, is_due_at, without_found, entries_left}
 use Rattle.timer_facility.specs.declared.request.Reason.TheVariants.{NoSuch}
@@ -36,6 +36,19 @@ refused s (Asked client number request) (RequestNotTaken reason) =
 refused s (Asked client number request) (RequestRefused reason) = answered client number (Refused reason) [] s
 refused s event (TickRefused fault) = record { outs = Outs.TickRefused fault ∷ []; state = s }
 refused s event _ = record { outs = Outs.CloseRefused ∷ []; state = s }
+
+-- the refusal that an out is, if it is one
+abbrev pub refusal_in : Out → List Refusal
+refusal_in (Outs.Answered client number (Refused reason)) = RequestRefused reason ∷ []
+refusal_in (Outs.NotTaken client number reason) = RequestNotTaken reason ∷ []
+refusal_in (Outs.TickRefused fault) = TickRefused fault ∷ []
+refusal_in Outs.CloseRefused = CloseRefused ∷ []
+refusal_in _ = []
+
+-- the refusals among the outs
+abbrev pub refusals_in : List Out → List Refusal
+refusals_in [] = []
+refusals_in (out ∷ outs) = refusal_in out ++ refusals_in outs
 
 -- the timer that an accepted start or restart makes; `interval` is 0 if it is due at once
 abbrev pub new_timer : FacilityState → ℕ → ℕ → ℕ → ℕ → Timer

@@ -1,10 +1,11 @@
 -- The verdict on an event: accepted, or the first rule that refuses it.
-use Rattle.std.specs.Prelude.{ℕ, Bool, ◌-◌, ◌==◌, not, nat_lt, if◌then◌else◌, Option, Some, None, length}
-use Rattle.timer_facility.specs.Types.{LAST, Timer, NotTaken, Reason, TickFault}
+use Rattle.std.specs.Prelude.{ℕ, Bool, ◌-◌, ◌==◌, not, nat_lt, if◌then◌else◌, List, [], ◌∷◌, Option, Some, None, length}
+use Rattle.timer_facility.specs.Types.{LAST, Timer, CloseFault, NotTaken, Reason, TickFault}
 use Rattle.timer_base.specs.Pending.{Entry, has_handle, has_serial, first_timer}
 use Rattle.timer_facility.specs.declared.request.NotTaken.TheVariants.{Closed, NoClient, Repeated, NumbersSpent, Ahead}
 use Rattle.timer_facility.specs.declared.request.Reason.TheVariants.{ZeroInterval, TooLate, SerialsSpent, Full, NoSuch}
 use Rattle.timer_facility.specs.declared.request.TickFault.TheVariants as TickFaults
+use Rattle.timer_facility.specs.declared.request.CloseFault.TheVariants as CloseFaults
 use Rattle.timer_facility.specs.State.{FacilityState, number_of, interval_until, Name, ByHandle, BySerial, ModelRequest, Start, Stop, Restart, SingleEvent, Asked, Tick, Close}
 
 -- why a request is not taken, if it is not taken: the first test that holds
@@ -98,6 +99,16 @@ verdict s (Asked client number request) = verdict_on_request (not_taken s client
     (refusal s client request)
 verdict s Tick = verdict_on_tick (tick_refusal s)
 verdict s Close = if s.is_closed then Some CloseRefused else None
+
+-- the refusal of a verdict, and none if the event is accepted
+abbrev pub refusals_of : Option Refusal → List Refusal
+refusals_of None = []
+refusals_of (Some refusal) = refusal ∷ []
+
+-- the verdict on a close that failed: one whose allocation failed would be accepted
+abbrev pub verdict_on_close : CloseFault → Option Refusal
+verdict_on_close CloseFaults.Closed = Some CloseRefused
+verdict_on_close CloseFaults.OutOfMemory = None
 
 -- how a closed facility refuses an event, whatever it is
 abbrev pub closed_refusal : SingleEvent → Refusal
