@@ -120,6 +120,8 @@ if __name__ == "__main__":
     print("#define TABLES_OF_SCHEMES", ", ".join(rows_of_tables()))
     forms = (f'{{"{word}", {{{", ".join([*(chr(34) + name + chr(34) for name in FIELDS[word]), "0"])}}}}}' for word in WORDS["script"])
     print("#define FORMS_OF_A_LINE", ", ".join(forms))
+    print("#define KINDS_OF_A_LINE", ", ".join(map(str.upper, WORDS["script"])))
+    print("#define EACH_FIELD(field)", " ".join(dict.fromkeys(f"field({name})" for word in WORDS["script"] for name in FIELDS[word])))
     for scheme, place in PLACES.items():
         print(f'#define {scheme.upper()}_PLACE "{re.sub("[KS]", "%d", place)}"')
     for name, text in {**REFUSALS, **OF_ANY}.items():

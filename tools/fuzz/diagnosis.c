@@ -4,13 +4,8 @@
 #include <stdbool.h>
 #include <string.h>
 
-#define FIELDS 5
-
-struct layout {
-	const char *word, *fields[FIELDS + 1];
-};
-
-static const struct layout FORMS[] = {FORMS_OF_A_LINE};
+const struct layout FORMS[] = {FORMS_OF_A_LINE};
+static const size_t COUNT_OF_FORMS = sizeof FORMS / sizeof *FORMS;
 
 /* In the order of the page's table. */
 enum reason {
@@ -33,11 +28,22 @@ static enum reason in_no_line(const char *line, size_t len, size_t at)
 	return line[at] == '\r' ? CARRIAGE_RETURN : line[at] == '\t' ? TAB : NONE;
 }
 
+const struct layout *form_of(const char *line, size_t len)
+{
+	size_t letters = 0;
+	while (letters < len && line[letters] >= 'a' && line[letters] <= 'z')
+		letters++;
+	for (size_t i = 0; i < COUNT_OF_FORMS; i++)
+		if (strlen(FORMS[i].word) == letters && !memcmp(line, FORMS[i].word, letters))
+			return &FORMS[i];
+	return NULL;
+}
+
 /* The line begins with the first bytes of no more than these words. */
 static struct wrong in_word(const char *line, size_t len)
 {
 	size_t at = 0;
-	for (size_t i = 0; i < sizeof FORMS / sizeof *FORMS; i++) {
+	for (size_t i = 0; i < COUNT_OF_FORMS; i++) {
 		size_t same = 0;
 		while (same < len && FORMS[i].word[same] && line[same] == FORMS[i].word[same])
 			same++;
@@ -90,10 +96,8 @@ static bool reads_field(const char *line, size_t len, size_t *at, const char *fi
 
 struct wrong diagnose(const char *line, size_t len)
 {
-	const struct layout *form = FORMS, *end = FORMS + sizeof FORMS / sizeof *FORMS;
-	while (form < end && (len < strlen(form->word) || memcmp(line, form->word, strlen(form->word))))
-		form++;
-	if (form == end)
+	const struct layout *form = form_of(line, len);
+	if (!form)
 		return in_word(line, len);
 	size_t at = strlen(form->word);
 	const char *before = NULL;

@@ -8,11 +8,12 @@
 #include <stdlib.h>
 #include <string.h>
 
-enum kind { START, STOP, RESTART, TICKS, CLOSE };
+enum kind { KINDS_OF_A_LINE };
 
+#define MEMBER(field) uint64_t field;
 struct event {
 	enum kind kind;
-	uint64_t client, number, serial, interval, action, count;
+	EACH_FIELD(MEMBER)
 };
 
 struct facility {
@@ -42,58 +43,25 @@ void add(struct text *text, const char *format, ...)
 	text->len += len;
 }
 
-/* A number at the front of `*at`: digits, no leading zero, at most LAST. */
-static bool number(const char **at, const char *end, uint64_t *value)
+/* Where an event has the value of a field. */
+static uint64_t *value_of(struct event *e, const char *field)
 {
-	const char *first = *at;
-	*value = 0;
-	while (*at < end && **at >= '0' && **at <= '9') {
-		*value = *value * 10 + (uint64_t)(**at - '0');
-		if (*value > LAST)
-			return false;
-		++*at;
-	}
-	return *at > first && (*first != '0' || *at == first + 1);
+#define VALUE(name) \
+	if (!strcmp(field, #name)) \
+		return &e->name;
+	EACH_FIELD(VALUE)
+	return NULL;
 }
 
-static bool word(const char **at, const char *end, const char *word)
+/* The event of a good line. */
+static struct event event_of(const char *line, size_t len)
 {
-	size_t len = strlen(word);
-	if ((size_t)(end - *at) < len || memcmp(*at, word, len))
-		return false;
-	*at += len;
-	return true;
-}
-
-static bool fields(const char **at, const char *end, uint64_t **values, int count)
-{
-	for (int i = 0; i < count; i++)
-		if ((i > 0 && !word(at, end, " ")) || !number(at, end, values[i]))
-			return false;
-	return true;
-}
-
-/* A line without its line feed. */
-static bool line(const char *at, const char *end, struct event *e)
-{
-	bool well = false;
-	if (word(&at, end, "start ")) {
-		e->kind = START;
-		well = fields(&at, end, (uint64_t *[]){&e->client, &e->number, &e->interval, &e->action}, 4);
-	} else if (word(&at, end, "stop ")) {
-		e->kind = STOP;
-		well = fields(&at, end, (uint64_t *[]){&e->client, &e->number, &e->serial}, 3);
-	} else if (word(&at, end, "restart ")) {
-		e->kind = RESTART;
-		well = fields(&at, end, (uint64_t *[]){&e->client, &e->number, &e->serial, &e->interval, &e->action}, 5);
-	} else if (word(&at, end, "tick ")) {
-		e->kind = TICKS;
-		well = number(&at, end, &e->count) && e->count >= 1 && e->count <= MAX_TICKS;
-	} else if (word(&at, end, "close")) {
-		e->kind = CLOSE;
-		well = true;
-	}
-	return well && at == end;
+	const struct layout *form = form_of(line, len);
+	struct event e = {.kind = (enum kind)(form - FORMS)};
+	char *at = (char *)line + strlen(form->word);
+	for (int i = 0; form->fields[i]; i++)
+		*value_of(&e, form->fields[i]) = strtoull(at, &at, 10);
+	return e;
 }
 
 static void insert(struct facility *f, struct timer timer)
@@ -278,7 +246,7 @@ static void close_all(struct facility *f, struct text *out)
 
 static void one(struct facility *f, const struct event *e, struct text *out)
 {
-	if (e->kind == TICKS)
+	if (e->kind == TICK)
 		ticks(f, e->count, out);
 	else if (e->kind == CLOSE)
 		close_all(f, out);
@@ -303,7 +271,7 @@ static void report(struct text *text, const char *front, uint64_t n, const char 
 	add(text, "%sline %" PRIu64 ", column %zu: ", front, n, wrong.column);
 	if (wrong.field)
 		add(text, "%s: ", wrong.field);
-	add(text, "%s\n", wrong.reason ? wrong.reason : "nothing");
+	add(text, "%s\n", wrong.reason);
 }
 
 static void wakeup(const struct facility *f, struct text *out)
@@ -323,8 +291,8 @@ static bool lines(struct facility *f, const char *script, size_t len, enum form 
 		const char *feed = memchr(at, '\n', (size_t)(end - at));
 		const char *next = feed ? feed + 1 : end;
 		size_t all = (size_t)(next - at);
-		struct event e = {0};
-		bool good = feed && line(at, feed, &e);
+		bool good = !diagnose(at, all).reason;
+		struct event e = good ? event_of(at, all) : (struct event){0};
 		uint64_t serial = f->next_serial;
 		n++;
 		if (good && form != CHECK)

@@ -85,6 +85,15 @@ void show_moves(struct text *text, const struct options *is, uint64_t now, uint6
 void show(struct text *text, const struct options *is, const struct counts *counts, uint64_t serial, uint64_t now,
           const struct timer *pending, size_t len);
 
+/* The lines of a script, in the order of their table: a word, and the names of its fields, at most five. */
+struct layout {
+	const char *word, *fields[6];
+};
+extern const struct layout FORMS[];
+
+/* The one with whose word a line begins, or NULL. */
+const struct layout *form_of(const char *line, size_t len);
+
 /* What is wrong with a line: the column, the field, if it is in one, and the reason; none if it is good. */
 struct wrong {
 	size_t column;

@@ -83,7 +83,8 @@ class Script:
             if kind < 0.8:
                 self.request()
             elif kind < 0.999:
-                self.add(self.chance.choice(OTHERS), count=min(TICKS, max(1, self.interval())))
+                word = self.chance.choice(OTHERS)
+                self.add(word, **dict.fromkeys(FIELDS[word], min(TICKS, max(1, self.interval()))))
             else:
                 self.add(self.chance.choice(SELDOM))
         if self.chance.random() < 0.1:
