@@ -55,17 +55,6 @@ const LEGEND = [
   ["arrow", "arrow: a timer moved"],
 ];
 
-// The words of the fields of lines (FIELDS of lessons.js), in half a sentence each.
-const GLOSSARY = [
-  ["client", "who asks, numbered from 0"],
-  ["number", "the client's number for this request"],
-  ["interval", "the ticks from now to the deadline"],
-  ["action", "a number handed back with the timer"],
-  ["serial", "the number of a timer, from 1 on"],
-  ["count", "how many ticks pass, or timers are returned"],
-  ["expired", "it came out at its deadline"],
-];
-
 // What a digit of each wheel of 64 slots counts.
 const WEIGHTS = ["", " × 64", ..."²³⁴⁵⁶⁷⁸⁹"].map((power, k) => (k < 2 ? power : ` × 64${power}`));
 
@@ -379,7 +368,7 @@ class Words {
   // The words of the fields that lines of this script have.
   glossary() {
     const said = this.fields().map(([word, names]) => `${word} ${names}`).join(" ");
-    return GLOSSARY.filter(([word]) => said.includes(word));
+    return Object.entries(GLOSSARY).filter(([word]) => said.includes(word));
   }
 
   // The words that begin lines of this script or their answers, with their fields.

@@ -3,7 +3,7 @@ import json
 import os
 import re
 
-from formats import DRAWN, FIELDS, LASTS, LIMITS, RADICES, SCHEMES, reasons
+from formats import DRAWN, FIELDS, LASTS, LIMITS, RADICES, SCHEMES, WORDS, reasons
 from schemes import HANDS
 
 PAGES = os.path.join(os.path.dirname(os.path.abspath(__file__)), "../../docs/pages")
@@ -31,7 +31,8 @@ def data(scripts):
     names = [os.path.basename(script.path) for script in scripts]
     numbered = [f"{name}-{at}" if names.count(name) > 1 else name for at, name in enumerate(names, 1)]
     rows = [json.dumps(lesson(*pair), ensure_ascii=True, separators=(",", ":")) for pair in zip(scripts, numbered)]
-    told = {"REASONS": reasons(), "FIELDS": FIELDS, "RADICES": RADICES, "HANDS": HANDS, "SCHEMES": DRAWN}
+    told = {"REASONS": reasons(), "FIELDS": FIELDS, "GLOSSARY": WORDS["glossary"], "RADICES": RADICES, "HANDS": HANDS}
+    told["SCHEMES"] = DRAWN
     told["LASTS"] = {name: str(LIMITS[last]) for name, last in LASTS.items()}
     told["CHOICES"] = dict(SCHEMES[name]["drawn"] for name in DRAWN.values())
     words = "".join(f"const {name} = {json.dumps(value)};\n" for name, value in told.items())
