@@ -1,13 +1,14 @@
 -- How long a number is, how the line of an out begins and ends, and that the text of outs does not depend on the places of
 -- handles.
-use Rattle.std.proofs.Common.{◌≡◌, ◌<◌, ◌≤◌, ◌^◌, ◌-◌, set, drop, ℕ, true, List, [], ◌∷◌, ◌++◌, length, decimal, codes, arith, lit≤, refl, sym, ap, ◌∙◌}
+use Rattle.std.proofs.Common.{◌≡◌, ◌<◌, ◌≤◌, ◌^◌, ◌-◌, set, drop, ℕ, Bool, true, false, nat_le, ◌&&◌, List, [], ◌∷◌, ◌++◌, length, decimal, codes, arith, lit≤, refl, sym, ap, subst, take, append-nil, ◌∙◌}
+use Rattle.std.proofs.lemmas.Bool.{and_parts, leb-true}
 use Rattle.std.proofs.lemmas.List.{length-map, drop-set}
 use Rattle.std.proofs.lemmas.Fmt.{length-decimal-le}
 use Rattle.std.specs.List.{flat_map}
 use Rattle.timer_facility.specs.declared.request.Reason.TheVariants as reason
 use Rattle.timer_facility.specs.declared.request.NotTaken.TheVariants as refusal
 use Rattle.timer_facility.specs.declared.request.TickFault.TheVariants as fault
-use Rattle.timer_script.specs.Types.{Reason, NotTaken, Out, FacilityState, Started, Stopped, Restarted, Refused, Expired, Returned}
+use Rattle.timer_script.specs.Types.{Reason, NotTaken, Out, FacilityState, Started, Refused, Expired}
 use Rattle.timer_facility.specs.declared.event.Out.TheVariants as Outs
 use Rattle.timer_facility.specs.Run.{bare, bare_outs, bare_entry, bare_state}
 use Rattle.timer_script.specs.Script.{HasNoFeed}
@@ -35,16 +36,24 @@ pub record IsOutLine (bytes : List ℕ) : Type 0 where
   pub no_feed : HasNoFeed (first ∷ rest)
   pub letter : (99 ≤ first) × (first ≤ 116)
 
+-- whether bytes begin with such a letter, and have no line feed
+abbrev begins_line : List ℕ → Bool
+begins_line [] = false
+begins_line (first ∷ rest) = (nat_le 99 first && nat_le first 116) && is_bare (first ∷ rest)
+
 -- a word and numbers
-numbered : (first : ℕ) (word all : List ℕ) → is_bare (first ∷ word) ≡ true → (99 ≤ first) × (first ≤ 116)
-    → IsOutLine ((first ∷ word) ++ numbers all ++ codes "\n")
-numbered first word all free letter = record {
-  first = first;
-  rest = word ++ numbers all;
-  is = refl;
-  no_feed = no_feed-append (first ∷ word) (numbers all) (no_feed_if_bare (first ∷ word) free) (numbers_bare all);
-  letter = letter;
-}
+numbered : (word all : List ℕ) → begins_line word ≡ true → IsOutLine (word ++ numbers all ++ codes "\n")
+numbered [] all begins = absurd cc
+numbered (first ∷ word) all begins =
+    let (letter, free) = and_parts _ _ begins in
+    let (low, high) = and_parts _ _ letter in
+    record {
+      first = first;
+      rest = word ++ numbers all;
+      is = refl;
+      no_feed = no_feed-append (first ∷ word) (numbers all) (no_feed_if_bare (first ∷ word) free) (numbers_bare all);
+      letter = (leb-true 99 first low, leb-true first 116 high);
+    }
 
 -- a word, numbers, and a reason
 refused : (all why : List ℕ) → is_bare why ≡ true → IsOutLine (codes "refused" ++ numbers all ++ codes " " ++ why ++ codes "\n")
@@ -59,58 +68,40 @@ refused all why free = record {
   letter = (lit≤ tt, lit≤ tt);
 }
 
+-- the bytes before the last
+abbrev before_last : List ℕ → List ℕ
+before_last bytes = take (length bytes - 1) bytes
+
 -- a line without numbers
-plain : (first : ℕ) (rest : List ℕ) → is_bare (first ∷ rest) ≡ true → (99 ≤ first) × (first ≤ 116) → IsOutLine ((first ∷ rest) ++ 10 ∷ [])
-plain first rest free letter = record { first = first; rest = rest; is = refl; no_feed = no_feed_if_bare (first ∷ rest) free; letter = letter }
+plain : (bytes : List ℕ) → bytes ≡ before_last bytes ++ codes "\n" → begins_line (before_last bytes) ≡ true → IsOutLine bytes
+plain bytes ends begins =
+    subst IsOutLine (ap (λ front. front ++ codes "\n") (append-nil (before_last bytes)) ∙ sym ends) (numbered (before_last bytes) [] begins)
+
+ruleset lines = (numbered, plain)
 
 reason_bare : (why : Reason) → is_bare (reason_word why) ≡ true
 reason_bare reason.ZeroInterval = refl
-reason_bare reason.TooLate = refl
-reason_bare reason.SerialsSpent = refl
-reason_bare reason.Full = refl
-reason_bare reason.NoSuch = refl
+reason_bare why = refl
 
 refusal_bare : (why : NotTaken) → is_bare (refusal_word why) ≡ true
 refusal_bare refusal.Closed = refl
-refusal_bare refusal.NoClient = refl
-refusal_bare (refusal.Repeated next) = refl
-refusal_bare refusal.NumbersSpent = refl
-refusal_bare (refusal.Ahead next) = refl
-refusal_bare refusal.OutOfMemory = refl
+refusal_bare why = refl
 
 pub out_line_is : (out : Out) → IsOutLine (out_line out)
-out_line_is (Outs.Answered client number (Started handle deadline)) =
-    numbered 115 (codes "tarted") (client ∷ number ∷ handle.serial ∷ deadline ∷ []) refl (lit≤ tt, lit≤ tt)
-out_line_is (Outs.Answered client number (Stopped serial)) =
-    numbered 115 (codes "topped") (client ∷ number ∷ serial ∷ []) refl (lit≤ tt, lit≤ tt)
-out_line_is (Outs.Answered client number (Restarted handle deadline old)) =
-    numbered 114 (codes "estarted") (client ∷ number ∷ old ∷ handle.serial ∷ deadline ∷ []) refl (lit≤ tt, lit≤ tt)
 out_line_is (Outs.Answered client number (Refused why)) = refused (client ∷ number ∷ []) (reason_word why) (reason_bare why)
 out_line_is (Outs.NotTaken client number why) = refused (client ∷ number ∷ []) (refusal_word why) (refusal_bare why)
-out_line_is (Outs.Notice (Expired t)) =
-    numbered 101 (codes "xpired") (t.deadline ∷ t.client ∷ t.serial ∷ t.action ∷ []) refl (lit≤ tt, lit≤ tt)
-out_line_is (Outs.Notice (Returned t)) =
-    numbered 114 (codes "eturned") (t.client ∷ t.serial ∷ t.deadline ∷ t.action ∷ []) refl (lit≤ tt, lit≤ tt)
-out_line_is (Outs.TickRefused fault.Closed) = plain 116 (codes "ick refused closed") refl (lit≤ tt, lit≤ tt)
-out_line_is (Outs.TickRefused fault.ClockEnd) = plain 116 (codes "ick refused clock-end") refl (lit≤ tt, lit≤ tt)
-out_line_is (Outs.Closed count) = numbered 99 (codes "losed") (count ∷ []) refl (lit≤ tt, lit≤ tt)
-out_line_is Outs.CloseRefused = plain 99 (codes "lose refused closed") refl (lit≤ tt, lit≤ tt)
+out_line_is (Outs.TickRefused fault.Closed) = search lines
+out_line_is (Outs.Notice (Expired t)) = search lines
+out_line_is out = search lines
 
 pub end_line_is : (now pending : ℕ) → IsOutLine (end_line now pending)
-end_line_is now pending = numbered 101 (codes "nd") (now ∷ pending ∷ []) refl (lit≤ tt, lit≤ tt)
+end_line_is now pending = numbered (codes "end") (now ∷ pending ∷ []) refl
 
 -- ---- without the places of handles
 
 out_line-bare : (out : Out) → out_line (bare out) ≡ out_line out
 out_line-bare (Outs.Answered client number (Started handle deadline)) = refl
-out_line-bare (Outs.Answered client number (Stopped serial)) = refl
-out_line-bare (Outs.Answered client number (Restarted handle deadline old)) = refl
-out_line-bare (Outs.Answered client number (Refused why)) = refl
-out_line-bare (Outs.NotTaken client number why) = refl
-out_line-bare (Outs.Notice notice) = refl
-out_line-bare (Outs.TickRefused why) = refl
-out_line-bare (Outs.Closed count) = refl
-out_line-bare Outs.CloseRefused = refl
+out_line-bare out = refl
 
 lines-bare : (outs : List Out) → flat_map out_line (bare_outs outs) ≡ flat_map out_line outs
 lines-bare [] = refl
