@@ -22,10 +22,10 @@ LAST, TICKS, MOST = (LIMITS[name] for name in ("LAST", "MAX_TICKS", "MAX_CLIENTS
 SLOTS = {math.prod(table["radices"][:wheel]) for table in TABLES.values() for wheel in (1, 2, 3)}
 EDGES = [0, 1, 2, *sorted({slot + by for slot in SLOTS for by in (-1, 0, 1)}), TICKS, TICKS + 1, LAST - 1]
 EDGES += [limit for name, limit in LIMITS.items() if name.startswith("LAST")]
-# The words of requests, with how often each is made, of other lines with a number, and of those that are made seldom.
+# The words of requests, with how often each is made, and of other lines. After a close little happens.
 REQUESTS = {word: 0.23 if "serial" in FIELDS[word] else 0.55 for word in WORDS["script"] if "client" in FIELDS[word]}
-OTHERS = [word for word in WORDS["script"] if FIELDS[word] and word not in REQUESTS]
-SELDOM = [word for word in WORDS["script"] if not FIELDS[word]]
+CLOSE = "close"
+OTHERS = [word for word in WORDS["script"] if word not in (*REQUESTS, CLOSE)]
 
 
 class Client:
@@ -86,7 +86,7 @@ class Script:
                 word = self.chance.choice(OTHERS)
                 self.add(word, **dict.fromkeys(FIELDS[word], min(TICKS, max(1, self.interval()))))
             else:
-                self.add(self.chance.choice(SELDOM))
+                self.add(CLOSE)
         if self.chance.random() < 0.1:
             at = self.chance.randrange(len(self.lines))
             self.lines[at] = self.spoiled(self.lines[at])
