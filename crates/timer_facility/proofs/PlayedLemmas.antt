@@ -185,3 +185,9 @@ outs-close_refused s h = ap (λ b. (step_of_close s b).outs) h
 
 pub state-close_refused : (s : FacilityState) → s.is_closed ≡ true → (step s Close 0).state ≡ s
 state-close_refused s h = ap (λ b. (step_of_close s b).state) h
+
+-- so it adds that out, and leaves the state
+pub adds_close_refused : (s t : FacilityState) → s ≡ t → s.is_closed ≡ true → AddsRun t Events.Close [] (Outs.CloseRefused ∷ []) t
+adds_close_refused s t same closed = subst (λ u. AddsRun u Events.Close [] (Outs.CloseRefused ∷ []) u) same
+    (AddsRun-step Events.Close {made = Close} Close refl (λ place. refl)
+    (record { place = 0; appended = sym (outs-close_refused s closed); left = sym (state-close_refused s closed) }))
