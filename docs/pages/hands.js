@@ -54,7 +54,7 @@ function soFar() {
   const before = play.lines.slice(0, step.line);
   if (step.isBad) return before;
   const text = play.lines[step.line];
-  return [...before, text.startsWith("tick ") && step.passed ? `tick ${step.passed}` : text];
+  return [...before, step.passed ? `tick ${step.passed}` : text];
 }
 
 function scriptOf(texts) { return texts.map((text) => `${text}\n`).join(""); }

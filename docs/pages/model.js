@@ -99,9 +99,9 @@ class Cutter {
   // Adds the pieces of a line that was played from now to `then`.
   add(line, text, now, then, answers, isWhole) {
     const isRefused = answers.some((answer) => answer.startsWith("tick refused"));
-    const isTick = text.startsWith("tick ") && !isRefused;
+    const isTick = then !== now && !isRefused;
     let ticks = isTick && !isWhole && this.pieces.length <= MAX_STEPS ? this.between(now, then) : null;
-    if (text.startsWith("tick ") && (isTick || then !== now) && !ticks) this.whole.push(line);
+    if (then !== now && !ticks) this.whole.push(line);
     if (!isTick) this.pieces.push({line, passed: 0n, text});
     let passed = 0n;
     for (const tick of isTick ? [...ticks ?? [], then] : []) {

@@ -270,7 +270,7 @@ class Words {
         rounds === "1" ? "" : "s"} left.`);
   }
 
-  // A refused tick that passes none says nothing of the clock.
+  // A step at which no tick passes, as a refused tick, says nothing of the clock.
   ticked(step, at) {
     const before = this.play.now(at - 1);
     if (step.now === before) return [];
@@ -291,8 +291,7 @@ class Words {
     if (at === 0) return ["Before the first line. No timer is pending. Press Play, or start a timer."];
     const step = this.play.steps[at - 1];
     if (step.isBad) return [`Line ${step.line + 1} is bad: ${this.play.reason}. Neither it nor a later line is played.`];
-    const said = [];
-    if (this.play.lines[step.line].startsWith("tick ")) said.push(...this.ticked(step, at));
+    const said = this.ticked(step, at);
     for (const event of this.play.events(at)) {
       if (event.kind === "started") said.push(this.started(event));
       else if (event.kind === "stopped")
