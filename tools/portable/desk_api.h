@@ -41,16 +41,6 @@ enum timers_desk_status timers_desk_new(struct timers_desk *d, struct timers_lin
 	return STATUS status;
 }
 
-enum timers_desk_status timers_desk_advance(struct timers_desk *d, uint64_t most, uint64_t *passed)
-{
-	return desk_answered(tm_timers_desk_advance(BYTES(d), most, BYTES(passed)), passed);
-}
-
-enum timers_desk_status timers_desk_close(struct timers_desk *d, uint64_t *returned)
-{
-	return desk_answered(tm_timers_desk_close(BYTES(d), BYTES(returned)), returned);
-}
-
 enum timers_desk_status timers_desk_settle(struct timers_desk *d, size_t client, struct timers_line *line, uint64_t *standing)
 {
 	uint32_t status;
@@ -84,11 +74,6 @@ enum timers_desk_status timers_desk_end_all(struct timers_desk *d, struct timers
 	return STATUS status;
 }
 
-enum timers_desk_status timers_desk_stop_pending(struct timers_desk *d, size_t client, uint64_t *stopped)
-{
-	return desk_answered(tm_timers_desk_stop_pending(BYTES(d), client, BYTES(stopped)), stopped);
-}
-
 enum timers_desk_status timers_desk_open(struct timers_desk *d, size_t client, struct timers_line *line, size_t room)
 {
 	uint32_t status;
@@ -99,33 +84,6 @@ enum timers_desk_status timers_desk_open(struct timers_desk *d, size_t client, s
 	return STATUS status;
 }
 
-enum timers_desk_status timers_line_start(struct timers_line *line, uint64_t interval, uint64_t action, uint64_t *number)
-{
-	return desk_answered(tm_timers_line_start(BYTES(line), interval, action, BYTES(number)), number);
-}
-
-enum timers_desk_status timers_line_start_at(struct timers_line *line, uint64_t deadline, uint64_t action, uint64_t *number)
-{
-	return desk_answered(tm_timers_line_start_at(BYTES(line), deadline, action, BYTES(number)), number);
-}
-
-enum timers_desk_status timers_line_stop(struct timers_line *line, struct timers_handle handle, uint64_t *number)
-{
-	return desk_answered(tm_timers_line_stop(BYTES(line), handle.place, handle.serial, BYTES(number)), number);
-}
-
-enum timers_desk_status timers_line_restart(struct timers_line *line, struct timers_handle handle, uint64_t interval,
-                                            uint64_t action, uint64_t *number)
-{
-	return desk_answered(tm_timers_line_restart(BYTES(line), handle.place, handle.serial, interval, action, BYTES(number)), number);
-}
-
-enum timers_desk_status timers_line_restart_at(struct timers_line *line, struct timers_handle handle, uint64_t deadline,
-                                               uint64_t action, uint64_t *number)
-{
-	return desk_answered(tm_timers_line_restart_at(BYTES(line), handle.place, handle.serial, deadline, action, BYTES(number)), number);
-}
-
 /* made by tools/facts: calls of desks that pass numbers on */
 void timers_desk_free(struct timers_desk *d) { tm_timers_desk_free(BYTES(d)); }
 enum timers_desk_status timers_desk_serve(struct timers_desk *d, size_t client) { return STATUS tm_timers_desk_serve(BYTES(d), client); }
@@ -133,6 +91,18 @@ enum timers_desk_status timers_desk_serve_all(struct timers_desk *d, uint64_t mo
 bool timers_desk_flush_all(struct timers_desk *d) { return tm_timers_desk_flush_all(BYTES(d)); }
 size_t timers_desk_flush(struct timers_desk *d, size_t client) { return (size_t)tm_timers_desk_flush(BYTES(d), client); }
 enum timers_desk_status timers_desk_tick(struct timers_desk *d) { return STATUS tm_timers_desk_tick(BYTES(d)); }
+enum timers_desk_status timers_desk_advance(struct timers_desk *d, uint64_t most, uint64_t *passed)
+{
+	return desk_answered(tm_timers_desk_advance(BYTES(d), most, BYTES(passed)), passed);
+}
+enum timers_desk_status timers_desk_close(struct timers_desk *d, uint64_t *returned)
+{
+	return desk_answered(tm_timers_desk_close(BYTES(d), BYTES(returned)), returned);
+}
+enum timers_desk_status timers_desk_stop_pending(struct timers_desk *d, size_t client, uint64_t *stopped)
+{
+	return desk_answered(tm_timers_desk_stop_pending(BYTES(d), client, BYTES(stopped)), stopped);
+}
 enum timers_desk_status timers_desk_reserve(struct timers_desk *d) { return STATUS tm_timers_desk_reserve(BYTES(d)); }
 uint64_t timers_desk_now(const struct timers_desk *d) { return tm_timers_desk_now(BYTES(d)); }
 size_t timers_desk_len(const struct timers_desk *d) { return (size_t)tm_timers_desk_len(BYTES(d)); }
@@ -141,6 +111,30 @@ uint64_t timers_desk_wakeup(const struct timers_desk *d) { return tm_timers_desk
 uint64_t timers_desk_next(const struct timers_desk *d) { return tm_timers_desk_next(BYTES(d)); }
 bool timers_desk_line_freed(struct timers_desk *d, size_t client) { return tm_timers_desk_line_freed(BYTES(d), client); }
 size_t timers_desk_outbox(const struct timers_desk *d, size_t client) { return (size_t)tm_timers_desk_outbox(BYTES(d), client); }
+enum timers_desk_status timers_line_start(struct timers_line *line, uint64_t interval, uint64_t action,
+    uint64_t *number)
+{
+	return desk_answered(tm_timers_line_start(BYTES(line), interval, action, BYTES(number)), number);
+}
+enum timers_desk_status timers_line_start_at(struct timers_line *line, uint64_t deadline, uint64_t action,
+    uint64_t *number)
+{
+	return desk_answered(tm_timers_line_start_at(BYTES(line), deadline, action, BYTES(number)), number);
+}
+enum timers_desk_status timers_line_stop(struct timers_line *line, struct timers_handle handle, uint64_t *number)
+{
+	return desk_answered(tm_timers_line_stop(BYTES(line), handle.place, handle.serial, BYTES(number)), number);
+}
+enum timers_desk_status timers_line_restart(struct timers_line *line, struct timers_handle handle, uint64_t interval, uint64_t action,
+    uint64_t *number)
+{
+	return desk_answered(tm_timers_line_restart(BYTES(line), handle.place, handle.serial, interval, action, BYTES(number)), number);
+}
+enum timers_desk_status timers_line_restart_at(struct timers_line *line, struct timers_handle handle, uint64_t deadline, uint64_t action,
+    uint64_t *number)
+{
+	return desk_answered(tm_timers_line_restart_at(BYTES(line), handle.place, handle.serial, deadline, action, BYTES(number)), number);
+}
 enum timers_desk_status timers_line_finish(struct timers_line *line) { return STATUS tm_timers_line_finish(BYTES(line)); }
 bool timers_line_ended(const struct timers_line *line) { return tm_timers_line_ended(BYTES(line)); }
 bool timers_line_abandoned(struct timers_line *line) { return tm_timers_line_abandoned(BYTES(line)); }

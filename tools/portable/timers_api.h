@@ -38,10 +38,10 @@ INLINE enum timers_status turned(uint32_t status, void *answer, size_t n)
 	return (enum timers_status)status;
 }
 
-INLINE bool taken(bool whether, struct timers_expired *to, struct timers_expired *timer)
+INLINE bool taken(bool whether, void *to, void *answer, size_t n)
 {
 	if (whether)
-		give(to, timer, 3);
+		give(to, answer, n);
 	return whether;
 }
 
@@ -66,20 +66,6 @@ void timers_free(struct timers *t)
 		tm_timers_free(BYTES(t));
 }
 
-enum timers_status timers_start(struct timers *t, uint64_t interval, uint64_t action, struct timers_handle *handle)
-{
-	struct timers_handle made;
-
-	return answered(tm_timers_start(BYTES(t), interval, action, BYTES(&made)), handle, &made, 2);
-}
-
-enum timers_status timers_start_at(struct timers *t, uint64_t deadline, uint64_t action, struct timers_handle *handle)
-{
-	struct timers_handle made;
-
-	return answered(tm_timers_start_at(BYTES(t), deadline, action, BYTES(&made)), handle, &made, 2);
-}
-
 enum timers_status timers_restart(struct timers *t, struct timers_handle handle, uint64_t interval, uint64_t action,
                                   struct timers_handle *restarted)
 {
@@ -88,14 +74,6 @@ enum timers_status timers_restart(struct timers *t, struct timers_handle handle,
 	if (RARE(restarted == NULL))
 		restarted = &unwanted;
 	return turned(tm_timers_restart(BYTES(t), handle.place, handle.serial, interval, action, BYTES(restarted)), restarted, 2);
-}
-
-enum timers_status timers_restart_at(struct timers *t, struct timers_handle handle, uint64_t deadline, uint64_t action,
-                                     struct timers_handle *restarted)
-{
-	struct timers_handle made;
-
-	return answered(tm_timers_restart_at(BYTES(t), handle.place, handle.serial, deadline, action, BYTES(&made)), restarted, &made, 2);
 }
 
 /* Its handle is read, too. */
@@ -107,13 +85,6 @@ enum timers_status timers_set_at(struct timers *t, struct timers_handle *handle,
 	status = tm_timers_set_at(BYTES(t), BYTES(handle), deadline, action);
 	turn(handle, 2);
 	return (enum timers_status)status;
-}
-
-enum timers_status timers_stop(struct timers *t, struct timers_handle handle, uint64_t *action)
-{
-	uint64_t old;
-
-	return answered(tm_timers_stop(BYTES(t), handle.place, handle.serial, BYTES(&old)), action, &old, 1);
 }
 
 enum timers_status timers_look(const struct timers *t, struct timers_handle handle, struct timers_expired *out)
@@ -136,43 +107,50 @@ bool timers_each(const struct timers *t, uint64_t *cursor, struct timers_handle 
 	turn(cursor, 1);
 	if (found)
 		give(handle, &its_handle, 2);
-	return taken(found, out, &timer);
-}
-
-enum timers_status timers_advance(struct timers *t, uint64_t most, uint64_t *passed)
-{
-	uint64_t ticks;
-
-	return answered(tm_timers_advance(BYTES(t), most, BYTES(&ticks)), passed, &ticks, 1);
-}
-
-bool timers_take(struct timers *t, uint64_t tick, struct timers_expired *out)
-{
-	struct timers_expired timer;
-
-	return taken(tm_timers_take(BYTES(t), tick, BYTES(&timer)), out, &timer);
-}
-
-bool timers_expire(struct timers *t, struct timers_expired *out)
-{
-	struct timers_expired timer;
-
-	return taken(tm_timers_expire(BYTES(t), BYTES(&timer)), out, &timer);
-}
-
-size_t timers_expire_batch(struct timers *t, struct timers_expired *out, size_t room)
-{
-	const size_t count = (size_t)tm_timers_expire_batch(BYTES(t), BYTES(out), room);
-
-	turn(out, 3 * count);
-	return count;
+	return taken(found, out, &timer, 3);
 }
 
 /* made by tools/facts: calls that pass numbers on */
 void timers_clear(struct timers *t) { tm_timers_clear(BYTES(t)); }
 enum timers_status timers_reserve(struct timers *t, size_t most) { return (enum timers_status)tm_timers_reserve(BYTES(t), most); }
+enum timers_status timers_start(struct timers *t, uint64_t interval, uint64_t action, struct timers_handle *handle)
+{
+	struct timers_handle made;
+	return answered(tm_timers_start(BYTES(t), interval, action, BYTES(&made)), handle, &made, sizeof made / 8);
+}
+enum timers_status timers_start_at(struct timers *t, uint64_t deadline, uint64_t action, struct timers_handle *handle)
+{
+	struct timers_handle made;
+	return answered(tm_timers_start_at(BYTES(t), deadline, action, BYTES(&made)), handle, &made, sizeof made / 8);
+}
+enum timers_status timers_restart_at(struct timers *t, struct timers_handle handle, uint64_t deadline, uint64_t action,
+    struct timers_handle *restarted)
+{
+	struct timers_handle made;
+	return answered(tm_timers_restart_at(BYTES(t), handle.place, handle.serial, deadline, action, BYTES(&made)), restarted, &made, sizeof made / 8);
+}
+enum timers_status timers_stop(struct timers *t, struct timers_handle handle, uint64_t *action)
+{
+	uint64_t made;
+	return answered(tm_timers_stop(BYTES(t), handle.place, handle.serial, BYTES(&made)), action, &made, sizeof made / 8);
+}
 enum timers_status timers_tick(struct timers *t) { return (enum timers_status)tm_timers_tick(BYTES(t)); }
+enum timers_status timers_advance(struct timers *t, uint64_t most, uint64_t *passed)
+{
+	uint64_t made;
+	return answered(tm_timers_advance(BYTES(t), most, BYTES(&made)), passed, &made, sizeof made / 8);
+}
 enum timers_status timers_advance_to(struct timers *t, uint64_t tick) { return (enum timers_status)tm_timers_advance_to(BYTES(t), tick); }
+bool timers_take(struct timers *t, uint64_t tick, struct timers_expired *out)
+{
+	struct timers_expired made;
+	return taken(tm_timers_take(BYTES(t), tick, BYTES(&made)), out, &made, sizeof made / 8);
+}
+bool timers_expire(struct timers *t, struct timers_expired *out)
+{
+	struct timers_expired made;
+	return taken(tm_timers_expire(BYTES(t), BYTES(&made)), out, &made, sizeof made / 8);
+}
 bool timers_has_due(const struct timers *t) { return tm_timers_has_due(BYTES(t)); }
 uint64_t timers_now(const struct timers *t) { return tm_timers_now(BYTES(t)); }
 size_t timers_len(const struct timers *t) { return (size_t)tm_timers_len(BYTES(t)); }
@@ -180,12 +158,18 @@ uint64_t timers_wakeup(const struct timers *t) { return tm_timers_wakeup(BYTES(t
 uint64_t timers_next(const struct timers *t) { return tm_timers_next(BYTES(t)); }
 uint64_t timers_find_next(struct timers *t) { return tm_timers_find_next(BYTES(t)); }
 uint64_t timers_move_ahead(struct timers *t, uint64_t most) { return tm_timers_move_ahead(BYTES(t), most); }
+enum timers_status timers_counts(const struct timers *t, struct timers_counters *counts)
+{
+	struct timers_counters made;
+	return answered(tm_timers_counts(BYTES(t), BYTES(&made)), counts, &made, sizeof made / 8);
+}
 uint32_t timers_version(void) { return tm_timers_version(); }
 
 /* by hand */
-enum timers_status timers_counts(const struct timers *t, struct timers_counters *counts)
+size_t timers_expire_batch(struct timers *t, struct timers_expired *out, size_t room)
 {
-	struct timers_counters counted;
+	const size_t count = (size_t)tm_timers_expire_batch(BYTES(t), BYTES(out), room);
 
-	return answered(tm_timers_counts(BYTES(t), BYTES(&counted)), counts, &counted, 3);
+	turn(out, 3 * count);
+	return count;
 }
