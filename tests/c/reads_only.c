@@ -69,11 +69,12 @@ static void *read_all(void *unused)
 		sum += e.action;
 	wrong += sum != (uint64_t)TIMERS * (TIMERS - 1) / 2;
 	/* made by tools/facts: reads that write nothing */
-	(void)timers_has_due(t), (void)timers_has_due(&all->later);
-	(void)timers_now(t), (void)timers_now(&all->later);
-	(void)timers_len(t), (void)timers_len(&all->later);
-	(void)timers_wakeup(t), (void)timers_wakeup(&all->later);
-	(void)timers_next(t), (void)timers_next(&all->later);
+	sum += timers_has_due(t), sum += timers_has_due(&all->later);
+	sum += timers_now(t), sum += timers_now(&all->later);
+	sum += timers_len(t), sum += timers_len(&all->later);
+	sum += timers_wakeup(t), sum += timers_wakeup(&all->later);
+	sum += timers_next(t), sum += timers_next(&all->later);
+	sum += timers_counts(t, NULL), sum += timers_counts(&all->later, NULL);
 	/* by hand, with what some of them return */
 	wrong += timers_now(t) != 10 || !timers_has_due(t) || timers_len(t) >= TIMERS;
 	wrong += timers_wakeup(t) != 10 || timers_next(t) != 10;
