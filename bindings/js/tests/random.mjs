@@ -50,6 +50,15 @@ class Model {
   }
 }
 
+function compare_reads(timers, model) {
+  const next = model.next();
+  const wakeup = timers.wakeup();
+  same(timers.now, model.now, "now");
+  same(timers.next(), next, "next");
+  same(timers.length, model.held.filter((each) => each.deadline > model.now).length, "length");
+  if (wakeup > next || wakeup < (next === Infinity ? next : model.now)) throw new Error(`wakeup: ${wakeup}`);
+}
+
 function play(first, calls) {
   const timers = new Timers(first);
   const model = new Model(first);
@@ -182,11 +191,7 @@ function play(first, calls) {
         gone(timer);
         model.drop(timer);
     }
-    same(timers.now, model.now, "now");
-    same(timers.next(), model.next(), "next");
-    const wakeup = timers.wakeup();
-    if (wakeup > model.next() || wakeup < model.now) throw new Error(`wakeup: ${wakeup}`);
-    if (call % 64 === 0) same(timers.length, model.held.filter((each) => each.deadline > model.now).length, "length");
+    compare_reads(timers, model);
   }
   for (const got of timers.expired(LAST)) {
     const wanted = model.take(LAST);
@@ -196,6 +201,7 @@ function play(first, calls) {
   same(model.take(LAST), undefined, "what is left");
   same(timers.now, LAST, "the last tick");
   timers.free();
+  compare_reads(timers, new Model(0)); // what is freed reads as what is empty, at tick 0
   return expired;
 }
 
