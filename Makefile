@@ -16,6 +16,7 @@
 #                  repository: it writes bench/results/tail.csv and docs/tail.svg (measure-scale and measure-next as well)
 # make bench-next  measures turns of an event loop that asks for its next deadline (bench/build/results)
 # make bench-desk  measures client threads over a desk, over C++ rings and around a mutex (bench/build/results)
+# make bench-lines measures a desk's calls in one thread, its flushes, and the clients of timers threads, beside C++
 # make ports       libuv, nginx and lwIP on these timers: their tests, traces, memory, instructions (ports/README.md)
 # make docs        makes docs/moving.svg and docs/pages/lessons.js from the scripts of examples/ and docs/formats.md, and
 #                  counts lines for docs/proofs.md (tools/page_program makes docs/pages/program.js, with clang for wasm32)
@@ -31,11 +32,9 @@
 # make generate    as make prove, and builds nothing
 # make soak        all clients, of 10,000 timers each, in threads, 100 times; prints progress
 # make bench       measures the wheels against others (bench/README.md)
-# make bench-lines measures the owner's desk, its flushes and clients in threads against others
 
 KIT = $(dir $(shell rt doc))
 SOAK = crates/timer_soak/out/timer_soak
-DESK_BENCH = crates/timer_desk_bench/out/timer_desk_bench
 SCRIPT = examples/retransmission
 ARGUMENTS = play
 MINUTES = 60
@@ -108,10 +107,8 @@ bench: lib
 	$(MAKE) bench-lines
 
 bench-lines: timers
-	cd crates/timer_desk_bench && rt run
-	$(MAKE) -C bench lines WORK=$(CURDIR)/$(DESK_BENCH) TIMERS=$(CURDIR)/timers LINE_OPTIONS="$(LINE_OPTIONS)"
 
-bench-scale bench-tail bench-next bench-desk: bench-%: lib
+bench-scale bench-tail bench-next bench-desk bench-lines: bench-%: lib
 	$(MAKE) -C bench $* TIMERS_C=$(CURDIR)/build/lib/libtimers.a RUN_OPTIONS="$(RUN_OPTIONS)"
 
 measure-scale measure-tail measure-next: lib
@@ -139,4 +136,4 @@ clean:
 	rm -rf crates/*/out build timers tools/install/*.[13]
 	$(MAKE) -C bench clean
 
-.PHONY: FORCE all lib pages run test prove try generate install uninstall dist deb rpm bench bench-lines bench-scale bench-tail bench-next bench-desk measure-scale measure-tail measure-next fuzz fuzz-loop soak docs ports clean
+.PHONY: FORCE all lib pages run test prove try generate install uninstall dist deb rpm bench bench-scale bench-tail bench-next bench-desk bench-lines measure-scale measure-tail measure-next fuzz fuzz-loop soak docs ports clean

@@ -18,7 +18,7 @@ import time
 import figures
 
 TOP = os.path.join(figures.HERE, "..")
-WORK, TIMERS = os.path.join(TOP, "crates/timer_desk_bench/out/timer_desk_bench"), os.path.join(TOP, "timers")
+TIMERS = os.path.join(TOP, "timers")
 SHORT = (
     "churn-1k,churn-10k,churn-100k,churn-1M,push-back-1k,push-back-10k,push-back-100k,push-back-1M,"
     "expire-1000,expire-log20,expire-log30,expire-log40,steady-1M,burst-1000,burst-5000"
@@ -29,7 +29,7 @@ COLUMNS = ["timers-hier", "timers-c", "ref-calls", "ref-apart", "tokio-wheel", "
 SCRIPTS = {
     "instructions": ["instructions.py"],
     "programs": ["programs.py", TIMERS, "--runs", "120"],
-    "lines": ["lines.py", WORK],
+    "lines": ["lines.py"],
     "tail": ["runs.py", "tail", "--repeats", "3"],
     "scale": ["runs.py", "scale", "--repeats", "3", "--count", "500000"],
     "next": ["runs.py", "next", "--repeats", "3"],

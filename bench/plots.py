@@ -244,22 +244,24 @@ def tail(folder):
 
 
 def lines(folder):
-    rows = [(row["row"], row["ratio"]) for row in figures.read("lines") if "against" not in row["row"]]
-    for row in figures.read("threads"):
-        cores = f"threads, {row['cores']} core{'' if row['cores'] == '1' else 's'}"
-        rows.append((cores, row["to threads_ref"]))
+    calls, threads = figures.read("lines"), figures.read("threads")
+    rows = [(row["row"], row["to desk_ref"], row["to desk_seq"]) for row in calls]
+    rows += [(f"threads, {row['cores']} cores".replace(" 1 cores", " 1 core"), row["to threads_ref"], row["to threads_seq"]) for row in threads]
+    names, *ratios = zip(*rows)
     figure, axes = plt.subplots(figsize=(WIDTH, 5.6), layout="constrained")
-    draw(axes, range(len(rows)), [cell for _, cell in rows], "product", is_across=True)
-    axes.set_yticks(range(len(rows)), [name for name, _ in rows])
+    for shift, style, label, cells, across in ((0.15, "product", "to rings with such stores, too", ratios[1], "right"),
+                                               (-0.15, "first", "to C++", ratios[0], "left")):
+        draw(axes, [at + shift for at in range(len(rows))], cells, style, is_across=True)
+        name(axes, style, label, median(cells[0]), -0.75, across, "bottom", glyph=True)
+    axes.set_yticks(range(len(rows)), names)
     axes.set_ylim(len(rows) - 0.4, -0.6)
-    ratio_axis(axes, 0.15, 10, [0.2, 0.5, 1, 2, 5, 10])
-    under(figure, f"ratio to the row's peer (1): the facility alone, or C++; less is better\n{MARKS}\n{machine('lines')}; "
-          f"threads {date('programs')}")
-    desk, threads = ([median(cell) for name, cell in rows if name.startswith(of)] for of in ("desk", "threads"))
-    save(figure, folder, "lines", f"A desk takes {min(desk):.1f} to {max(desk):.1f} times as long as the same requests without one, and client threads "
-         f"{min(threads):.1f} to {max(threads):.1f} times as long as in C++",
-         "The desk, its flushes and client threads beside their peers. Ratios of time; of the desk and its flushes with the least and the greatest of five runs. bench/results/lines.csv and "
-         "threads.csv have the numbers.")
+    ratio_axis(axes, 0.4, 6, [0.5, 1, 2, 5])
+    under(figure, f"ratio to the same in C++ (1); less is better\n{MARKS}\n{machine('lines')}; threads {date('programs')}")
+    desks = [row for row in calls if row["row"].startswith("desk")]
+    save(figure, folder, "lines", f"A desk takes {reach(desks, 'to desk_ref')} times as long as one in C++, and {reach(desks, 'to desk_seq')} times as long as "
+         "one whose stores are sequentially consistent, too",
+         "A desk's calls in one thread, its flushes and client threads, beside the same in C++. Ratios of time, of calls and flushes with the least and the greatest. "
+         "bench/results/lines.csv and threads.csv have the numbers.")
 
 
 def main():

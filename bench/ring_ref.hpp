@@ -56,7 +56,7 @@ struct RingRef {
   size_t tail_seen = 0;
 };
 
-// As many bytes as a request and a word of the product have.
+// A request has as many bytes as the product's, and a word 8 fewer.
 struct RequestItem { uint64_t number, kind, place, serial, interval, action; };
 struct WordItem { uint64_t kind, a, b, c, d, e, f; };
 struct LineRef {
