@@ -4,15 +4,16 @@ use Rattle.timer_base.specs.declared.limits.TheConstants.{LAST}
 use Rattle.timer_base.specs.Layout.{Layout, NoSlots, OneWheel}
 use Rattle.timer_facility.specs.declared.config.Config.{Config}
 use Rattle.timer_facility.specs.Config.{config_fault}
-use Rattle.timer_wheels.specs.declared.table.TheConstants.{LAST_OF_CLOCK}
 use Rattle.timer_wheels.specs.declared.table.Table.TheVariants as table
 use Rattle.timer_wheels.specs.Tables.{layout_of_table, smooth_layout}
 use Rattle.timer_commands.specs.declared.options.Scheme.{Scheme}
-use Rattle.timer_commands.specs.declared.options.Scheme.TheVariants.{Plain, Hashed, Hier, Clock, Smooth}
 use Rattle.timer_commands.specs.declared.options.RunOptions.{RunOptions}
 use Rattle.timer_commands.specs.declared.options.WhyOptions.{WhyOptions}
 use Rattle.timer_commands.specs.declared.options.OptionsFault.{OptionsFault}
 use Rattle.timer_commands.specs.declared.options.OptionsFault.TheVariants as faults
+-- made by tools/facts: definitions of schemes
+use Rattle.timer_wheels.specs.declared.table.TheConstants.{LAST_OF_CLOCK}
+use Rattle.timer_commands.specs.declared.options.Scheme.TheVariants.{Plain, Hashed, Hier, Clock, Smooth}
 
 -- the name of a scheme among the arguments
 abbrev pub name_of : Scheme → List ℕ
@@ -37,6 +38,8 @@ scheme_last Hashed = LAST
 scheme_last Hier = LAST
 scheme_last Clock = LAST_OF_CLOCK
 scheme_last Smooth = LAST
+
+-- by hand
 
 -- the configuration of the facility: serials and request numbers begin at 1
 abbrev pub config_of : RunOptions → Config

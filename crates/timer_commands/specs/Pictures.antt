@@ -3,6 +3,8 @@ use Rattle.std.specs.Prelude.{◌<◌, ◌≤◌, length, ℕ, zero, suc, ◌-�
 use Rattle.std.specs.List.{filter, flat_map, AllByRecursion}
 use Rattle.timer_links.specs.declared.kept.Node.{Node}
 use Rattle.timer_links.specs.Lists.{list_at, KeyedLists, Rows}
+use Rattle.timer_wheels.specs.Digits.{lowest_radix}
+use Rattle.timer_wheels.specs.Tables.{radices}
 use Rattle.timer_commands.specs.declared.render.Naming.{Naming}
 use Rattle.timer_commands.specs.declared.render.Naming.TheVariants as namings
 use Rattle.timer_commands.specs.declared.shows.Filter.{Filter}
@@ -29,8 +31,7 @@ EachBySerial lists = (l : ℕ) → l < length lists → AreBySerial (list_at l l
 -- timers are shown with their rounds
 abbrev pub shows_rounds : Naming → Bool
 shows_rounds namings.Slots = true
-shows_rounds namings.Wheels = false
-shows_rounds namings.SmallWheels = false
+shows_rounds (namings.Wheels table) = false
 shows_rounds namings.Turns = false
 shows_rounds namings.Clock = false
 
@@ -62,8 +63,7 @@ hand_name list =
 -- the name of the bucket that is this list
 abbrev pub bucket_name : Naming → ℕ → List ℕ
 bucket_name namings.Slots list = codes " slot " ++ decimal list
-bucket_name namings.Wheels list = slot_name 64 list
-bucket_name namings.SmallWheels list = slot_name 16 list
+bucket_name (namings.Wheels table) list = slot_name (lowest_radix (radices table)) list
 bucket_name namings.Turns list = slot_name 128 list
 bucket_name namings.Clock list = hand_name list
 

@@ -34,13 +34,7 @@ use crate::shows::Filter;
 use itoa::Buffer;
 use timer_base::{OutOfMemory, PlainWheel, Timer, Wheel};
 use timer_links::{Kept, Links, Node};
-use timer_wheels::{HashedWheel, HierWheel, SmoothWheel, Table};
-
-/// The slots of each wheel of the hierarchy.
-const WHEEL_SLOTS: u64 = 64;
-
-/// The slots of each wheel of the table for small machines.
-const SMALL_SLOTS: u64 = 16;
+use timer_wheels::{HashedWheel, HierWheel, SmoothWheel, Table, lowest_slots};
 
 /// The slots of two revolutions of a hierarchy's wheel, which the smooth wheel has for each.
 const TURN_SLOTS: u64 = 128;
@@ -158,10 +152,8 @@ impl Placement for SmoothWheel {
 pub enum Naming {
     /// By their slots alone. Each timer is shown with its rounds.
     Slots,
-    /// By wheel and slot.
-    Wheels,
-    /// By wheel and slot of wheels for small machines.
-    SmallWheels,
+    /// By wheel and slot, of a table whose wheels have equally many slots.
+    Wheels(Table),
     /// By wheel and slot of its two revolutions.
     Turns,
     /// By the hands of the clock.
@@ -171,9 +163,8 @@ pub enum Naming {
 /// How the buckets of a hierarchy are named.
 fn naming_of(table: Table) -> Naming {
     match table {
-        Table::Wide => Naming::Wheels,
         Table::Clock => Naming::Clock,
-        Table::Small => Naming::SmallWheels,
+        _ => Naming::Wheels(table),
     }
 }
 
@@ -343,7 +334,7 @@ fn has_rounds(naming: Naming) -> bool
 {
     match naming {
         Naming::Slots => true,
-        Naming::Wheels | Naming::SmallWheels | Naming::Turns | Naming::Clock => false,
+        Naming::Wheels(_) | Naming::Turns | Naming::Clock => false,
     }
 }
 
@@ -375,8 +366,7 @@ fn push_name(text: &mut Vec<u8>, list: u64, naming: Naming) -> Result<(), OutOfM
 {
     match naming {
         Naming::Slots => push_number(text, b" slot ", list),
-        Naming::Wheels => push_slot(text, list, WHEEL_SLOTS),
-        Naming::SmallWheels => push_slot(text, list, SMALL_SLOTS),
+        Naming::Wheels(table) => push_slot(text, list, lowest_slots(table) as u64),
         Naming::Turns => push_slot(text, list, TURN_SLOTS),
         Naming::Clock => push_hand(text, list),
     }

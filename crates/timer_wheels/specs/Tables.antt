@@ -1,20 +1,21 @@
--- The tables that a hierarchy of wheels may have: a row of each definition for each of them.
+-- The tables that a hierarchy of wheels may have.
 use Rattle.std.specs.Prelude.{ℕ, ◌+◌, ◌*◌, ◌/◌, Bool, true, false, List, [], ◌∷◌}
 use Rattle.timer_base.specs.Layout.{Layout, NoSlots, OneWheel, OneRevolution, TwoRevolutions}
 use Rattle.timer_wheels.specs.Types.{LAST, Table}
-use Rattle.timer_wheels.specs.declared.table.TheConstants.{LAST_OF_CLOCK, LAST_OF_SMALL}
-use Rattle.timer_wheels.specs.declared.table.Table.TheVariants.{Wide, Clock, Small}
 use Rattle.timer_wheels.specs.Digits.{slots}
+-- made by tools/facts: definitions of tables
+use Rattle.timer_wheels.specs.declared.table.Table.TheVariants.{Wide, Clock, Small}
+use Rattle.timer_wheels.specs.declared.table.TheConstants.{LAST_OF_CLOCK, LAST_OF_SMALL}
 
--- ten digits in base 64
+-- ten wheels of 64 slots
 unfoldable pub wide : List ℕ
 wide = 64 ∷ 64 ∷ 64 ∷ 64 ∷ 64 ∷ 64 ∷ 64 ∷ 64 ∷ 64 ∷ 64 ∷ []
 
--- seconds, minutes, hours and days
+-- 60 seconds, 60 minutes, 24 hours, 100 days
 unfoldable pub clock : List ℕ
 clock = 60 ∷ 60 ∷ 24 ∷ 100 ∷ []
 
--- six digits in base 16
+-- six wheels of 16 slots
 unfoldable pub small : List ℕ
 small = 16 ∷ 16 ∷ 16 ∷ 16 ∷ 16 ∷ 16 ∷ []
 
@@ -29,6 +30,14 @@ abbrev pub last_of_table : Table → ℕ
 last_of_table Wide = LAST
 last_of_table Clock = LAST_OF_CLOCK
 last_of_table Small = LAST_OF_SMALL
+
+-- the most moves of a tick, if the paces were fixed for at most n timers
+abbrev pub tick_bound : Table → ℕ → ℕ
+tick_bound Wide n = 2 * n / 63 + 18
+tick_bound Clock n = n / 29 + 6
+tick_bound Small n = 2 * n / 15 + 10
+
+-- by hand
 
 -- how many slots its wheels have in all
 abbrev pub slots_of_table : Table → ℕ
@@ -53,9 +62,3 @@ radices_of (TwoRevolutions rs) = rs
 abbrev pub is_smooth : Layout → Bool
 is_smooth (TwoRevolutions rs) = true
 is_smooth layout = false
-
--- the most moves of a tick, if the paces were fixed for at most n timers
-abbrev pub tick_bound : Table → ℕ → ℕ
-tick_bound Wide n = 2 * n / 63 + 18
-tick_bound Clock n = n / 29 + 6
-tick_bound Small n = 2 * n / 15 + 10

@@ -8,8 +8,8 @@
 //!     Clock   990915 = 11 days 11:15:15                        digits  11 11 15 15
 //!     Small   4161 = 1 * 16^3 + 4 * 16 + 1                     digits  0 0 1 0 4 1
 //!
-//! How a digit is found is each table's own matter. All that depends on it is in the table's file (`wide`, `clock`,
-//! `small`), whose public functions are called by those here and by those of a smooth wheel's `turns`.
+//! How a digit is found is each table's own matter. All that depends on it is in the table's file, whose public
+//! functions are called by those here and by those of a smooth wheel's `turns`.
 ghost use Rattle.std.specs.Prelude.{◌≡◌, ◌==◌, ◌<◌, ◌≤◌, ◌/◌, ◌%◌};
 ghost use Rattle.timer_base.specs.declared.limits.TheConstants.{LAST};
 ghost use Rattle.timer_wheels.specs.declared.table.TheConstants.{MOST_BUCKETS};

@@ -7,7 +7,7 @@ use std::fmt::Debug;
 use std::process::Abort;
 use std::test::Fail;
 use timer_base::{Handle, LAST, OutOfMemory, PlainWheel, Timer, Wheel};
-use timer_wheels::{HashedWheel, HierWheel, SmoothWheel, Table};
+use timer_wheels::{HashedWheel, HierWheel, SmoothWheel, Tiers};
 
 /// Compares two values. It is a function so that its callers have no branch.
 pub fn same<T: PartialEq + Debug + Drop>(rt: &impl Abort, found: T, expected: T) {
@@ -133,7 +133,9 @@ fn each_wheel_starts_restarts_stops_and_expires(rt: HostRuntime) -> Result<(), F
     for slots in [1, 8, 256, 65536] {
         use_wheel(&rt, alloc, &mut HashedWheel::new(alloc, slots, 0)?)?;
     }
-    for table in [Table::Wide, Table::Clock, Table::Small] {
+    // Each table has a number, from 0 on.
+    for tiers in (0..u32::MAX).map_while(Tiers::with_number) {
+        let table = tiers.table();
         use_wheel(&rt, alloc, &mut HierWheel::with_table(alloc, table, 0)?)?;
         use_wheel(&rt, alloc, &mut SmoothWheel::with_table(alloc, table, 0)?)?;
     }
