@@ -87,18 +87,17 @@ EOT
     [[ $output != *malloc* ]]
 }
 
-@test "the memory of 10, 100 and 1,000 timers is what the page says" {
+@test "the wheels take the memory that the page says, with 10, 100 and 1,000 timers" {
     needs cc
     cc $small -o "$work/small" tests/c/small.c generated/timers.c
     "$work/small" memory > "$work/memory"
-    [ "$(wc -l < "$work/memory")" -eq 3 ]
-    rows Memory | grep '^[0-9]' | diff - "$work/memory"
+    rows Memory | sed -n 's/^TIMERS_[A-Z0-9]* //p' | diff - "$work/memory"
 }
 @test "and on armhf, too" {
     needs_arm
     $arm $small -o "$work/small" tests/c/small.c generated/timers.c
     qemu-arm-static "$work/small" memory > "$work/memory"
-    rows Memory | grep '^[0-9]' | diff - "$work/memory"
+    rows Memory | sed -n 's/^TIMERS_[A-Z0-9]* //p' | diff - "$work/memory"
 }
 
 @test "no call takes more stack than the page says" {

@@ -1,6 +1,6 @@
 /* What the library takes on a small machine. Compiled with -DTIMERS_NO_MALLOC over memory of its own.
  *
- *     small memory             a row for each number of timers: the bytes of each table, with a resize and without
+ *     small memory             a row for each table: the bytes of its wheels, with a resize and without
  *     small NAME COUNT HELD    runs an operation COUNT times, at most 2,000, while HELD other timers are pending: the difference
  *                              of two such runs is what the operation takes */
 #include <inttypes.h>
@@ -87,15 +87,20 @@ static size_t bytes_of(uint32_t table, size_t most, bool all)
 	return bytes;
 }
 
+/* The bytes of the wheels: those of all blocks but 40 for each timer, however many these are. */
+static size_t bytes_of_wheels(uint32_t table, bool all)
+{
+	const size_t bytes = bytes_of(table, 1000, all) - 40 * 1000;
+
+	return bytes_of(table, 10, all) - 40 * 10 == bytes && bytes_of(table, 100, all) - 40 * 100 == bytes ? bytes : 0;
+}
+
 static int memory_rows(void)
 {
-	static const size_t numbers[] = { 10, 100, 1000 };
-	int k;
+	uint32_t table;
 
-	for (k = 0; k < 3; k++)
-		printf("%zu %zu %zu %zu %zu %zu %zu\n", numbers[k], bytes_of(TIMERS_WIDE, numbers[k], false), bytes_of(TIMERS_WIDE, numbers[k], true),
-		       bytes_of(TIMERS_CLOCK, numbers[k], false), bytes_of(TIMERS_CLOCK, numbers[k], true),
-		       bytes_of(TIMERS_SMALL, numbers[k], false), bytes_of(TIMERS_SMALL, numbers[k], true));
+	for (table = 0; table < TIMERS_TABLES; table++)
+		printf("%zu %zu\n", bytes_of_wheels(table, false), bytes_of_wheels(table, true));
 	return 0;
 }
 
