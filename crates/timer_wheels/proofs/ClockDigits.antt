@@ -4,7 +4,6 @@ use Rattle.timer_wheels.specs.Digits.{level, bucket, emptied}
 use Rattle.timer_wheels.specs.Tables.{clock}
 use Rattle.timer_wheels.proofs.DigitLaws.{level_near, level_far, bucket_near, bucket_far, emptied_here, emptied_above, visit_here, visit_above}
 use Rattle.timer_wheels.specs.Leap.{list_visit}
-use Rattle.timer_wheels.specs.Paces.{pace_at, pace_sum, FitPaces}
 
 -- the wheels from the minutes on, those from the hours on, and that of the days
 abbrev minutes : List ℕ
@@ -131,31 +130,6 @@ module _ (a d : ℕ) where
       ∙ ap suc (level_far 24 days (a / 60 / 60) (d / 60 / 60) o ∙ ap suc (level_near 100 [] (a / 60 / 60 / 24) (d / 60 / 60 / 24) e)))
 
 pub ruleset clock_levels = (clock_level_second, clock_level_minute, clock_level_hour, clock_level_day)
-
--- The sum of the paces of a smooth wheel.
-
--- how often a bucket of each wheel may hold n timers' worth of ticks, in sum
-quotients : (n : ℕ) → 58 * (n / 60 + n / 3600 + n / 86400) ≤ n
-quotients n = omega arith
-
-half : (s n : ℕ) → 58 * s ≤ n → 2 * s ≤ n / 29
-half s n h = omega arith
-
-pub sum_on_clock : (n : ℕ) (paces : List ℕ) → FitPaces clock n paces → pace_sum paces ≤ n / 29 + 6
-unfolding clock
-sum_on_clock n paces f =
-    let f0 : pace_at paces 0 ≤ 0 = f 0 in
-    let f1 : pace_at paces 1 ≤ 2 * (n / 60 + 1) = f 1 in
-    let f2 : pace_at paces 2 ≤ 2 * (n / 3600 + 1) = f 2 in
-    let f3 : pace_at paces 3 ≤ 2 * (n / 86400 + 1) = f 3 in
-    let f4 : pace_at paces 4 ≤ 0 = f 4 in
-    let f5 : pace_at paces 5 ≤ 0 = f 5 in
-    let f6 : pace_at paces 6 ≤ 0 = f 6 in
-    let f7 : pace_at paces 7 ≤ 0 = f 7 in
-    let f8 : pace_at paces 8 ≤ 0 = f 8 in
-    let f9 : pace_at paces 9 ≤ 0 = f 9 in
-    let d : 2 * (n / 60 + n / 3600 + n / 86400) ≤ n / 29 = half (n / 60 + n / 3600 + n / 86400) n (quotients n) in
-    omega arith
 
 -- what the functions of the table return
 pub ruleset clock_buckets = (bucket_second, bucket_minute, bucket_hour, bucket_day)

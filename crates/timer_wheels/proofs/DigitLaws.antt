@@ -48,7 +48,7 @@ less_quotient r a d h z n = omega (arith, quotient_mono r a d z (omega arith))
 below_multiple : (r a d : ℕ) → 0 < r → a < d → (a + 1) % r ≡ 0 → a / r < d / r
 below_multiple r a d z h m = omega (arith, next_quotient r a z m, quotient_mono r (a + 1) d z (omega arith))
 
-quotient_not_zero : (r t : ℕ) → 0 < r → t ≢ 0 → t % r ≡ 0 → t / r ≢ 0
+pub quotient_not_zero : (r t : ℕ) → 0 < r → t ≢ 0 → t % r ≡ 0 → t / r ≢ 0
 quotient_not_zero r t z n e = λ (x : t / r ≡ 0). let p : r * (t / r) ≡ r * 0 = ap (λ (v : ℕ). r * v) x in n (omega arith)
 
 -- A table with one more wheel. If the quotients are equal, the level is the lowest, else it is a level above.

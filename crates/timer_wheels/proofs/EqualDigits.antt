@@ -1,206 +1,397 @@
--- The digits, buckets and visits of `Table::Small`, one digit after another.
-use Rattle.std.proofs.Common.{◌≡◌, ◌≢◌, ◌<◌, ◌≤◌, ◌+◌, ◌-◌, ◌*◌, ◌/◌, ◌%◌, ◌^◌, ℕ, zero, suc, List, [], ◌∷◌, length, refl, sym, ◌∙◌, ap, arith, inl, inr}
+-- Tables of equal digits: their slots and weights, and buckets and visits by one digit after another.
+use Rattle.std.proofs.Common.{◌≡◌, ◌≢◌, ◌<◌, ◌≤◌, ◌+◌, ◌-◌, ◌*◌, ◌/◌, ◌%◌, ◌^◌, ◌==◌, nat_eq, ℕ, zero, suc, length, refl, sym, ◌∙◌, ap, subst, arith, inl, inr}
 use Rattle.std.proofs.lemmas.Bool.{cases_eq}
-use Rattle.std.proofs.lemmas.Nat.{pow-add}
-use Rattle.std.proofs.Math.Nat.{div-div-eq-div-mul, div-mul-le_self, mul-le-mul_right, pow-le-pow_right, mod-eq_of_lt}
-use Rattle.timer_wheels.specs.Digits.{IsTable, HasDigits, radix, weight, level, bucket, emptied}
+use Rattle.std.proofs.lemmas.Nat.{pow-add, pow_pos}
+use Rattle.std.proofs.Math.Nat.{div-div-eq-div-mul, div-le_self, div-mul-le_self, div-lt_iff_lt-mul, mul-le-mul_right, mul-suc, mul-zero, mul_comm, mul_left_comm, pow-le-pow_right, mod-eq_of_lt, mod-lt}
+use Rattle.timer_wheels.specs.Digits.{copies, equals, AreFew, IsTable, HasDigits, radix, weight, span, last_of, lowest_radix, slots_below, slots, level, bucket, emptied}
 use Rattle.timer_wheels.specs.Leap.{list_visit}
-use Rattle.timer_wheels.specs.Paces.{pace_at, pace_sum, FitPaces}
-use Rattle.timer_wheels.specs.Smooth.{slot_in, smooth_list}
-use Rattle.timer_wheels.specs.Tables.{small}
-use Rattle.timer_wheels.proofs.DigitLaws.{bucket_near, bucket_far, emptied_here, visit_here, visit_above, less_quotient, level_near, level_far, level_in_table}
+use Rattle.timer_wheels.specs.Smooth.{slot_in, smooth_list, smooth_slots}
+use Rattle.timer_wheels.proofs.DigitLaws.{quotient_is, bucket_near, bucket_far, emptied_here, emptied_above, quotient_not_zero, visit_here, visit_above, less_quotient, level_near, level_far, level_in_table}
 
--- a table of n digits in base 16
-abbrev pub sixteens : ℕ → List ℕ
-sixteens zero = []
-sixteens (suc n) = 16 ∷ sixteens n
+-- Powers of two.
 
-pub small_is : small ≡ sixteens 6
-unfolding small
-small_is = refl
+more : (b k : ℕ) → 2 ^ (b * suc k) ≡ 2 ^ (b * k) * 2 ^ b
+more b k = ap (λ (e : ℕ). 2 ^ e) (mul-suc b k) ∙ pow-add 2 (b * k) b
 
-sixteens_are_table : (n : ℕ) → IsTable (sixteens n)
-sixteens_are_table zero = tt
-sixteens_are_table (suc n) = (omega arith, sixteens_are_table n)
-
-four_more : (n : ℕ) → 2 ^ (4 * suc n) ≡ 2 ^ (4 * n) * 16
-four_more n = let e : 4 * suc n ≡ 4 * n + 4 = omega arith in ap (λ (k : ℕ). 2 ^ k) e ∙ pow-add 2 (4 * n) 4
-
-has_digits : (n t : ℕ) → t < 2 ^ (4 * n) → HasDigits (sixteens n) t
-has_digits zero t h = omega arith
-has_digits (suc n) t h = has_digits n (t / 16) (omega (arith, four_more n))
-
-weight_of_sixteens : (n k : ℕ) → k < n → weight k (sixteens n) ≡ 2 ^ (4 * k)
-weight_of_sixteens zero k h = absurd (omega arith)
-weight_of_sixteens (suc n) zero h = refl
-weight_of_sixteens (suc n) (suc k) h = omega (arith, weight_of_sixteens n k (omega arith), four_more k)
-
-radix_of_sixteens : (n k : ℕ) → k < n → radix k (sixteens n) ≡ 16
-radix_of_sixteens zero k h = absurd (omega arith)
-radix_of_sixteens (suc n) zero h = refl
-radix_of_sixteens (suc n) (suc k) h = radix_of_sixteens n k (omega arith)
+none : (b : ℕ) → 2 ^ (b * zero) ≡ 1
+none b = ap (λ (e : ℕ). 2 ^ e) (mul-zero b)
 
 pow_mono : (i j : ℕ) → i ≤ j → 2 ^ i ≤ 2 ^ j
 pow_mono i j h = pow-le-pow_right (let z : 0 < 2 = omega arith in z) h
 
-in_small : (t : ℕ) → t ≤ 16777215 → HasDigits small t
-in_small t h = rw small_is (has_digits 6 t (omega arith))
+few_values : (b : ℕ) → b ≤ 6 → 2 ^ b ≤ 64
+few_values b h = pow_mono b 6 h
 
-small_is_table : IsTable small
-small_is_table = rw small_is (sixteens_are_table 6)
+two_values : (b : ℕ) → 0 < b → 2 ≤ 2 ^ b
+two_values b h = pow_mono 1 b (omega arith)
+
+pub few_radix : (b : ℕ) → b ≤ 6 → 1 * 2 ^ b % 18446744073709551616 ≤ 64
+few_radix b h = omega (arith, few_values b h)
+
+few_bits : (b n : ℕ) → b ≤ 6 → n ≤ 10 → b * n ≤ 60
+few_bits b n h k = omega (arith, mul-le-mul_right n h)
+
+-- n wheels of r slots.
+
+module _ (r : ℕ) where
+  pub are_table : (n : ℕ) → 0 < r → IsTable (copies r n)
+  are_table zero h = tt
+  are_table (suc n) h = (h, are_table n h)
+
+  length_is : (n : ℕ) → length (copies r n) ≡ n
+  length_is zero = refl
+  length_is (suc n) = ap suc (length_is n)
+
+  pub slots_below_is : (n k : ℕ) → k ≤ n → slots_below k (copies r n) ≡ r * k
+  slots_below_is zero k h = let e : k ≡ 0 = omega arith in rw e (sym (mul-zero r))
+  slots_below_is (suc n) zero h = sym (mul-zero r)
+  slots_below_is (suc n) (suc k) h = omega (arith, slots_below_is n k (omega arith), mul-suc r k)
+
+  slots_is : (n : ℕ) → slots (copies r n) ≡ r * n
+  slots_is n = ap (λ (k : ℕ). slots_below k (copies r n)) (length_is n) ∙ slots_below_is n n (omega arith)
+
+  pub radix_is : (n k : ℕ) → k < n → radix k (copies r n) ≡ r
+  radix_is zero k h = absurd (omega arith)
+  radix_is (suc n) zero h = refl
+  radix_is (suc n) (suc k) h = radix_is n k (omega arith)
+
+  lowest_is : (n : ℕ) → 0 < n → lowest_radix (copies r n) ≡ r
+  lowest_is zero h = absurd (omega arith)
+  lowest_is (suc n) h = refl
+
+  -- the wheel of a bucket
+  level_step : (n a d : ℕ) → 0 < r → HasDigits (copies r n) d → a < d → bucket (copies r n) a d / r ≡ level (copies r n) a d
+  level_step zero a d z h l = absurd (let e : d ≡ 0 = h in omega arith)
+  level_step (suc n) a d z h l = elim (cases_eq (a / r) (d / r)) [
+    | inl e ↦ quotient_is r 0 (d % r) (bucket (copies r (suc n)) a d) (mod-lt d z) (omega (arith, mul-zero r, bucket_near r (copies r n) a d e))
+        ∙ sym (level_near r (copies r n) a d e)
+    | inr e ↦
+        let b : ℕ = bucket (copies r n) (a / r) (d / r) in
+        quotient_is r (suc (b / r)) (b % r) (bucket (copies r (suc n)) a d) (mod-lt b z)
+        (omega (arith, mul-suc r (b / r), bucket_far r (copies r n) a d e))
+        ∙ (ap suc (level_step n (a / r) (d / r) z h (less_quotient r a d l z e)) ∙ sym (level_far r (copies r n) a d e))
+  ]
+
+-- n digits of b bits.
+
+module _ (b : ℕ) where
+  pub has_digits : (n t : ℕ) → t < 2 ^ (b * n) → HasDigits (copies (2 ^ b) n) t
+  has_digits zero t h = omega (arith, none b)
+  has_digits (suc n) t h = has_digits n (t / 2 ^ b) ((div-lt_iff_lt-mul (pow_pos b)).1 (subst (λ (x : ℕ). t < x) (more b n) h))
+
+  weight_is : (n k : ℕ) → k < n → weight k (copies (2 ^ b) n) ≡ 2 ^ (b * k)
+  weight_is zero k h = absurd (omega arith)
+  weight_is (suc n) zero h = sym (none b)
+  weight_is (suc n) (suc k) h = ap (λ (x : ℕ). 2 ^ b * x) (weight_is n k (omega arith)) ∙ (mul_comm (2 ^ b) (2 ^ (b * k)) ∙ sym (more b k))
+
+  span_is : (n : ℕ) → span (copies (2 ^ b) n) ≡ 2 ^ (b * n)
+  span_is zero = sym (none b)
+  span_is (suc n) = ap (λ (x : ℕ). 2 ^ b * x) (span_is n) ∙ (mul_comm (2 ^ b) (2 ^ (b * n)) ∙ sym (more b n))
+
+  -- a tick of the clock, in bits
+  below_end : (n t : ℕ) → t ≤ last_of (copies (2 ^ b) n) → t < 2 ^ (b * n)
+  below_end n t h = omega (arith, span_is n, pow_pos (b * n))
+
+  digits_in : (n t : ℕ) → t ≤ last_of (copies (2 ^ b) n) → HasDigits (copies (2 ^ b) n) t
+  digits_in n t h = has_digits n t (below_end n t h)
+
+  visit_step : (n k s a : ℕ) → k < n → s < 2 ^ b
+      → list_visit (copies (2 ^ b) n) (2 ^ b * k + s) a ≡ (a / 2 ^ (b * k) - a / 2 ^ (b * k) % 2 ^ b + s) * 2 ^ (b * k)
+  visit_step zero k s a h c = absurd (omega arith)
+  visit_step (suc n) zero s a h c =
+      let e : 2 ^ b * zero + s ≡ s = omega (arith, mul-zero (2 ^ b)) in
+      let d : a / 1 ≡ a = omega arith in
+      rw (e, none b, d, visit_here (2 ^ b) (copies (2 ^ b) n) s a c) (omega (arith, pow_pos b))
+  visit_step (suc n) (suc k) s a h c =
+      let r : ℕ = 2 ^ b in
+      let w : ℕ = 2 ^ (b * k) in
+      let p : 2 ^ (b * suc k) ≡ r * w = more b k ∙ mul_comm w r in
+      let q : a / 2 ^ (b * suc k) ≡ a / r / w = ap (λ (x : ℕ). a / x) p ∙ sym (div-div-eq-div-mul a r w) in
+      let e : r * suc k + s - r ≡ r * k + s = omega (arith, mul-suc r k) in
+      let g : r ≤ r * suc k + s = omega (arith, mul-suc r k) in
+      visit_above r (copies r n) (r * suc k + s) a g
+      ∙ (ap (λ (l : ℕ). r * list_visit (copies r n) l (a / r)) e
+      ∙ (ap (λ (x : ℕ). r * x) (visit_step n k s (a / r) (omega arith) c)
+      ∙ (ap (λ (y : ℕ). r * ((y - y % r + s) * w)) (sym q)
+      ∙ (mul_left_comm r (a / 2 ^ (b * suc k) - a / 2 ^ (b * suc k) % r + s) w
+      ∙ ap (λ (x : ℕ). (a / 2 ^ (b * suc k) - a / 2 ^ (b * suc k) % r + s) * x) (sym p)))))
+
+  -- no bit is lost
+  in_word : (n k s a : ℕ) → b ≤ 6 → n ≤ 10 → k < n → s < 2 ^ b → a < 2 ^ (b * n)
+      → (a / 2 ^ (b * k) - a / 2 ^ (b * k) % 2 ^ b + s) * 2 ^ (b * k) < 18446744073709551616
+  in_word n k s a few most h c l =
+      let p : ℕ = 2 ^ (b * k) in
+      let bits : b * k ≤ 54 = omega (arith, mul-le-mul_right k few) in
+      let small : p ≤ 2 ^ 54 = pow_mono (b * k) 54 bits in
+      let whole : 2 ^ (b * n) ≤ 2 ^ 60 = pow_mono (b * n) 60 (few_bits b n few most) in
+      let q : ℕ = a / 2 ^ (b * k) in
+      let rest : ℕ = q % 2 ^ b in
+      let less : q - rest ≤ q = omega arith in
+      let s1 : s ≤ 63 = omega (arith, few_values b few) in
+      let f : (q - rest) * p ≤ q * p = mul-le-mul_right p less in
+      let m : s * p ≤ 63 * p = mul-le-mul_right p s1 in
+      omega (arith, div-mul-le_self a (2 ^ (b * k)))
 
 -- The wheels that a loop has passed: `below` slots are theirs, and the others are a table of `rest` digits.
 
 -- of a timer's bucket
-pub record IsBucketAbove (now deadline below a d : ℕ) : Type 0 where
+pub record IsBucketAbove (r n now deadline below a d : ℕ) : Type 0 where
   pub rest : ℕ
-  pub passed : below + 16 * rest ≡ 96
+  pub passed : below + r * rest ≡ r * n
   pub later : a < d
-  pub digits : HasDigits (sixteens rest) d
-  pub is : bucket small now deadline ≡ below + bucket (sixteens rest) a d
-
-pub bucket_begun : (now deadline : ℕ) → now < deadline → deadline ≤ 16777215 → IsBucketAbove now deadline 0 now deadline
-bucket_begun now deadline l h = record {
-  rest = 6;
-  passed = (let e : 0 + 16 * 6 ≡ 96 = omega arith in e);
-  later = l;
-  digits = has_digits 6 deadline (omega arith);
-  is = let e : bucket small now deadline ≡ bucket (sixteens 6) now deadline = ap (λ (table : List ℕ). bucket table now deadline) small_is in omega arith;
-}
-
-pub bucket_found : (now deadline below a d rest : ℕ) → below + 16 * rest ≡ 96 → a < d → HasDigits (sixteens rest) d
-    → bucket small now deadline ≡ below + bucket (sixteens rest) a d → a / 16 ≡ d / 16
-    → (bucket small now deadline ≡ below + d % 16) × (below + 16 ≤ 96)
-bucket_found now deadline below a d zero p l h e n = absurd (let z : d ≡ 0 = h in omega arith)
-bucket_found now deadline below a d (suc rest) p l h e n =
-    (omega (arith, e, bucket_near 16 (sixteens rest) a d n), omega arith)
+  pub digits : HasDigits (copies r rest) d
+  pub is : bucket (copies r n) now deadline ≡ below + bucket (copies r rest) a d
 
 -- of the list that a tick empties
-pub record IsEmptiedAbove (tick below t : ℕ) : Type 0 where
+pub record IsEmptiedAbove (r n tick below t : ℕ) : Type 0 where
   pub rest : ℕ
-  pub passed : below + 16 * rest ≡ 96
+  pub passed : below + r * rest ≡ r * n
   pub later : 0 < t
-  pub digits : HasDigits (sixteens rest) t
-  pub is : emptied small tick ≡ below + emptied (sixteens rest) t
+  pub digits : HasDigits (copies r rest) t
+  pub is : emptied (copies r n) tick ≡ below + emptied (copies r rest) t
 
-pub emptied_begun : (tick : ℕ) → 0 < tick → tick ≤ 16777215 → IsEmptiedAbove tick 0 tick
-emptied_begun tick l h = record {
-  rest = 6;
-  passed = (let e : 0 + 16 * 6 ≡ 96 = omega arith in e);
-  later = l;
-  digits = has_digits 6 tick (omega arith);
-  is = let e : emptied small tick ≡ emptied (sixteens 6) tick = ap (λ (table : List ℕ). emptied table tick) small_is in omega arith;
-}
+module _ (r n now deadline below a d : ℕ) (z : 0 < r) where
+  bucket_step : (rest : ℕ) → below + r * rest ≡ r * n → a < d → HasDigits (copies r rest) d
+      → bucket (copies r n) now deadline ≡ below + bucket (copies r rest) a d → a / r ≢ d / r
+      → IsBucketAbove r n now deadline (below + r) (a / r) (d / r)
+  bucket_step zero p l h e ne = absurd (let y : d ≡ 0 = h in omega arith)
+  bucket_step (suc rest) p l h e ne = record {
+    rest = rest;
+    passed = omega (arith, p, mul-suc r rest);
+    later = less_quotient r a d l z ne;
+    digits = h;
+    is = omega (arith, e, bucket_far r (copies r rest) a d ne);
+  }
 
-pub emptied_found : (tick below t rest : ℕ) → below + 16 * rest ≡ 96 → 0 < t → HasDigits (sixteens rest) t
-    → emptied small tick ≡ below + emptied (sixteens rest) t → t % 16 ≢ 0
-    → (emptied small tick ≡ below + t % 16) × (below + 16 ≤ 96)
-emptied_found tick below t zero p l h e n = absurd (let z : t ≡ 0 = h in omega arith)
-emptied_found tick below t (suc rest) p l h e n =
-    (omega (arith, e, emptied_here 16 (sixteens rest) t n), omega arith)
+  bucket_end : (rest : ℕ) → below + r * rest ≡ r * n → a < d → HasDigits (copies r rest) d
+      → bucket (copies r n) now deadline ≡ below + bucket (copies r rest) a d → a / r ≡ d / r
+      → bucket (copies r n) now deadline ≡ below + d % r
+  bucket_end zero p l h e same = absurd (let y : d ≡ 0 = h in omega arith)
+  bucket_end (suc rest) p l h e same = omega (arith, e, bucket_near r (copies r rest) a d same)
 
--- The next visit of a list.
+  bucket_left : (rest : ℕ) → below + r * rest ≡ r * n → a < d → HasDigits (copies r rest) d → below + r ≤ r * n
+  bucket_left zero p l h = absurd (let y : d ≡ 0 = h in omega arith)
+  bucket_left (suc rest) p l h = omega (arith, p, mul-suc r rest)
 
-pub small_weight : (k : ℕ) → k < 6 → weight k small ≡ 2 ^ (4 * k)
-small_weight k h = rw small_is (weight_of_sixteens 6 k h)
+  pub bucket_room : IsBucketAbove r n now deadline below a d → below + r ≤ r * n
+  bucket_room i = bucket_left i.rest i.passed i.later i.digits
 
-visit_step : (n k s a : ℕ) → k < n → s < 16
-    → list_visit (sixteens n) (16 * k + s) a ≡ (a / 2 ^ (4 * k) - a / 2 ^ (4 * k) % 16 + s) * 2 ^ (4 * k)
-visit_step zero k s a h b = absurd (omega arith)
-visit_step (suc n) zero s a h b =
-    let e : 16 * zero + s ≡ s = omega arith in rw (e, visit_here 16 (sixteens n) s a b) (omega arith)
-visit_step (suc n) (suc k) s a h b =
-    let p : 2 ^ (4 * suc k) ≡ 16 * 2 ^ (4 * k) = omega (arith, four_more k) in
-    let q : a / 2 ^ (4 * suc k) ≡ a / 16 / 2 ^ (4 * k) = ap (λ (x : ℕ). a / x) p ∙ sym (div-div-eq-div-mul a 16 (2 ^ (4 * k))) in
-    let e : 16 * suc k + s - 16 ≡ 16 * k + s = omega arith in
-    rw (visit_above 16 (sixteens n) (16 * suc k + s) a (omega arith), e, q, p)
-    (let ih = visit_step n k s (a / 16) (omega arith) b in omega arith)
+  pub bucket_more : IsBucketAbove r n now deadline below a d → a / r ≢ d / r → IsBucketAbove r n now deadline (below + r) (a / r) (d / r)
+  bucket_more i = bucket_step i.rest i.passed i.later i.digits i.is
 
--- no bit is lost
-in_word : (k s a : ℕ) → k < 6 → s < 16 → a ≤ 16777215
-    → (a / 2 ^ (4 * k) - a / 2 ^ (4 * k) % 16 + s) * 2 ^ (4 * k) < 18446744073709551616
-in_word k s a h b r =
-    let p : ℕ = 2 ^ (4 * k) in
-    let few : p ≤ 2 ^ 20 = pow_mono (4 * k) 20 (omega arith) in
-    let q : ℕ = a / 2 ^ (4 * k) in
-    let l : q - q % 16 ≤ q = omega arith in
-    let s1 : s ≤ 15 = omega arith in
-    let f : (q - q % 16) * p ≤ q * p = mul-le-mul_right p l in
-    let m : s * p ≤ 15 * p = mul-le-mul_right p s1 in
-    omega (arith, div-mul-le_self a (2 ^ (4 * k)))
+  pub bucket_found : IsBucketAbove r n now deadline below a d → a / r ≡ d / r
+      → bucket (copies r n) now deadline ≡ below + d % r
+  bucket_found i = bucket_end i.rest i.passed i.later i.digits i.is
 
-pub small_visit : (l a : ℕ) → l < 96 → a ≤ 16777215
-    → (a / 2 ^ (4 * (l / 16)) - a / 2 ^ (4 * (l / 16)) % 16 + l % 16) * 2 ^ (4 * (l / 16)) % 18446744073709551616 ≡ list_visit small l a
-small_visit l a h r =
-    let e : 16 * (l / 16) + l % 16 ≡ l = omega arith in
-    mod-eq_of_lt (in_word (l / 16) (l % 16) a (omega arith) (omega arith) r)
-    ∙ rw small_is (sym (visit_step 6 (l / 16) (l % 16) a (omega arith) (omega arith)) ∙ ap (λ (x : ℕ). list_visit (sixteens 6) x a) e)
+module _ (r n tick below t : ℕ) (z : 0 < r) where
+  emptied_step : (rest : ℕ) → below + r * rest ≡ r * n → 0 < t → HasDigits (copies r rest) t
+      → emptied (copies r n) tick ≡ below + emptied (copies r rest) t → t % r ≡ 0
+      → IsEmptiedAbove r n tick (below + r) (t / r)
+  emptied_step zero p l h e zeros = absurd (let y : t ≡ 0 = h in omega arith)
+  emptied_step (suc rest) p l h e zeros = record {
+    rest = rest;
+    passed = omega (arith, p, mul-suc r rest);
+    later = omega (arith, quotient_not_zero r t z (let y : t ≢ 0 = omega arith in y) zeros);
+    digits = h;
+    is = omega (arith, e, emptied_above r (copies r rest) t zeros);
+  }
 
--- Two revolutions of slots.
+  emptied_end : (rest : ℕ) → below + r * rest ≡ r * n → 0 < t → HasDigits (copies r rest) t
+      → emptied (copies r n) tick ≡ below + emptied (copies r rest) t → t % r ≢ 0
+      → emptied (copies r n) tick ≡ below + t % r
+  emptied_end zero p l h e ne = absurd (let y : t ≡ 0 = h in omega arith)
+  emptied_end (suc rest) p l h e ne = omega (arith, e, emptied_here r (copies r rest) t ne)
 
-pub small_length : length small ≡ 6
-unfolding small
-small_length = refl
+  emptied_left : (rest : ℕ) → below + r * rest ≡ r * n → 0 < t → HasDigits (copies r rest) t → below + r ≤ r * n
+  emptied_left zero p l h = absurd (let y : t ≡ 0 = h in omega arith)
+  emptied_left (suc rest) p l h = omega (arith, p, mul-suc r rest)
 
-pub small_radix : (k : ℕ) → k < 6 → radix k small ≡ 16
-small_radix k h = rw small_is (radix_of_sixteens 6 k h)
+  pub emptied_room : IsEmptiedAbove r n tick below t → below + r ≤ r * n
+  emptied_room i = emptied_left i.rest i.passed i.later i.digits
 
-pub small_slot : (k t : ℕ) → k < 6 → t / 2 ^ (4 * k) ≡ slot_in small k t
-small_slot k t h = ap (λ (x : ℕ). t / x) (sym (small_weight k h))
+  pub emptied_more : IsEmptiedAbove r n tick below t → t % r ≡ 0 → IsEmptiedAbove r n tick (below + r) (t / r)
+  emptied_more i = emptied_step i.rest i.passed i.later i.digits i.is
 
-pub small_turns : (k : ℕ) → k < 6 → 32 ≡ 2 * radix k small
-small_turns k h = omega (arith, small_radix k h)
+  pub emptied_found : IsEmptiedAbove r n tick below t → t % r ≢ 0 → emptied (copies r n) tick ≡ below + t % r
+  emptied_found i = emptied_end i.rest i.passed i.later i.digits i.is
 
-pub small_list : (k s : ℕ) → k < 6 → 128 * k + s % 32 ≡ smooth_list small k s
-small_list k s h = ap (λ (x : ℕ). 128 * k + s % (2 * x)) (sym (small_radix k h))
+-- What the functions of such a table return. `r` is a radix that they have in a variable.
 
-pub small_shift : (k : ℕ) → k < 6 → 1 * 2 ^ (4 * k) % 18446744073709551616 ≡ weight k small
-small_shift k h =
-    let most : 2 ^ (4 * k) ≤ 2 ^ 20 = pow_mono (4 * k) 20 (omega arith) in
-    let less : 1 * 2 ^ (4 * k) < 18446744073709551616 = omega arith in
-    mod-eq_of_lt less ∙ (omega (arith, small_weight k h))
+module _ (b n : ℕ) (f : AreFew b n) where
+  positive : 0 < 2 ^ b
+  positive = pow_pos b
 
--- the wheel of a bucket
-level_step : (n a d : ℕ) → HasDigits (sixteens n) d → a < d → bucket (sixteens n) a d / 16 ≡ level (sixteens n) a d
-level_step zero a d h l = absurd (let z : d ≡ 0 = h in omega arith)
-level_step (suc n) a d h l = elim (cases_eq (a / 16) (d / 16)) [
-  | inl e ↦ omega (arith, bucket_near 16 (sixteens n) a d e, level_near 16 (sixteens n) a d e)
-  | inr e ↦ omega (
-    arith,
-    bucket_far 16 (sixteens n) a d e,
-    level_far 16 (sixteens n) a d e,
-    level_step n (a / 16) (d / 16) h (less_quotient 16 a d l (omega arith) e),
-  )
-]
+  pub begun_bucket : (r now deadline : ℕ) → r ≡ 2 ^ b → now < deadline → deadline ≤ last_of (equals b n)
+      → IsBucketAbove r n now deadline 0 now deadline
+  unfolding equals
+  begun_bucket r now deadline e l h = rw e (record {
+    rest = n;
+    passed = omega arith;
+    later = l;
+    digits = digits_in b n deadline h;
+    is = omega arith;
+  })
 
-pub small_level : (a d : ℕ) → a < d → d ≤ 16777215 → bucket small a d / 16 ≡ level small a d
-small_level a d l h = rw small_is (level_step 6 a d (has_digits 6 d (omega arith)) l)
+  pub begun_emptied : (r tick : ℕ) → r ≡ 2 ^ b → 0 < tick → tick ≤ last_of (equals b n) → IsEmptiedAbove r n tick 0 tick
+  unfolding equals
+  begun_emptied r tick e l h = rw e (record {
+    rest = n;
+    passed = omega arith;
+    later = l;
+    digits = digits_in b n tick h;
+    is = omega arith;
+  })
 
-pub small_level_in_range : (a d : ℕ) → a < d → d ≤ 16777215 → bucket small a d / 16 < length small
-small_level_in_range a d l h = omega (arith, small_level a d l h, small_length, level_in_table small a d small_is_table (in_small d h) l)
+  pub last_by_bits : 1 * 2 ^ (b * n) % 18446744073709551616 - 1 ≡ last_of (equals b n)
+  unfolding equals
+  last_by_bits = omega (arith, span_is b n, pow_mono (b * n) 60 (few_bits b n f.1 f.3))
 
--- The sum of the paces of a smooth wheel.
+  pub wheels_are : n ≡ length (equals b n)
+  unfolding equals
+  wheels_are = sym (length_is (2 ^ b) n)
 
--- how often a bucket of each wheel may hold n timers' worth of ticks, in sum
-quotients : (n : ℕ) → 15 * (n / 16 + n / 256 + n / 4096 + n / 65536 + n / 1048576) ≤ n
-quotients n = omega arith
+  pub slots_of_equals : slots (equals b n) ≡ 2 ^ b * n
+  unfolding equals
+  slots_of_equals = slots_is (2 ^ b) n
 
-double : (s n : ℕ) → 15 * s ≤ n → 2 * s ≤ 2 * n / 15
-double s n h = omega arith
+  few_lists : 2 ^ b * n ≤ 640
+  few_lists = omega (arith, mul-le-mul_right n (few_values b f.1), f.3)
 
-pub sum_on_small : (n : ℕ) (paces : List ℕ) → FitPaces small n paces → pace_sum paces ≤ 2 * n / 15 + 10
-unfolding small
-sum_on_small n paces f =
-    let f0 : pace_at paces 0 ≤ 0 = f 0 in
-    let f1 : pace_at paces 1 ≤ 2 * (n / 16 + 1) = f 1 in
-    let f2 : pace_at paces 2 ≤ 2 * (n / 256 + 1) = f 2 in
-    let f3 : pace_at paces 3 ≤ 2 * (n / 4096 + 1) = f 3 in
-    let f4 : pace_at paces 4 ≤ 2 * (n / 65536 + 1) = f 4 in
-    let f5 : pace_at paces 5 ≤ 2 * (n / 1048576 + 1) = f 5 in
-    let f6 : pace_at paces 6 ≤ 0 = f 6 in
-    let f7 : pace_at paces 7 ≤ 0 = f 7 in
-    let f8 : pace_at paces 8 ≤ 0 = f 8 in
-    let f9 : pace_at paces 9 ≤ 0 = f 9 in
-    let s : ℕ = n / 16 + n / 256 + n / 4096 + n / 65536 + n / 1048576 in
-    let d : 2 * s ≤ 2 * n / 15 = double s n (quotients n) in
-    omega arith
+  pub lists_are : n * 2 ^ b % 18446744073709551616 ≡ slots (equals b n)
+  lists_are = omega (arith, slots_of_equals, few_lists, mul_comm (2 ^ b) n)
+
+  pub lists_are_few : n * 2 ^ b % 18446744073709551616 ≤ 640
+  lists_are_few = omega (arith, few_lists, mul_comm (2 ^ b) n)
+
+  pub weight_by_bits : (k s : ℕ) → k < length (equals b n) → s ≡ b * k → 1 * 2 ^ s % 18446744073709551616 ≡ weight k (equals b n)
+  unfolding equals
+  weight_by_bits k s h e =
+      let w : k < n = omega (arith, h, length_is (2 ^ b) n) in
+      let small : 2 ^ (b * k) ≤ 2 ^ 54 = pow_mono (b * k) 54 (omega (arith, mul-le-mul_right k f.1, f.3)) in
+      rw e (omega (arith, weight_is b n k w))
+
+  pub slot_by_bits : (k s t : ℕ) → k < length (equals b n) → s ≡ b * k → t / 2 ^ s ≡ slot_in (equals b n) k t
+  unfolding equals
+  slot_by_bits k s t h e = rw e (ap (λ (x : ℕ). t / x) (sym (weight_is b n k (omega (arith, h, length_is (2 ^ b) n)))))
+
+  pub few_below : (k : ℕ) → k < length (equals b n) → b * k ≤ 54
+  few_below k h = omega (arith, mul-le-mul_right k f.1, f.3, wheels_are)
+
+  pub few_wheels : (k : ℕ) → k < length (equals b n) → k ≤ 9
+  few_wheels k h = omega (arith, f.3, wheels_are)
+
+  pub last_in_word : last_of (equals b n) ≤ 1152921504606846975
+  unfolding equals
+  last_in_word = omega (arith, span_is b n, pow_mono (b * n) 60 (few_bits b n f.1 f.3))
+
+  module _ (r : ℕ) (e : r ≡ 2 ^ b) where
+    pub lowest_is_radix : r ≡ lowest_radix (equals b n)
+    unfolding equals
+    lowest_is_radix = e ∙ sym (lowest_is (2 ^ b) n f.2)
+
+    pub revolutions_are : (t : ℕ) → t / r ≡ t / lowest_radix (equals b n)
+    revolutions_are t = ap (λ (x : ℕ). t / x) lowest_is_radix
+
+    pub rollover_is : (t : ℕ) → nat_eq (t % r) 0 ≡ (t % lowest_radix (equals b n) == 0)
+    rollover_is t = ap (λ (x : ℕ). nat_eq (t % x) 0) lowest_is_radix
+
+    pub shrinks : (t : ℕ) → 0 < t → t / r < t
+    shrinks t h =
+        let two : 2 ≤ r = omega (arith, e, two_values b f.0) in
+        let twice : 2 * (t / r) ≤ r * (t / r) = mul-le-mul_right (t / r) two in
+        omega (arith, div-mul-le_self t r, mul_comm r (t / r))
+
+    radix_of_equals : (k : ℕ) → k < length (equals b n) → r ≡ radix k (equals b n)
+    unfolding equals
+    radix_of_equals k h = e ∙ sym (radix_is (2 ^ b) n k (omega (arith, h, length_is (2 ^ b) n)))
+
+    some : 0 < r
+    some = omega (arith, e, positive)
+
+    all_slots : r * n ≡ slots (equals b n)
+    all_slots = ap (λ (x : ℕ). x * n) e ∙ sym slots_of_equals
+
+    pub next_bucket : (now deadline below a d : ℕ) → IsBucketAbove r n now deadline below a d → a / r ≢ d / r
+        → IsBucketAbove r n now deadline (below + r) (a / r) (d / r)
+    next_bucket now deadline below a d = bucket_more r n now deadline below a d some
+
+    pub bucket_is : (now deadline below a d : ℕ) → IsBucketAbove r n now deadline below a d → a / r ≡ d / r
+        → below + d % r ≡ bucket (equals b n) now deadline
+    unfolding equals
+    bucket_is now deadline below a d i h =
+        sym (bucket_found r n now deadline below a d some i h) ∙ ap (λ (x : ℕ). bucket (copies x n) now deadline) e
+
+    pub bucket_in_slots : (now deadline below a d : ℕ) → IsBucketAbove r n now deadline below a d → below + d % r < slots (equals b n)
+    bucket_in_slots now deadline below a d i =
+        omega (arith, bucket_room r n now deadline below a d some i, mod-lt d some, all_slots)
+
+    pub next_emptied : (tick below t : ℕ) → IsEmptiedAbove r n tick below t → t % r ≡ 0 → IsEmptiedAbove r n tick (below + r) (t / r)
+    next_emptied tick below t = emptied_more r n tick below t some
+
+    pub emptied_is : (tick below t : ℕ) → IsEmptiedAbove r n tick below t → t % r ≢ 0 → below + t % r ≡ emptied (equals b n) tick
+    unfolding equals
+    emptied_is tick below t i h = sym (emptied_found r n tick below t some i h) ∙ ap (λ (x : ℕ). emptied (copies x n) tick) e
+
+    pub emptied_in_slots : (tick below t : ℕ) → IsEmptiedAbove r n tick below t → below + t % r < slots (equals b n)
+    emptied_in_slots tick below t i = omega (arith, emptied_room r n tick below t some i, mod-lt t some, all_slots)
+
+    -- the slots of a wheel in two revolutions
+    pub turns_are : (k : ℕ) → k < length (equals b n) → 2 * r ≡ 2 * radix k (equals b n)
+    turns_are k h = ap (λ (x : ℕ). 2 * x) (radix_of_equals k h)
+
+    pub turned_are : 128 * (n - 1) + 2 * r ≡ smooth_slots (equals b n)
+    turned_are =
+        let last : n - 1 < length (equals b n) = omega (arith, wheels_are, f.2) in
+        ap (λ (x : ℕ). 128 * (n - 1) + 2 * x) (radix_of_equals (n - 1) last)
+        ∙ ap (λ (x : ℕ). 128 * (x - 1) + 2 * radix (x - 1) (equals b n)) wheels_are
+
+    pub turn_is : (k s : ℕ) → k < length (equals b n) → 128 * k + s % (2 * r) ≡ smooth_list (equals b n) k s
+    turn_is k s h = ap (λ (x : ℕ). 128 * k + s % (2 * x)) (radix_of_equals k h)
+
+    pub turn_in_range : (k s : ℕ) → k < length (equals b n) → 128 * k + s % (2 * r) < smooth_slots (equals b n)
+    turn_in_range k s h =
+        let few : s % (2 * r) < 2 * r = mod-lt s (omega (arith, e, positive)) in
+        omega (arith, turned_are, wheels_are, few_values b f.1)
+
+    pub few_turns : (k s : ℕ) → k < length (equals b n) → 128 * k + s % (2 * r) ≤ 1280
+    few_turns k s h =
+        let few : s % (2 * r) < 2 * r = mod-lt s (omega (arith, e, positive)) in
+        omega (arith, few_wheels k h, few_values b f.1)
+
+    pub wheel_in_range : (l : ℕ) → l < slots (equals b n) → l / r < length (equals b n)
+    wheel_in_range l h = rw (← wheels_are, e) ((div-lt_iff_lt-mul positive).1 (omega (arith, h, slots_of_equals, mul_comm (2 ^ b) n)))
+
+  visit_of_equals : (l a : ℕ) → l < slots (equals b n) → a ≤ last_of (equals b n)
+      → (a / 2 ^ (b * (l / 2 ^ b)) - a / 2 ^ (b * (l / 2 ^ b)) % 2 ^ b + l % 2 ^ b) * 2 ^ (b * (l / 2 ^ b)) % 18446744073709551616
+      ≡ list_visit (equals b n) l a
+  unfolding equals
+  visit_of_equals l a h c =
+      let k : ℕ = l / 2 ^ b in
+      let e : 2 ^ b * k + l % 2 ^ b ≡ l = omega (arith, positive) in
+      let w : k < n = (div-lt_iff_lt-mul positive).1 (omega (arith, h, slots_is (2 ^ b) n, mul_comm (2 ^ b) n)) in
+      mod-eq_of_lt (in_word b n k (l % 2 ^ b) a f.1 f.3 w (mod-lt l positive) (below_end b n a c))
+      ∙ (sym (visit_step b n k (l % 2 ^ b) a w (mod-lt l positive)) ∙ ap (λ (x : ℕ). list_visit (copies (2 ^ b) n) x a) e)
+
+  pub visit_in_word : (r s l a : ℕ) → r ≡ 2 ^ b → a ≤ last_of (equals b n) → a / 2 ^ s - a / 2 ^ s % r + l % r ≤ 2305843009213693951
+  visit_in_word r s l a e h =
+      omega (arith, mod-lt l (let z : 0 < r = omega (arith, e, positive) in z), few_values b f.1, last_in_word, div-le_self a (2 ^ s))
+
+  pub visit_by_bits : (r s l a : ℕ) → r ≡ 2 ^ b → s ≡ b * (l / r) → l < slots (equals b n) → a ≤ last_of (equals b n)
+      → (a / 2 ^ s - a / 2 ^ s % r + l % r) * 2 ^ s % 18446744073709551616 ≡ list_visit (equals b n) l a
+  visit_by_bits r s l a e d h c = rw (d, e) (visit_of_equals l a h c)
+
+  pub level_is : (r a d : ℕ) → r ≡ 2 ^ b → a < d → d ≤ last_of (equals b n) → bucket (equals b n) a d / r ≡ level (equals b n) a d
+  unfolding equals
+  level_is r a d e l h = rw e (level_step (2 ^ b) n a d positive (digits_in b n d h) l)
+
+  pub level_in_range : (r a d : ℕ) → r ≡ 2 ^ b → a < d → d ≤ last_of (equals b n) → bucket (equals b n) a d / r < length (equals b n)
+  unfolding equals
+  level_in_range r a d e l h =
+      omega (arith, level_is r a d e l h, level_in_table (copies (2 ^ b) n) a d (are_table (2 ^ b) n positive) (digits_in b n d h) l)
+
+-- what the functions of the tables return
+pub ruleset list_rules = (lists_are, lists_are_few)
+
+pub ruleset turn_rules = (turn_is, turn_in_range)
+
+pub ruleset level_rules = (level_is, level_in_range)

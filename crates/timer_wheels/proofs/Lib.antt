@@ -59,7 +59,7 @@ pub mod SmoothLeaps
 pub mod BankRestarts
 pub mod TieredLemmas
 pub mod IdleLemmas
+pub mod EqualDigits
 -- made by tools/facts: proofs of tables
 pub mod WideDigits
 pub mod ClockDigits
-pub mod SmallDigits

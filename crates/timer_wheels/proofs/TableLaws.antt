@@ -1,20 +1,17 @@
 -- Lemmas about every table that a hierarchy of wheels may have: what follows from its radices, and that those of each will do.
-use Rattle.std.proofs.Common.{◌≡◌, ◌<◌, ◌≤◌, ◌+◌, ◌-◌, ◌*◌, ◌/◌, ◌%◌, ◌&&◌, nat_lt, ℕ, zero, suc, Bool, true, List, [], ◌∷◌, length, refl, ap, inl, inr, arith}
+use Rattle.std.proofs.Common.{◌≡◌, ◌<◌, ◌≤◌, ◌+◌, ◌-◌, ◌*◌, ◌/◌, ◌%◌, ◌&&◌, nat_lt, ℕ, zero, suc, Bool, true, List, [], ◌∷◌, length, refl, sym, ◌∙◌, ap, inl, inr, arith}
 use Rattle.std.proofs.lemmas.Bool.{cases_lt, and_parts, ltb-true}
 use Rattle.std.proofs.Math.Nat.{mul-le-mul_left, mod-lt, div-lt_iff_lt-mul}
 use Rattle.timer_wheels.specs.Types.{LAST, Table}
-use Rattle.timer_wheels.specs.Digits.{IsTable, HasDigits, radix, slots, span, last_of, lowest_radix}
-use Rattle.timer_wheels.specs.Paces.{pace_sum, FitPaces}
+use Rattle.timer_wheels.specs.Digits.{equals, IsTable, HasDigits, radix, slots, span, last_of, lowest_radix}
+use Rattle.timer_wheels.specs.Paces.{pace_sum, sum_below, most_pace, FitPaces}
 use Rattle.timer_wheels.specs.Smooth.{smooth_list, smooth_slots, HasTurns}
 use Rattle.timer_wheels.specs.declared.smooth.turns.TheConstants.{MOST_LISTS}
 use Rattle.timer_wheels.specs.declared.table.TheConstants.{MOST_BUCKETS}
 use Rattle.timer_wheels.proofs.DigitLaws.{IsHierTable}
 -- made by tools/facts: imports of lemmas of tables
 use Rattle.timer_wheels.specs.declared.table.Table.TheVariants.{Wide, Clock, Small}
-use Rattle.timer_wheels.specs.Tables.{wide, clock, small, radices, last_of_table, tick_bound}
-use Rattle.timer_wheels.proofs.WideDigits.{sum_on_wide}
-use Rattle.timer_wheels.proofs.ClockDigits.{sum_on_clock}
-use Rattle.timer_wheels.proofs.SmallDigits.{sum_on_small}
+use Rattle.timer_wheels.specs.Tables.{wide, clock, radices, last_of_table, tick_bound}
 
 -- Any radices.
 
@@ -98,22 +95,47 @@ fits table few buckets lists last even many some most = record {
   even = even;
 }
 
+-- the most paces of the wheels below k, in sum
+abbrev most_below : List ℕ → ℕ → ℕ → ℕ
+most_below table n zero = 0
+most_below table n (suc k) = most_below table n k + most_pace table n k
+
+sum_fits : (table : List ℕ) (n : ℕ) (paces : List ℕ) → FitPaces table n paces → (k : ℕ) → sum_below paces k ≤ most_below table n k
+sum_fits table n paces f zero = omega arith
+sum_fits table n paces f (suc k) = omega (arith, f k, sum_fits table n paces f k)
+
 -- The tables.
 
 -- made by tools/facts: lemmas of tables
 pub of_table : (table : Table) → IsHierTable (radices table)
-unfolding wide clock small
-of_table Wide = fits wide refl (let h : 640 ≤ MOST_BUCKETS = omega arith in h) (let h : 1280 ≤ MOST_LISTS = omega arith in h) (let h : 1152921504606846975 ≤ LAST = omega arith in h) refl (let h : 16 ≤ 64 = omega arith in h) (let h : 0 < 10 = omega arith in h) (let h : 10 ≤ 10 = omega arith in h)
-of_table Clock = fits clock refl (let h : 244 ≤ MOST_BUCKETS = omega arith in h) (let h : 584 ≤ MOST_LISTS = omega arith in h) (let h : 8639999 ≤ LAST = omega arith in h) refl (let h : 16 ≤ 60 = omega arith in h) (let h : 0 < 4 = omega arith in h) (let h : 4 ≤ 10 = omega arith in h)
-of_table Small = fits small refl (let h : 96 ≤ MOST_BUCKETS = omega arith in h) (let h : 672 ≤ MOST_LISTS = omega arith in h) (let h : 16777215 ≤ LAST = omega arith in h) refl (let h : 16 ≤ 16 = omega arith in h) (let h : 0 < 6 = omega arith in h) (let h : 6 ≤ 10 = omega arith in h)
+unfolding wide clock equals
+of_table Wide = fits (radices Wide) refl (let h : 640 ≤ MOST_BUCKETS = omega arith in h) (let h : 1280 ≤ MOST_LISTS = omega arith in h) (let h : 1152921504606846975 ≤ LAST = omega arith in h) refl (let h : 16 ≤ 64 = omega arith in h) (let h : 0 < 10 = omega arith in h) (let h : 10 ≤ 10 = omega arith in h)
+of_table Clock = fits (radices Clock) refl (let h : 244 ≤ MOST_BUCKETS = omega arith in h) (let h : 584 ≤ MOST_LISTS = omega arith in h) (let h : 8639999 ≤ LAST = omega arith in h) refl (let h : 16 ≤ 60 = omega arith in h) (let h : 0 < 4 = omega arith in h) (let h : 4 ≤ 10 = omega arith in h)
+of_table Small = fits (radices Small) refl (let h : 96 ≤ MOST_BUCKETS = omega arith in h) (let h : 672 ≤ MOST_LISTS = omega arith in h) (let h : 16777215 ≤ LAST = omega arith in h) refl (let h : 16 ≤ 16 = omega arith in h) (let h : 0 < 6 = omega arith in h) (let h : 6 ≤ 10 = omega arith in h)
 
 pub last_named : (table : Table) → last_of (radices table) ≡ last_of_table table
-unfolding wide clock small
+unfolding wide clock equals
 last_named Wide = refl
 last_named Clock = refl
 last_named Small = refl
 
+pub named_last : (table : Table) (tick : ℕ) → tick ≡ last_of_table table → tick ≡ last_of (radices table)
+named_last table tick e = e ∙ sym (last_named table)
+
 pub sum_bound : (t : Table) (n : ℕ) (paces : List ℕ) → FitPaces (radices t) n paces → pace_sum paces ≤ tick_bound t n
-sum_bound Wide = sum_on_wide
-sum_bound Clock = sum_on_clock
-sum_bound Small = sum_on_small
+unfolding wide clock equals
+sum_bound Wide n paces f =
+    let share : (s : ℕ) → 63 * s ≤ n → 2 * s ≤ 2 * n / 63 = λ s h. omega arith in
+    let shares : 63 * (n / 64 + n / 4096 + n / 262144 + n / 16777216 + n / 1073741824 + n / 68719476736 + n / 4398046511104 + n / 281474976710656 + n / 18014398509481984) ≤ n = omega arith in
+    let sum : pace_sum paces ≤ 0 + 0 + 2 * (n / 64 + 1) + 2 * (n / 4096 + 1) + 2 * (n / 262144 + 1) + 2 * (n / 16777216 + 1) + 2 * (n / 1073741824 + 1) + 2 * (n / 68719476736 + 1) + 2 * (n / 4398046511104 + 1) + 2 * (n / 281474976710656 + 1) + 2 * (n / 18014398509481984 + 1) = sum_fits (radices Wide) n paces f 10 in
+    omega (arith, share (n / 64 + n / 4096 + n / 262144 + n / 16777216 + n / 1073741824 + n / 68719476736 + n / 4398046511104 + n / 281474976710656 + n / 18014398509481984) shares)
+sum_bound Clock n paces f =
+    let share : (s : ℕ) → 58 * s ≤ n → 2 * s ≤ n / 29 = λ s h. omega arith in
+    let shares : 58 * (n / 60 + n / 3600 + n / 86400) ≤ n = omega arith in
+    let sum : pace_sum paces ≤ 0 + 0 + 2 * (n / 60 + 1) + 2 * (n / 3600 + 1) + 2 * (n / 86400 + 1) + 0 + 0 + 0 + 0 + 0 + 0 = sum_fits (radices Clock) n paces f 10 in
+    omega (arith, share (n / 60 + n / 3600 + n / 86400) shares)
+sum_bound Small n paces f =
+    let share : (s : ℕ) → 15 * s ≤ n → 2 * s ≤ 2 * n / 15 = λ s h. omega arith in
+    let shares : 15 * (n / 16 + n / 256 + n / 4096 + n / 65536 + n / 1048576) ≤ n = omega arith in
+    let sum : pace_sum paces ≤ 0 + 0 + 2 * (n / 16 + 1) + 2 * (n / 256 + 1) + 2 * (n / 4096 + 1) + 2 * (n / 65536 + 1) + 2 * (n / 1048576 + 1) + 0 + 0 + 0 + 0 = sum_fits (radices Small) n paces f 10 in
+    omega (arith, share (n / 16 + n / 256 + n / 4096 + n / 65536 + n / 1048576) shares)

@@ -1,35 +1,37 @@
 -- The digits, levels and visits of `Table::Wide`, by shifts and bit positions.
-use Rattle.std.proofs.Common.{◌≡◌, ◌≢◌, ◌<◌, ◌≤◌, ◌+◌, ◌-◌, ◌*◌, ◌/◌, ◌%◌, ◌^◌, ℕ, zero, suc, Bool, true, ◌==◌, ◌&&◌, List, [], ◌∷◌, length, refl, sym, ◌∙◌, ap, inl, inr, arith, ◌↔◌}
+use Rattle.std.proofs.Common.{◌≡◌, ◌≢◌, ◌<◌, ◌≤◌, ◌+◌, ◌-◌, ◌*◌, ◌/◌, ◌%◌, ◌^◌, ℕ, zero, suc, Bool, true, ◌==◌, ◌&&◌, List, length, refl, sym, ◌∙◌, ap, inl, inr, arith, ◌↔◌}
 use Rattle.std.proofs.lemmas.Bool.{cases_eq, cases_lt, and_parts, eqb-true}
 use Rattle.std.proofs.lemmas.Nat.{xor_shr, xor_lt, pow-add, and_mask, leading_top, mod-pow-add, pow_pos, shr-shr, shr_le}
 use Rattle.std.proofs.lemmas.Nat.Bits.{bit_at-trailing_zeros}
 use Rattle.std.specs.Int.Bits.{bit_xor, bit_and, xor_self, xor_assoc, xor_zero_l, xor_zero_r}
-use Rattle.std.proofs.Math.Nat.{div-div-eq-div-mul, pow-le-pow_right, pow-suc, mul-le-mul_right, div-mul-le_self}
+use Rattle.std.proofs.Math.Nat.{div-div-eq-div-mul, pow-le-pow_right, pow-suc}
 use Rattle.std.specs.Int.{w64, trailing_zeros, bit_at}
 use Rattle.std.specs.Int.Count.{count_leading_zeros}
-use Rattle.timer_wheels.specs.Digits.{IsTable, HasDigits, digit, radix, weight, level, lowest, slots_below, list_of_slot, bucket, emptied}
+use Rattle.timer_wheels.specs.Digits.{copies, equals, AreFew, IsTable, HasDigits, digit, radix, weight, level, lowest, slots_below, list_of_slot, bucket, emptied}
 use Rattle.timer_wheels.specs.Leap.{list_visit}
-use Rattle.timer_wheels.specs.Paces.{pace_at, pace_sum, FitPaces}
 use Rattle.timer_wheels.specs.Smooth.{slot_in, smooth_list}
 use Rattle.timer_wheels.specs.Tables.{wide}
-use Rattle.timer_wheels.proofs.DigitLaws.{level_near, level_far, lowest_here, lowest_above, emptied_here, level_in_table, lowest-bound, visit_here, visit_above}
+use Rattle.timer_wheels.proofs.DigitLaws.{level_near, level_far, lowest_here, lowest_above, emptied_here, level_in_table, lowest-bound}
+use Rattle.timer_wheels.proofs.EqualDigits.{are_table, slots_below_is, radix_is, has_digits, slots_of_equals, last_by_bits, wheels_are, weight_by_bits, slot_by_bits, turns_are, turn_is, visit_by_bits}
 use Rattle.timer_wheels.proofs.SlotLaws.{list_by_slot}
 
 -- a table of n digits in base 64
 abbrev wides : ℕ → List ℕ
-wides zero = []
-wides (suc n) = 64 ∷ wides n
+wides n = copies 64 n
 
 wide_is : wide ≡ wides 10
 unfolding wide
 wide_is = refl
 
-wides_are_table : (n : ℕ) → IsTable (wides n)
-wides_are_table zero = tt
-wides_are_table (suc n) = (omega arith, wides_are_table n)
+wide_is_equal : wide ≡ equals 6 10
+unfolding wide equals
+wide_is_equal = refl
+
+ten_digits : AreFew 6 10
+ten_digits = ((let h : 0 < 6 = omega arith in h), (let h : 6 ≤ 6 = omega arith in h), (let h : 0 < 10 = omega arith in h), (let h : 10 ≤ 10 = omega arith in h))
 
 wide_is_table : IsTable wide
-wide_is_table = rw wide_is (wides_are_table 10)
+wide_is_table = rw wide_is (are_table 64 10 (let h : 0 < 64 = omega arith in h))
 
 pub wide_length : length wide ≡ 10
 unfolding wide
@@ -89,12 +91,8 @@ top_level (suc n) a b j ha hb lo hi =
           level_far 64 (wides n) a b e ∙ omega arith
     ]
 
-has_digits : (n t : ℕ) → t < 2 ^ (6 * n) → HasDigits (wides n) t
-has_digits zero t h = omega arith
-has_digits (suc n) t h = has_digits n (t / 64) (omega (arith, six_more n))
-
 in_wide : (t : ℕ) → t ≤ 1152921504606846975 → HasDigits wide t
-in_wide t h = rw wide_is (has_digits 10 t (omega arith))
+in_wide t h = rw wide_is (has_digits 6 10 t (omega arith))
 
 -- the highest bit in which two ticks differ
 has_top : (a b : ℕ) → a < b → b ≤ 1152921504606846975
@@ -129,7 +127,7 @@ pub level_by_top : (a b : ℕ) → a < b → b ≤ 1152921504606846975
 level_by_top a b h r =
     let t = has_top a b h r in
     let z : count_leading_zeros 64 (bit_xor a b) + suc t.0 ≡ 64 = t.1 in
-    let e : level (wides 10) a b ≡ t.0 / 6 = top_level 10 a b t.0 (has_digits 10 a (omega arith)) (has_digits 10 b (omega arith)) t.2 t.3 in
+    let e : level (wides 10) a b ≡ t.0 / 6 = top_level 10 a b t.0 (has_digits 6 10 a (omega arith)) (has_digits 6 10 b (omega arith)) t.2 t.3 in
     let top : t.0 ≡ bit_xor 63 (count_leading_zeros 64 (bit_xor a b)) =
     omega (arith, turned (count_leading_zeros 64 (bit_xor a b)) (omega arith)) in
     rw wide_is (e ∙ (sixth t.0 (omega arith) ∙ ap (λ (y : ℕ). y * 43 / 256) top))
@@ -162,23 +160,8 @@ powers (suc k) = pow-suc 64 k ∙ (ap (λ (x : ℕ). x * 64) (powers k) ∙ sym 
 pub digit_by_quotient : (k t : ℕ) → k < 10 → digit wide k t ≡ t / 64 ^ k % 64
 digit_by_quotient k t h = rw (wide_is, powers k) (sym (digit_step 10 k t h))
 
-slots_step : (n k : ℕ) → k ≤ n → slots_below k (wides n) ≡ 64 * k
-slots_step zero k h = omega arith
-slots_step (suc n) zero h = refl
-slots_step (suc n) (suc k) h = omega (arith, slots_step n k (omega arith))
-
-weight_step : (n k : ℕ) → k < n → weight k (wides n) ≡ 2 ^ (6 * k)
-weight_step zero k h = absurd (omega arith)
-weight_step (suc n) zero h = refl
-weight_step (suc n) (suc k) h = omega (arith, weight_step n k (omega arith), six_more k)
-
-radix_step : (n k : ℕ) → k < n → radix k (wides n) ≡ 64
-radix_step zero k h = absurd (omega arith)
-radix_step (suc n) zero h = refl
-radix_step (suc n) (suc k) h = radix_step n k (omega arith)
-
 slots_by_product : (k : ℕ) → k < 10 → slots_below k wide ≡ 64 * k
-slots_by_product k h = rw wide_is (slots_step 10 k (omega arith))
+slots_by_product k h = rw wide_is (slots_below_is 64 10 k (omega arith))
 
 -- the list of a slot
 pub slot_by_product : (k s : ℕ) → k < 10 → 64 * k + s ≡ list_of_slot wide k s
@@ -188,7 +171,7 @@ slot_by_product k s h = omega (arith, slots_by_product k h)
 pub list_is_slot : (now deadline k s : ℕ) → now < deadline → deadline ≤ 1152921504606846975 → k < 10 → s < 64
     → (bucket wide now deadline ≡ 64 * k + s) ↔ ((level wide now deadline ≡ k) × (digit wide k deadline ≡ s))
 list_is_slot now deadline k s h r b c =
-    let e : radix k wide ≡ 64 = rw wide_is (radix_step 10 k b) in
+    let e : radix k wide ≡ 64 = rw wide_is (radix_is 64 10 k b) in
     rw (← slots_by_product k b) (list_by_slot wide now deadline k s wide_is_table (in_wide deadline r) h (rw wide_length b) (rw e c))
 
 -- The lowest digit by the lowest bit.
@@ -238,7 +221,7 @@ lowest_by_bit (suc n) t j h z e = elim (cases_lt j 6) [
 pub lowest_by_zeros : (t : ℕ) → 0 < t → t ≤ 1152921504606846975 → lowest wide t ≡ trailing_zeros w64 t / 6
 lowest_by_zeros t h r =
     let b = bit_at-trailing_zeros w64 t h (omega arith) in
-    rw wide_is (lowest_by_bit 10 t (trailing_zeros w64 t) (has_digits 10 t (omega arith)) (low_zeros (trailing_zeros w64 t) t b.2) b.1)
+    rw wide_is (lowest_by_bit 10 t (trailing_zeros w64 t) (has_digits 6 10 t (omega arith)) (low_zeros (trailing_zeros w64 t) t b.2) b.1)
 
 -- a tick whose lowest digit isn't zero
 pub emptied_low : (t : ℕ) → t % 64 ≢ 0 → t % 64 ≡ emptied wide t
@@ -254,85 +237,27 @@ lowest_below_ten t h r =
 abbrev pub above : ℕ → ℕ → ℕ
 above q s = q - q % 64 + s
 
-visit_step : (n k s a : ℕ) → k < n → s < 64 → list_visit (wides n) (64 * k + s) a ≡ above (a / 2 ^ (6 * k)) s * 2 ^ (6 * k)
-visit_step zero k s a h b = absurd (omega arith)
-visit_step (suc n) zero s a h b = let e : 64 * zero + s ≡ s = omega arith in rw (e, visit_here 64 (wides n) s a b) (omega arith)
-visit_step (suc n) (suc k) s a h b =
-    let p : 2 ^ (6 * suc k) ≡ 64 * 2 ^ (6 * k) = omega (arith, six_more k) in
-    let q : a / 2 ^ (6 * suc k) ≡ a / 64 / 2 ^ (6 * k) = ap (λ (x : ℕ). a / x) p ∙ sym (div-div-eq-div-mul a 64 (2 ^ (6 * k))) in
-    let e : 64 * suc k + s - 64 ≡ 64 * k + s = omega arith in
-    rw (visit_above 64 (wides n) (64 * suc k + s) a (omega arith), e, q, p)
-    (let ih = visit_step n k s (a / 64) (omega arith) b in omega arith)
-
--- no bit is lost
-in_word : (k s a : ℕ) → k < 10 → s < 64 → a ≤ 1152921504606846975 → above (a / 2 ^ (6 * k)) s * 2 ^ (6 * k) < 18446744073709551616
-in_word k s a h b r =
-    let p : ℕ = 2 ^ (6 * k) in
-    let small : p ≤ 2 ^ 54 = pow_mono (6 * k) 54 (omega arith) in
-    let q : ℕ = a / 2 ^ (6 * k) in
-    let l : q - q % 64 ≤ q = omega arith in
-    let s1 : s ≤ 63 = omega arith in
-    let f : (q - q % 64) * p ≤ q * p = mul-le-mul_right p l in
-    let m : s * p ≤ 63 * p = mul-le-mul_right p s1 in
-    omega (arith, div-mul-le_self a (2 ^ (6 * k)))
-
-mod_small : (x : ℕ) → x < 18446744073709551616 → x % 18446744073709551616 ≡ x
-mod_small x h = omega arith
-
 pub visit_by_shift : (l a : ℕ) → l < 640 → a ≤ 1152921504606846975
     → above (a / 2 ^ (6 * (l / 64))) (l % 64) * 2 ^ (6 * (l / 64)) % 18446744073709551616 ≡ list_visit wide l a
-visit_by_shift l a h r =
-    let e : 64 * (l / 64) + l % 64 ≡ l = omega arith in
-    mod_small (above (a / 2 ^ (6 * (l / 64))) (l % 64) * 2 ^ (6 * (l / 64))) (in_word (l / 64) (l % 64) a (omega arith) (omega arith) r)
-    ∙ rw wide_is (sym (visit_step 10 (l / 64) (l % 64) a (omega arith) (omega arith)) ∙ ap (λ (x : ℕ). list_visit (wides 10) x a) e)
+visit_by_shift l a h r = rw wide_is_equal (visit_by_bits 6 10 ten_digits 64 (6 * (l / 64)) l a refl refl
+    (omega (arith, slots_of_equals 6 10 ten_digits)) (omega (arith, last_by_bits 6 10 ten_digits)))
 
 -- Two revolutions of slots.
 
-wide_weight : (k : ℕ) → k < 10 → weight k wide ≡ 2 ^ (6 * k)
-wide_weight k h = rw wide_is (weight_step 10 k h)
-
-wide_radix : (k : ℕ) → k < 10 → radix k wide ≡ 64
-wide_radix k h = rw wide_is (radix_step 10 k h)
+wide_wheel : (k : ℕ) → k < 10 → k < length (equals 6 10)
+wide_wheel k h = omega (arith, wheels_are 6 10 ten_digits)
 
 pub wide_slot : (k t : ℕ) → k < 10 → t / 2 ^ (6 * k) ≡ slot_in wide k t
-wide_slot k t h = ap (λ (x : ℕ). t / x) (sym (wide_weight k h))
+wide_slot k t h = rw wide_is_equal (slot_by_bits 6 10 ten_digits k (6 * k) t (wide_wheel k h) refl)
 
 pub wide_turns : (k : ℕ) → k < 10 → 128 ≡ 2 * radix k wide
-wide_turns k h = omega (arith, wide_radix k h)
+wide_turns k h = rw wide_is_equal (turns_are 6 10 ten_digits 64 refl k (wide_wheel k h))
 
 pub wide_list : (k s : ℕ) → k < 10 → 128 * k + s % 128 ≡ smooth_list wide k s
-wide_list k s h = ap (λ (x : ℕ). 128 * k + s % (2 * x)) (sym (wide_radix k h))
+wide_list k s h = rw wide_is_equal (turn_is 6 10 ten_digits 64 refl k s (wide_wheel k h))
 
 pub wide_shift : (k : ℕ) → k < 10 → 1 * 2 ^ (6 * k) % 18446744073709551616 ≡ weight k wide
-wide_shift k h =
-    let most : 2 ^ (6 * k) ≤ 2 ^ 54 = pow_mono (6 * k) 54 (omega arith) in
-    let less : 1 * 2 ^ (6 * k) < 18446744073709551616 = omega arith in
-    mod_small (1 * 2 ^ (6 * k)) less ∙ (omega (arith, wide_weight k h))
-
--- The sum of the paces of a smooth wheel.
-
--- how often a bucket of each wheel may hold n timers' worth of ticks, in sum
-quotients : (n : ℕ) → 63 * (n / 64 + n / 4096 + n / 262144 + n / 16777216 + n / 1073741824 + n / 68719476736 + n / 4398046511104 + n / 281474976710656 + n / 18014398509481984) ≤ n
-quotients n = omega arith
-
-double : (s n : ℕ) → 63 * s ≤ n → 2 * s ≤ 2 * n / 63
-double s n h = omega arith
-
-pub sum_on_wide : (n : ℕ) (paces : List ℕ) → FitPaces wide n paces → pace_sum paces ≤ 2 * n / 63 + 18
-unfolding wide
-sum_on_wide n paces f =
-    let f0 : pace_at paces 0 ≤ 0 = f 0 in
-    let f1 : pace_at paces 1 ≤ 2 * (n / 64 + 1) = f 1 in
-    let f2 : pace_at paces 2 ≤ 2 * (n / 4096 + 1) = f 2 in
-    let f3 : pace_at paces 3 ≤ 2 * (n / 262144 + 1) = f 3 in
-    let f4 : pace_at paces 4 ≤ 2 * (n / 16777216 + 1) = f 4 in
-    let f5 : pace_at paces 5 ≤ 2 * (n / 1073741824 + 1) = f 5 in
-    let f6 : pace_at paces 6 ≤ 2 * (n / 68719476736 + 1) = f 6 in
-    let f7 : pace_at paces 7 ≤ 2 * (n / 4398046511104 + 1) = f 7 in
-    let f8 : pace_at paces 8 ≤ 2 * (n / 281474976710656 + 1) = f 8 in
-    let f9 : pace_at paces 9 ≤ 2 * (n / 18014398509481984 + 1) = f 9 in
-    let d : 2 * (n / 64 + n / 4096 + n / 262144 + n / 16777216 + n / 1073741824 + n / 68719476736 + n / 4398046511104 + n / 281474976710656 + n / 18014398509481984) ≤ 2 * n / 63 = double (n / 64 + n / 4096 + n / 262144 + n / 16777216 + n / 1073741824 + n / 68719476736 + n / 4398046511104 + n / 281474976710656 + n / 18014398509481984) n (quotients n) in
-    omega arith
+wide_shift k h = rw wide_is_equal (weight_by_bits 6 10 ten_digits k (6 * k) (wide_wheel k h) refl)
 
 -- what the functions of the table return
 pub ruleset wide_levels = (level_by_top, top_bound, level_below_ten)

@@ -1,6 +1,6 @@
 -- The digits of a tick, and the bucket of a timer. A table has the radix of each digit, the lowest digit
 -- first.
-use Rattle.std.specs.Prelude.{◌≡◌, ◌≢◌, ◌⊎◌, ℕ, ◌+◌, ◌-◌, ◌*◌, ◌/◌, ◌%◌, ◌<◌, ◌≤◌, zero, suc, ◌==◌, ◌&&◌, nat_lt, not, if◌then◌else◌, List, [], ◌∷◌, length}
+use Rattle.std.specs.Prelude.{◌≡◌, ◌≢◌, ◌⊎◌, ℕ, ◌+◌, ◌-◌, ◌*◌, ◌/◌, ◌%◌, ◌^◌, ◌<◌, ◌≤◌, zero, suc, ◌==◌, ◌&&◌, nat_lt, not, if◌then◌else◌, List, [], ◌∷◌, length}
 
 -- the product of the radices
 abbrev pub span : List ℕ → ℕ
@@ -15,6 +15,19 @@ last_of table = span table - 1
 abbrev pub lowest_radix : List ℕ → ℕ
 lowest_radix [] = 1
 lowest_radix (r ∷ rs) = r
+
+-- n wheels of r slots
+abbrev pub copies : ℕ → ℕ → List ℕ
+copies r zero = []
+copies r (suc n) = r ∷ copies r n
+
+-- n digits of b bits
+unfoldable pub equals : ℕ → ℕ → List ℕ
+equals b n = copies (2 ^ b) n
+
+-- they are no more than a hierarchy of wheels can have
+abbrev pub AreFew : ℕ → ℕ → Type 0
+AreFew b n = (0 < b) × (b ≤ 6) × (0 < n) × (n ≤ 10)
 
 -- each radix is above 0
 abbrev pub IsTable : List ℕ → Type 0

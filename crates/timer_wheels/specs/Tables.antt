@@ -2,7 +2,7 @@
 use Rattle.std.specs.Prelude.{ℕ, ◌+◌, ◌*◌, ◌/◌, Bool, true, false, List, [], ◌∷◌}
 use Rattle.timer_base.specs.Layout.{Layout, NoSlots, OneWheel, OneRevolution, TwoRevolutions}
 use Rattle.timer_wheels.specs.Types.{LAST, Table}
-use Rattle.timer_wheels.specs.Digits.{slots}
+use Rattle.timer_wheels.specs.Digits.{equals, slots}
 -- made by tools/facts: definitions of tables
 use Rattle.timer_wheels.specs.declared.table.Table.TheVariants.{Wide, Clock, Small}
 use Rattle.timer_wheels.specs.declared.table.TheConstants.{LAST_OF_CLOCK, LAST_OF_SMALL}
@@ -15,15 +15,11 @@ wide = 64 ∷ 64 ∷ 64 ∷ 64 ∷ 64 ∷ 64 ∷ 64 ∷ 64 ∷ 64 ∷ 64 ∷ []
 unfoldable pub clock : List ℕ
 clock = 60 ∷ 60 ∷ 24 ∷ 100 ∷ []
 
--- six wheels of 16 slots
-unfoldable pub small : List ℕ
-small = 16 ∷ 16 ∷ 16 ∷ 16 ∷ 16 ∷ 16 ∷ []
-
 -- the slots of the wheels, from the lowest up
 abbrev pub radices : Table → List ℕ
 radices Wide = wide
 radices Clock = clock
-radices Small = small
+radices Small = equals 4 6
 
 -- the last tick that has its digits in the table
 abbrev pub last_of_table : Table → ℕ

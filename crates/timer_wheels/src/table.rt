@@ -8,8 +8,9 @@
 //!     Clock   990915 = 11 days 11:15:15                        digits  11 11 15 15
 //!     Small   4161 = 1 * 16^3 + 4 * 16 + 1                     digits  0 0 1 0 4 1
 //!
-//! How a digit is found is each table's own matter. All that depends on it is in the table's file, whose public
-//! functions are called by those here and by those of a smooth wheel's `turns`.
+//! How a digit is found is each table's own matter. All that depends on it is in the table's file, or in `equal` for a
+//! table of equal digits that has none. Its public functions are called by those here and by those of a smooth wheel's
+//! `turns`.
 ghost use Rattle.std.specs.Prelude.{◌≡◌, ◌==◌, ◌<◌, ◌≤◌, ◌/◌, ◌%◌};
 ghost use Rattle.timer_base.specs.declared.limits.TheConstants.{LAST};
 ghost use Rattle.timer_wheels.specs.declared.table.TheConstants.{MOST_BUCKETS};
@@ -17,9 +18,11 @@ ghost use Rattle.timer_wheels.specs.Leap.{list_visit};
 ghost use Rattle.timer_wheels.specs.Tables.{radices, last_of_table};
 ghost use Rattle.timer_wheels.specs.Digits.{bucket, emptied, slots, last_of, lowest_radix};
 
+use timer_base::LAST;
+
 // made by tools/facts: modules of tables
 pub mod clock;
-pub mod small;
+pub mod equal;
 pub mod wide;
 
 /// How many slots each wheel has.
@@ -56,7 +59,7 @@ macro_rules! of_table {
             // made by tools/facts: calls of tables
             Table::Wide => crate::table::wide::$function($($argument),*),
             Table::Clock => crate::table::clock::$function($($argument),*),
-            Table::Small => crate::table::small::$function($($argument),*),
+            Table::Small => crate::table::equal::$function::<4, 6>($($argument),*),
         }
     };
 }
@@ -98,12 +101,18 @@ pub fn buckets_of(table: Table) -> usize
 
 /// The last tick that has its digits in the table.
 #[inline]
+#[tactic(auto, using(crate::proofs::TableLaws::named_last))]
 pub fn last_tick_of(table: Table) -> u64
     ensures value { result ≡ last_of (radices table) }
     ensures named { result ≡ last_of_table table }
     ensures in_range { result ≤ LAST }
 {
-    of_table!(table, last_tick())
+    match table {
+        // made by tools/facts: last ticks of tables
+        Table::Wide => LAST,
+        Table::Clock => LAST_OF_CLOCK,
+        Table::Small => LAST_OF_SMALL,
+    }
 }
 
 /// How many slots the lowest wheel has.

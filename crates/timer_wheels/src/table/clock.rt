@@ -7,9 +7,9 @@ ghost use Rattle.timer_wheels.specs.Digits.{level, bucket, emptied, slots, radix
 ghost use Rattle.timer_wheels.specs.Smooth.{slot_in, smooth_list, smooth_slots};
 ghost use Rattle.timer_wheels.specs.Tables.{clock};
 ghost use Rattle.timer_wheels.specs.declared.smooth.turns.TheConstants.{MOST_WHEELS, MOST_LISTS};
-ghost use Rattle.timer_wheels.specs.declared.table.TheConstants.{LAST_OF_CLOCK, MOST_BUCKETS};
+ghost use Rattle.timer_wheels.specs.declared.table.TheConstants.{MOST_BUCKETS};
 
-use crate::table::{LAST_OF_CLOCK, STRIDE};
+use crate::table::STRIDE;
 
 /// How many buckets all wheels have.
 #[inline]
@@ -19,16 +19,6 @@ pub fn buckets() -> usize
     ensures in_range { result ≤ MOST_BUCKETS }
 {
     244
-}
-
-/// The last tick that has its digits in the table.
-#[inline]
-#[tactic(auto, unfolding(crate::specs::Tables::clock))]
-pub fn last_tick() -> u64
-    ensures value { result ≡ last_of clock }
-    ensures named { result ≡ LAST_OF_CLOCK }
-{
-    LAST_OF_CLOCK
 }
 
 /// How many slots the lowest wheel has.

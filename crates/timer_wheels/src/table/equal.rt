@@ -1,190 +1,213 @@
-//! The small table: six wheels of 16 slots, whose digits are found one by one.
+//! Tables of equal digits: WHEELS wheels of 2^BITS slots each, whose digits are found one by one.
 //!
 //! The loops are shorter than a case for each wheel, and a machine with little memory has little room for code. They pass
-//! five wheels at most.
-ghost use Rattle.std.specs.Prelude.{◌≡◌, ◌==◌, ◌<◌, ◌≤◌, ◌*◌, ◌/◌, ◌%◌, length};
+//! all wheels but one at most. No table of them needs a file of its own.
+ghost use Rattle.std.specs.Prelude.{◌≡◌, ◌==◌, ◌<◌, ◌≤◌, ◌+◌, ◌*◌, ◌/◌, ◌%◌, ◌^◌, length};
 ghost use Rattle.timer_wheels.specs.Leap.{list_visit};
-ghost use Rattle.timer_wheels.specs.Digits.{level, bucket, emptied, slots, radix, weight, last_of, lowest_radix};
 ghost use Rattle.timer_wheels.specs.Smooth.{slot_in, smooth_list, smooth_slots};
-ghost use Rattle.timer_wheels.specs.Tables.{small};
+ghost use Rattle.timer_wheels.specs.Digits.{equals, AreFew, level, bucket, emptied, slots, radix, weight, last_of, lowest_radix};
 ghost use Rattle.timer_wheels.specs.declared.smooth.turns.TheConstants.{MOST_WHEELS, MOST_LISTS};
-ghost use Rattle.timer_wheels.specs.declared.table.TheConstants.{LAST_OF_SMALL, MOST_BUCKETS};
+ghost use Rattle.timer_wheels.specs.declared.table.TheConstants.{MOST_BUCKETS};
 
-use crate::table::{LAST_OF_SMALL, STRIDE};
-
-/// How many bits a digit has.
-const DIGIT_BITS: u32 = 4;
+use crate::table::STRIDE;
 
 /// How many values a digit has.
-const RADIX: usize = 16;
+#[inline]
+#[tactic(auto, using(crate::proofs::EqualDigits::few_radix))]
+fn radix_of<const BITS: u32>() -> u64
+    requires { BITS ≤ 6 }
+    ensures value { result ≡ 2 ^ BITS }
+    ensures some { 0 < result }
+    ensures few { result ≤ 64 }
+{
+    1 << BITS
+}
+
+/// How many bits of a tick are below the digit of a wheel.
+#[inline]
+fn bits_below<const BITS: u32, const WHEELS: usize>(wheel: usize) -> u32
+    requires few { AreFew BITS WHEELS }
+    requires wheel { wheel < length (equals BITS WHEELS) }
+    ensures value { result ≡ BITS * wheel }
+    ensures few { result ≤ 54 }
+{
+    BITS * wheel as u32
+}
 
 /// How many buckets all wheels have.
 #[inline]
-#[tactic(auto, unfolding(crate::specs::Tables::small))]
-pub fn buckets() -> usize
-    ensures value { result ≡ slots small }
+#[tactic(auto, using(crate::proofs::EqualDigits::list_rules))]
+pub fn buckets<const BITS: u32, const WHEELS: usize>() -> usize
+    requires { AreFew BITS WHEELS }
+    ensures value { result ≡ slots (equals BITS WHEELS) }
     ensures in_range { result ≤ MOST_BUCKETS }
 {
-    96
-}
-
-/// The last tick that has its digits in the table.
-#[inline]
-#[tactic(auto, unfolding(crate::specs::Tables::small))]
-pub fn last_tick() -> u64
-    ensures value { result ≡ last_of small }
-    ensures named { result ≡ LAST_OF_SMALL }
-{
-    LAST_OF_SMALL
+    WHEELS << BITS
 }
 
 /// How many slots the lowest wheel has.
 #[inline]
-#[tactic(auto, unfolding(crate::specs::Tables::small))]
-pub fn lowest_slots() -> usize
-    ensures value { result ≡ lowest_radix small }
+#[tactic(auto, using(crate::proofs::EqualDigits::lowest_is_radix))]
+pub fn lowest_slots<const BITS: u32, const WHEELS: usize>() -> usize
+    requires { AreFew BITS WHEELS }
+    ensures value { result ≡ lowest_radix (equals BITS WHEELS) }
     ensures some { 0 < result }
     ensures few { result ≤ 64 }
 {
-    16
+    radix_of::<BITS>() as usize
 }
 
 /// How many multiples of the lowest wheel's slots are after 0 and at most the tick.
 #[inline]
-#[tactic(auto, unfolding(crate::specs::Tables::small))]
-pub fn revolutions(tick: u64) -> u64
-    ensures { result ≡ tick / lowest_radix small }
+#[tactic(auto, using(crate::proofs::EqualDigits::revolutions_are))]
+pub fn revolutions<const BITS: u32, const WHEELS: usize>(tick: u64) -> u64
+    requires { AreFew BITS WHEELS }
+    ensures { result ≡ tick / lowest_radix (equals BITS WHEELS) }
 {
-    tick / 16
+    tick / radix_of::<BITS>()
 }
 
 /// Whether the tick is a multiple of the lowest wheel's slots.
 #[inline]
-#[tactic(auto, unfolding(crate::specs::Tables::small))]
-pub fn is_rollover(tick: u64) -> bool
-    ensures { result ≡ (tick % lowest_radix small == 0) }
+#[tactic(auto, using(crate::proofs::EqualDigits::rollover_is))]
+pub fn is_rollover<const BITS: u32, const WHEELS: usize>(tick: u64) -> bool
+    requires { AreFew BITS WHEELS }
+    ensures { result ≡ (tick % lowest_radix (equals BITS WHEELS) == 0) }
 {
-    tick % 16 == 0
+    tick % radix_of::<BITS>() == 0
 }
 
 /// The list of a timer that is pending now.
-pub fn bucket_of(now: u64, deadline: u64) -> usize
+pub fn bucket_of<const BITS: u32, const WHEELS: usize>(now: u64, deadline: u64) -> usize
+    requires few { AreFew BITS WHEELS }
     requires later { now < deadline }
-    requires deadline { deadline ≤ last_of small }
-    ensures value { result ≡ bucket small now deadline }
-    ensures in_range { result < slots small }
+    requires deadline { deadline ≤ last_of (equals BITS WHEELS) }
+    ensures value { result ≡ bucket (equals BITS WHEELS) now deadline }
+    ensures in_range { result < slots (equals BITS WHEELS) }
 {
+    let radix = radix_of::<BITS>();
     let mut below = 0;
     let mut from = now;
     let mut to = deadline;
-    while from / 16 != to / 16 {
-        below += RADIX;
-        from /= 16;
-        to /= 16;
+    while from / radix != to / radix {
+        below += radix as usize;
+        from /= radix;
+        to /= radix;
     }
-    below + (to % 16) as usize
+    below + (to % radix) as usize
 }
 
 /// The list that a tick empties.
-pub fn emptied_at(tick: u64) -> usize
+pub fn emptied_at<const BITS: u32, const WHEELS: usize>(tick: u64) -> usize
+    requires few { AreFew BITS WHEELS }
     requires later { 0 < tick }
-    requires in_range { tick ≤ last_of small }
-    ensures value { result ≡ emptied small tick }
-    ensures in_range { result < slots small }
+    requires in_range { tick ≤ last_of (equals BITS WHEELS) }
+    ensures value { result ≡ emptied (equals BITS WHEELS) tick }
+    ensures in_range { result < slots (equals BITS WHEELS) }
 {
+    let radix = radix_of::<BITS>();
     let mut below = 0;
     let mut rest = tick;
-    while rest % 16 == 0 {
-        below += RADIX;
-        rest /= 16;
+    while rest % radix == 0 {
+        below += radix as usize;
+        rest /= radix;
     }
-    below + (rest % 16) as usize
+    below + (rest % radix) as usize
 }
 
 /// Now with the slot of a list as its digit, and zeros below.
 #[inline]
-#[tactic(auto, using(crate::proofs::SmallDigits::small_visit), unfolding(crate::specs::Tables::small))]
-pub fn visit_of(list: usize, now: u64) -> u64
-    requires list { list < slots small }
-    requires now { now ≤ last_of small }
-    ensures { result ≡ list_visit small list now }
+pub fn visit_of<const BITS: u32, const WHEELS: usize>(list: usize, now: u64) -> u64
+    requires few { AreFew BITS WHEELS }
+    requires list { list < slots (equals BITS WHEELS) }
+    requires now { now ≤ last_of (equals BITS WHEELS) }
+    ensures { result ≡ list_visit (equals BITS WHEELS) list now }
 {
-    let shift = DIGIT_BITS * (list / RADIX) as u32;
+    let radix = radix_of::<BITS>();
+    let list = list as u64;
+    let shift = bits_below::<BITS, WHEELS>((list / radix) as usize);
     let above = now >> shift;
-    (above - above % 16 + (list % RADIX) as u64) << shift
+    (above - above % radix + list % radix) << shift
 }
 
 /// How many wheels there are.
 #[inline]
-#[tactic(auto, unfolding(crate::specs::Tables::small))]
-pub fn wheels() -> usize
-    ensures value { result ≡ length small }
+#[tactic(auto, using(crate::proofs::EqualDigits::wheels_are))]
+pub fn wheels<const BITS: u32, const WHEELS: usize>() -> usize
+    requires { AreFew BITS WHEELS }
+    ensures value { result ≡ length (equals BITS WHEELS) }
     ensures few { result ≤ MOST_WHEELS }
     ensures some { 0 < result }
 {
-    6
+    WHEELS
 }
 
 /// How many lists the buckets are, with two revolutions of slots each.
 #[inline]
-#[tactic(auto, unfolding(crate::specs::Tables::small))]
-pub fn turned_lists() -> usize
-    ensures value { result ≡ smooth_slots small }
+#[tactic(auto, using(crate::proofs::EqualDigits::turned_are))]
+pub fn turned_lists<const BITS: u32, const WHEELS: usize>() -> usize
+    requires { AreFew BITS WHEELS }
+    ensures value { result ≡ smooth_slots (equals BITS WHEELS) }
     ensures in_range { result ≤ MOST_LISTS }
 {
-    672
+    STRIDE * (WHEELS - 1) + 2 * radix_of::<BITS>() as usize
 }
 
 /// How many ticks a slot of a wheel is.
 #[inline]
-#[tactic(auto, using(crate::proofs::SmallDigits::small_shift, crate::proofs::SmallDigits::small_length))]
-pub fn weight_of(wheel: usize) -> u64
-    requires { wheel < length small }
-    ensures { result ≡ weight wheel small }
+#[tactic(auto, using(crate::proofs::EqualDigits::weight_by_bits))]
+pub fn weight_of<const BITS: u32, const WHEELS: usize>(wheel: usize) -> u64
+    requires few { AreFew BITS WHEELS }
+    requires wheel { wheel < length (equals BITS WHEELS) }
+    ensures { result ≡ weight wheel (equals BITS WHEELS) }
 {
-    1 << (4 * wheel)
+    1 << bits_below::<BITS, WHEELS>(wheel)
 }
 
 /// How many slots a wheel has in two revolutions.
 #[inline]
-#[tactic(auto, using(crate::proofs::SmallDigits::small_turns, crate::proofs::SmallDigits::small_length))]
-pub fn turns_of(wheel: usize) -> u64
-    requires { wheel < length small }
-    ensures value { result ≡ 2 * radix wheel small }
+#[tactic(auto, using(crate::proofs::EqualDigits::turns_are))]
+pub fn turns_of<const BITS: u32, const WHEELS: usize>(wheel: usize) -> u64
+    requires few { AreFew BITS WHEELS }
+    requires wheel { wheel < length (equals BITS WHEELS) }
+    ensures value { result ≡ 2 * radix wheel (equals BITS WHEELS) }
     ensures few { result ≤ 200 }
 {
-    32
+    2 * radix_of::<BITS>()
 }
 
 /// The slot of a tick on a wheel, counted from tick 0 on.
 #[inline]
-#[tactic(auto, using(crate::proofs::SmallDigits::small_slot, crate::proofs::SmallDigits::small_length))]
-pub fn slot_of(wheel: usize, tick: u64) -> u64
-    requires { wheel < length small }
-    ensures { result ≡ slot_in small wheel tick }
+#[tactic(auto, using(crate::proofs::EqualDigits::slot_by_bits))]
+pub fn slot_of<const BITS: u32, const WHEELS: usize>(wheel: usize, tick: u64) -> u64
+    requires few { AreFew BITS WHEELS }
+    requires wheel { wheel < length (equals BITS WHEELS) }
+    ensures { result ≡ slot_in (equals BITS WHEELS) wheel tick }
 {
-    tick >> (4 * wheel)
+    tick >> bits_below::<BITS, WHEELS>(wheel)
 }
 
 /// The list of such a slot.
 #[inline]
-#[tactic(auto, using(crate::proofs::SmallDigits::small_list), unfolding(crate::specs::Tables::small))]
-pub fn list_of_slot(wheel: usize, slot: u64) -> usize
-    requires { wheel < length small }
-    ensures value { result ≡ smooth_list small wheel slot }
-    ensures in_range { result < smooth_slots small }
+#[tactic(auto, using(crate::proofs::EqualDigits::turn_rules))]
+pub fn list_of_slot<const BITS: u32, const WHEELS: usize>(wheel: usize, slot: u64) -> usize
+    requires few { AreFew BITS WHEELS }
+    requires wheel { wheel < length (equals BITS WHEELS) }
+    ensures value { result ≡ smooth_list (equals BITS WHEELS) wheel slot }
+    ensures in_range { result < smooth_slots (equals BITS WHEELS) }
 {
-    STRIDE * wheel + (slot % 32) as usize
+    STRIDE * wheel + (slot % (2 * radix_of::<BITS>())) as usize
 }
 
 /// The highest wheel on which a deadline has another digit than now.
 #[inline]
-#[tactic(auto, using(crate::proofs::SmallDigits::small_level, crate::proofs::SmallDigits::small_level_in_range), unfolding(crate::specs::Tables::small))]
-pub fn wheel_of(now: u64, deadline: u64) -> usize
+#[tactic(auto, using(crate::proofs::EqualDigits::level_rules))]
+pub fn wheel_of<const BITS: u32, const WHEELS: usize>(now: u64, deadline: u64) -> usize
+    requires few { AreFew BITS WHEELS }
     requires later { now < deadline }
-    requires deadline { deadline ≤ last_of small }
-    ensures value { result ≡ level small now deadline }
-    ensures in_range { result < length small }
+    requires deadline { deadline ≤ last_of (equals BITS WHEELS) }
+    ensures value { result ≡ level (equals BITS WHEELS) now deadline }
+    ensures in_range { result < length (equals BITS WHEELS) }
 {
-    bucket_of(now, deadline) / 16
+    bucket_of::<BITS, WHEELS>(now, deadline) / radix_of::<BITS>() as usize
 }

@@ -12,7 +12,6 @@ ghost use Rattle.timer_wheels.specs.declared.smooth.turns.TheConstants.{MOST_WHE
 ghost use Rattle.timer_wheels.specs.declared.table.TheConstants.{MOST_BUCKETS};
 
 use crate::table::STRIDE;
-use timer_base::LAST;
 
 /// How many bits a digit has.
 const DIGIT_BITS: u32 = 6;
@@ -28,16 +27,6 @@ pub fn buckets() -> usize
     ensures in_range { result ≤ MOST_BUCKETS }
 {
     640
-}
-
-/// The last tick that has its digits in the table.
-#[inline]
-#[tactic(auto, unfolding(crate::specs::Tables::wide))]
-pub fn last_tick() -> u64
-    ensures value { result ≡ last_of wide }
-    ensures named { result ≡ LAST }
-{
-    LAST
 }
 
 /// How many slots the lowest wheel has.

@@ -1,8 +1,8 @@
-use Rattle.timer_wheels.proofs.SmallDigits.{IsBucketAbove}
-use Rattle.timer_wheels.proofs.table.small.bucket_of.Given as goal
+use Rattle.timer_wheels.proofs.EqualDigits.{IsBucketAbove}
+use Rattle.timer_wheels.proofs.table.equal.bucket_of.Given as goal
 
 abbrev pub invariant-loop-from : goal.invariant-loop-from
-invariant-loop-from l = IsBucketAbove l.now l.deadline l.below l.from l.to
+invariant-loop-from g l = IsBucketAbove l.radix g.row.WHEELS l.now l.deadline l.below l.from l.to
 
 abbrev pub decreases-loop-from : goal.decreases-loop-from
-decreases-loop-from l = l.to
+decreases-loop-from g l = l.to

@@ -1,15 +1,23 @@
 use Rattle.std.proofs.Common.{arith, rules}
-use Rattle.timer_wheels.specs.Tables.{small}
-use Rattle.timer_wheels.proofs.SmallDigits.{emptied_begun, emptied_found}
-use Rattle.timer_wheels.proofs.table.small.emptied_at.Goals as goal
+use Rattle.timer_wheels.proofs.EqualDigits.{begun_emptied, next_emptied, emptied_is, emptied_in_slots, shrinks}
+use Rattle.timer_wheels.proofs.table.equal.emptied_at.Goals as goal
 
 pub loop-rest-init : goal.loop-rest-init
-unfolding small
-loop-rest-init c = emptied_begun c.args.tick c.requires.later c.requires.in_range
+loop-rest-init g c = begun_emptied g.row.BITS g.row.WHEELS c.requires.few c.radix_of-radix.result c.args.tick
+    c.radix_of-radix.ensures.value c.requires.later c.requires.in_range
+
+pub loop-rest-smaller : goal.loop-rest-smaller
+loop-rest-smaller g c = shrinks g.row.BITS g.row.WHEELS c.requires.few c.radix_of-radix.result c.radix_of-radix.ensures.value
+    c.loop-rest.rest (omega (arith, c.loop-rest.invariant.later))
+
+pub loop-rest-preserved : goal.loop-rest-preserved
+loop-rest-preserved g c = next_emptied g.row.BITS g.row.WHEELS c.requires.few c.radix_of-radix.result c.radix_of-radix.ensures.value
+    c.args.tick c.loop-rest.below c.loop-rest.rest c.loop-rest.invariant (search rules)
+
+pub returns-clause-value : goal.returns-clause-value
+returns-clause-value g c = emptied_is g.row.BITS g.row.WHEELS c.requires.few c.radix_of-radix.result c.radix_of-radix.ensures.value
+    c.args.tick c.loop-rest.below c.loop-rest.rest c.loop-rest.invariant (search rules)
 
 pub returns-clause-in_range : goal.returns-clause-in_range
-unfolding small
-returns-clause-in_range c =
-    let i = c.loop-rest.invariant in
-    let found = emptied_found c.args.tick c.loop-rest.below c.loop-rest.rest i.rest i.passed i.later i.digits i.is (search rules) in
-    omega (arith, found.1)
+returns-clause-in_range g c = emptied_in_slots g.row.BITS g.row.WHEELS c.requires.few c.radix_of-radix.result
+    c.radix_of-radix.ensures.value c.args.tick c.loop-rest.below c.loop-rest.rest c.loop-rest.invariant
