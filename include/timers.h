@@ -104,10 +104,16 @@
  *     timers_find_next.
  *
  * WHICH TABLE
- *     TIMERS_WIDE is for all but these cases. TIMERS_CLOCK shows hands of a clock. TIMERS_SMALL is for machines with little
- *     memory: its clock is short, and a timer moves five times at most. Above the lowest wheel its calls look at one digit
- *     after another, so some take a little longer. TIMERS_SMOOTH is for a loop that holds some 100,000 timers or more,
- *     passes a tick or a few at a time, and must not pause.
+ *         table          is for
+ *         TIMERS_WIDE    all but the cases below
+ *         TIMERS_CLOCK   showing the hands of a clock
+ *         TIMERS_SMOOTH  a loop that must not pause, with some 100,000 timers or more: no
+ *                        tick moves all timers of a bucket
+ *         TIMERS_SMALL   machines with little memory
+ *
+ *     The clock of TIMERS_SMALL is short, and a timer moves five times at most. Above the lowest wheel its calls look
+ *     at one digit after another, so some take a little longer. TIMERS_SMOOTH is for a loop that passes a tick or a
+ *     few at a time.
  *
  *     With TIMERS_WIDE a tick at a multiple of 64 moves all timers of its bucket. That may be all of a million timers.
  *     It then takes some 10 ms, and some 140 ms if they lie in random order in memory. With TIMERS_SMOOTH they move
