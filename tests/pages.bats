@@ -10,7 +10,8 @@ setup_file() {
     mkdir "$BATS_FILE_TMPDIR/bin"
     ln -s "$(realpath "${TIMERS:-timers}")" "$BATS_FILE_TMPDIR/bin/timers"
     EVENTS=$(tools/facts SCRIPT | tr ' ' '|')
-    export EVENTS PATH=$BATS_FILE_TMPDIR/bin:$PATH
+    read -r FAILED BAD REFUSED < <(tools/facts FAILED BAD REFUSED)
+    export EVENTS FAILED BAD REFUSED PATH=$BATS_FILE_TMPDIR/bin:$PATH
 }
 
 # has_status STATUS COMMAND..: on the empty script
@@ -35,8 +36,8 @@ other_option() {
             other=$(other_option $command "$option")
             # shellcheck disable=SC2086  # two words, or none
             for number in "$least" "$most" "$default"; do has_status 0 $command "--$option=$number" $other; done
-            has_status 2 $command "--$option=$((most + 1))"
-            has_status 2 $command "--$option=$((least - 1))"
+            has_status "$REFUSED" $command "--$option=$((most + 1))"
+            has_status "$REFUSED" $command "--$option=$((least - 1))"
             tried=$((tried + 1))
         done < <(tools/facts --options $section)
         [ "$tried" -gt 1 ]
@@ -47,7 +48,7 @@ other_option() {
 @test "an argument of any length is read as a whole" {
     for length in 1 255 256 257 1023 1024 1025 4095 4096 4097 100000; do
         argument=$(head -c $length /dev/zero | tr '\0' x)
-        run -2 timers play "$argument" < /dev/null
+        run -"$REFUSED" timers play "$argument" < /dev/null
         [[ $output == "error: unexpected argument '$argument' found"* ]]
     done
 }
@@ -138,11 +139,11 @@ statuses_of() {
         esac
         for number in $(statuses_of $command); do grep -qx "$number" <<< "$wanted"; done
         has_status 0 $command $(other_option "$command" clients)
-        has_status 2 ${command:-play} --no-such-option
+        has_status "$REFUSED" ${command:-play} --no-such-option
     done
-    for command in play serve show; do run -1 timers $command <<< "tick 0"; done
-    run -1 bash -c "timers threads --clients 1 --timers 1 > /dev/full"
-    run -"$(tools/facts BAD)" timers check <<< "tick 0"
+    for command in play serve show; do run -"$FAILED" timers $command <<< "tick 0"; done
+    run -"$FAILED" bash -c "timers threads --clients 1 --timers 1 > /dev/full"
+    run -"$BAD" timers check <<< "tick 0"
 }
 
 # An example has a remark with its fields, but for `end` and `closed`, of which it says what they count.

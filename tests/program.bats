@@ -98,7 +98,7 @@ clock_row() {
 @test "bad_lines: a bad line is named and nothing is written, with each scheme" {
     local scheme
     bad() {
-        for scheme in $schemes; do gives 1 "play --scheme $scheme" "$2" "" "bad line $1\n"; done
+        for scheme in $schemes; do gives "{FAILED}" "play --scheme $scheme" "$2" "" "bad line $1\n"; done
     }
     bad 2 'start 0 1 5 0\nstart 0 01 5 0\n'
     bad 2 'start 0 1 5 0\nstart 0 2 5 0'
@@ -132,7 +132,7 @@ clock_row() {
             if [ -n "${ends[$length]:-}" ]; then
                 leaves 0 "play --scheme $scheme" "${ends[$length]}" ""
             else
-                leaves 1 "play --scheme $scheme" "" "bad line $(($(wc -l < input) + 1))\n"
+                leaves "{FAILED}" "play --scheme $scheme" "" "bad line $(($(wc -l < input) + 1))\n"
             fi
         done
     done
@@ -143,7 +143,7 @@ clock_row() {
     most=$("$BATS_TEST_DIRNAME/../tools/facts" MAX_SCRIPT)
     for line in 'close' 'x' '' $'\001\377' 'tick 0'; do
         { yes "$line" || true; } | head -c $((most + 1)) > input
-        for scheme in $schemes; do leaves 1 "play --scheme $scheme" "" "{TooLong}\n"; done
+        for scheme in $schemes; do leaves "{FAILED}" "play --scheme $scheme" "" "{TooLong}\n"; done
     done
 }
 
@@ -165,7 +165,7 @@ clock_row() {
         local status=0 left
         printf 'close\n' > input
         left=$({ "$TIMERS" "$@" > output 2> errors; echo "$?"; cat; } < input)
-        [ "$left" = $'2\nclose' ] && [ ! -s output ] && grep -q '^error: ' errors && return
+        [ "$left" = "$(put_names <<< '{REFUSED}')"$'\nclose' ] && [ ! -s output ] && grep -q '^error: ' errors && return
         echo "timers $*: $left"
         return 1
     }
@@ -450,7 +450,7 @@ shown() { gives 0 "show $1" "$2" "$(printf '%s\\n' "${@:3}")"; }
 
 @test "each subcommand reports a bad line in its way" {
     local reason='count: {OutOfTicks}'
-    gives 1 "serve" 'close\ntick 0\nclose\n' 'closed 0\n' 'bad line 2\n'
+    gives "{FAILED}" "serve" 'close\ntick 0\nclose\n' 'closed 0\n' 'bad line 2\n'
     gives "{SKIPPED}" "serve --keep-going" 'close\ntick 0\nclose\n' \
         'closed 0\nclose refused {Closed}\nend 0 0\n' "bad line 2, column 6: $reason\n"
     gives "{SKIPPED}" "serve --wakeups --keep-going" 'close\ntick 0\nclose\n' \
@@ -514,7 +514,9 @@ help_of() {
     statuses "" '{DONE} if it was\. It is {FAILED} after an error, [^.]*, and {REFUSED} if the arguments are refused\.'
     statuses serve '{DONE} if the input came to its end [^.]*\. It is {FAILED} after an error, [^.]*\. It is {REFUSED} if the arguments'
     statuses threads '{DONE} if each client finished\. It is {FAILED} after an error, [^.]*\. It is {REFUSED} if the arguments'
-    statuses check '{DONE} if no line is bad, [^.]*\. It is {BAD} if a line is bad, [^.]*\. It is {CHECK_FAILED} after any other error'
+    statuses check "$(printf %s '{DONE} if no line is bad, [^.]*\. It is {BAD} if a line is bad, [^.]*\. ' \
+        'It is {FAILED} after an error before [^.]*, and {CHECK_FAILED} after any other error, [^.]*\. ' \
+        'It is {REFUSED} if the arguments are refused\.')"
 }
 
 @test "each help of a subcommand says how it is called" {
@@ -551,7 +553,7 @@ help_of() {
         local status=0
         # shellcheck disable=SC2086  # words
         "$TIMERS" $1 > /dev/full 2> errors || status=$?
-        [ "$status" -eq 1 ] && named errors <(echo "{Write}")
+        [ "$status" -eq "$(put_names <<< "{FAILED}")" ] && named errors <(echo "{Write}")
     }
     for words in --help help; do whole "$words" "Plays a script" "$(last_of SCRIPTS)"; done
     for words in "play --help" "help play"; do whole "$words" "Plays the script" "$(last_of SCHEMES)"; done

@@ -3,6 +3,7 @@ import math
 import os
 import re
 import tomllib
+from collections import ChainMap
 
 TOP = os.path.dirname(os.path.dirname(os.path.abspath(__file__)))
 
@@ -13,24 +14,27 @@ def facts(name):
 
 
 LIMITS, WORDS, SCHEMES, OPTIONS, TABLES = facts("limits")["limits"], facts("words"), facts("schemes"), facts("options"), facts("tables")
+# The exit statuses of the program.
+EXITS = {name: end["status"] for name, end in OPTIONS["exit"].items()}
+NUMBERS = ChainMap(LIMITS, EXITS)
 # The last tick of a table is a limit: LAST, or one of its own.
 for table, fact in TABLES.items():
     last = math.prod(fact["radices"]) - 1
     fact["last"] = "LAST" if last == LIMITS["LAST"] else f"LAST_OF_{table}"
     LIMITS[fact["last"]] = last
-# A limit in a text: {NAME}, {NAME+1}, and {NAME,} or {NAME_} with that mark between thousands.
+# A limit or an exit status in a text: {NAME}, {NAME+1}, and {NAME,} or {NAME_} with that mark between thousands.
 NAMED = re.compile(r"\{(\w+?)([+-]\d+)?([,_]?)\}")
 
 
 def number(found):
-    """A limit as it is written."""
-    value = LIMITS[found[1]] + int(found[2] or 0)
+    """A number as it is written."""
+    value = NUMBERS[found[1]] + int(found[2] or 0)
     return f"{value:{found[3]}}" if found[3] else str(value)
 
 
 def named(text):
-    """A text in which limits stand for their names in braces. Cases of the command line have other names, too."""
-    return NAMED.sub(lambda found: number(found) if found[1] in LIMITS else found[0], text)
+    """A text in which numbers stand for their names in braces. Cases of the command line have other names, too."""
+    return NAMED.sub(lambda found: number(found) if found[1] in NUMBERS else found[0], text)
 
 
 def said(section, what):
@@ -111,7 +115,7 @@ def rows_of_tables():
 
 
 if __name__ == "__main__":
-    for name, value in {**LIMITS, **{f"EXIT_{name}": end["status"] for name, end in OPTIONS["exit"].items()}}.items():
+    for name, value in {**LIMITS, **{f"EXIT_{name}": status for name, status in EXITS.items()}}.items():
         print(f"#define {name} UINT64_C({value})")
     print("#define REASONS_OF_A_LINE", strings(said("check", "word")))
     print("#define SCHEMES_OF_THE_PROGRAM", ", ".join(map(str.upper, SCHEMES)))

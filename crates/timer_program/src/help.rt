@@ -195,6 +195,6 @@ refused as `no-such` a line says what became of the timer. For example:
 Or the timer `was stopped by line M`, `was restarted by line M` or `is of client C`.
 
 The exit status is 0 if no line is bad, and nothing is written. It is 1 if a line is bad,
-or with `--why` is `no-such`, and after an error before the script is read. It is 2 after
-any other error, which is one line on standard error (`too long`, `read failed`,
-`write failed` or `out of memory`), and if the arguments are refused.";
+or with `--why` is `no-such`. It is 1 after an error before the script is read, and 2
+after any other error, which is one line on standard error (`too long`, `read failed`,
+`write failed` or `out of memory`). It is 2 if the arguments are refused.";
