@@ -1,6 +1,8 @@
 -- Clients in threads: the ranges of their options, and how a call with them ends.
 use Rattle.std.specs.Prelude.{◌≡◌, ℕ, ◌≤◌, ◌⊎◌, ◌++◌, true, false, List, Option, Result, Ok, Err, Vec, codes, decimal}
 use Rattle.std.specs.Io.KnownBytes.{Appends}
+use Rattle.timer_commands.specs.declared.ending.Ending.{Ending}
+use Rattle.timer_commands.specs.declared.ending.Ending.TheVariants.{Done, Failed, Refused}
 use Rattle.timer_threads.specs.declared.outcome.ThreadsFault.{ThreadsFault}
 use Rattle.timer_threads.specs.declared.outcome.ThreadsFault.TheVariants as faults
 use Rattle.timer_threads.specs.Threads.{whole_text, IsThreadsRun, IsExplained, HasSucceeded}
@@ -34,13 +36,13 @@ WritesWhole contents writer writer' text =
 -- what was written for a run of clients: its text; or nothing, and on the other writer the line of its error
 abbrev pub HasEndedClients : {S F A : Type 0} → Result (Vec ℕ A) ThreadsFault → (S → Option (List ℕ))
     → (F → Option (List ℕ))
-    → (writer writer' : Watched S) (faults faults' : Watched F) → ℕ → Type 0
-HasEndedClients (Ok text) contents contents-of-faults writer writer' errors errors' status =
-    ((status ≡ 0) × (has_failed writer' ≡ false) × Appends (contents (inner_of writer))
+    → (writer writer' : Watched S) (faults faults' : Watched F) → Ending → Type 0
+HasEndedClients (Ok text) contents contents-of-faults writer writer' errors errors' ending =
+    ((ending ≡ Done) × (has_failed writer' ≡ false) × Appends (contents (inner_of writer))
     (contents (inner_of writer')) text.items)
-    ⊎ ((status ≡ 1) × (has_failed writer' ≡ true))
-HasEndedClients (Err fault) contents contents-of-faults writer writer' errors errors' status =
-    (status ≡ 1) × (writer' ≡ writer) × WritesWhole contents-of-faults errors errors' (error_line fault)
+    ⊎ ((ending ≡ Failed) × (has_failed writer' ≡ true))
+HasEndedClients (Err fault) contents contents-of-faults writer writer' errors errors' ending =
+    (ending ≡ Failed) × (writer' ≡ writer) × WritesWhole contents-of-faults errors errors' (error_line fault)
 
 -- the line of options that are out of range
 abbrev pub range_line : List ℕ
@@ -56,16 +58,16 @@ pub record IsReported {F : Type 0} (options : ThreadsOptions) (reports : F → O
 -- The clients ran, with this limit of idle turns, and their whole text was written. Or it was not, and unless the writer
 -- failed, the line says why.
 pub record HasRunClients {S F : Type 0} (options : ThreadsOptions) (contents : S → Option (List ℕ))
-    (reports : F → Option (List ℕ)) (writer writer' : Watched S) (faults faults' : Watched F) (status : ℕ) : Type 0 where
-  pub in_range : status ≤ 2
-  -- 0: the whole text was written
-  pub written : status ≡ 0
+    (reports : F → Option (List ℕ)) (writer writer' : Watched S) (faults faults' : Watched F) (ending : Ending) : Type 0 where
+  pub one_of : (ending ≡ Done) ⊎ ((ending ≡ Failed) ⊎ (ending ≡ Refused))
+  -- the whole text was written
+  pub written : ending ≡ Done
       → IsRunnable options × IsThreadsRun options.clients options.timers 10000000 HasSucceeded
       × Appends (contents (inner_of writer)) (contents (inner_of writer'))
       (whole_text options.clients options.timers)
       × (has_failed writer' ≡ false)
-  -- 1: the writer failed, or nothing was written, for this reason
-  pub failed : status ≡ 1 → IsRunnable options × ((has_failed writer' ≡ true)
+  -- the writer failed, or nothing was written, for this reason
+  pub failed : ending ≡ Failed → IsRunnable options × ((has_failed writer' ≡ true)
       ⊎ ((writer' ≡ writer) × IsReported options reports faults faults'))
-  -- 2: an option is out of range, and nothing was written
-  pub refused : status ≡ 2 → ¬ (IsRunnable options) × (writer' ≡ writer) × WritesWhole reports faults faults' range_line
+  -- an option is out of range, and nothing was written
+  pub refused : ending ≡ Refused → ¬ (IsRunnable options) × (writer' ≡ writer) × WritesWhole reports faults faults' range_line

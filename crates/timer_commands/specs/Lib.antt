@@ -1,3 +1,4 @@
+pub mod Endings
 pub mod Options
 pub mod Clients
 pub mod Shows

@@ -1,4 +1,4 @@
--- How a subcommand ends: its exit status, and what it did to its input and its outputs.
+-- How a subcommand ends, and what it did then to its input and its outputs. An ending for which this is ⊥ never comes.
 use Rattle.std.specs.Prelude.{◌≡◌, ℕ, ◌≤◌, ◌⊎◌, Bool, true, false, List, Option, Result, Ok, Err}
 use Rattle.timer_facility.specs.State.{FacilityState, opened}
 use Rattle.timer_script.specs.declared.fault.RunFault.{RunFault}
@@ -14,6 +14,8 @@ use Rattle.timer_script.specs.Explanation.{HasExplained}
 use Rattle.timer_script.specs.Decorator.{Decoration, AddsNothing}
 use Rattle.timer_script.specs.Service.{HasServedPeer, server_with}
 use Rattle.timer_script.specs.Streams.{Known, streams_state}
+use Rattle.timer_commands.specs.declared.ending.Ending.{Ending}
+use Rattle.timer_commands.specs.declared.ending.Ending.TheVariants.{Done, Failed, Bad, Skipped, CheckFailed, Refused}
 use Rattle.timer_commands.specs.declared.options.RunOptions.{RunOptions}
 use Rattle.timer_commands.specs.declared.options.OptionsFault.{OptionsFault}
 use Rattle.timer_commands.specs.declared.verbs.Verb.{Verb}
@@ -38,12 +40,6 @@ abbrev pub opened_by : RunOptions → FacilityState
 opened_by options = opened (config_of options) (scheme_last options.scheme)
     (scheme_layout options.scheme options.slots)
 
--- an exit status of a success and of a failure
-pub record Ends (Good Bad : Type 0) (status : ℕ) : Type 0 where
-  pub in_range : status ≤ 1
-  pub good : status ≡ 0 → Good
-  pub bad : status ≡ 1 → Bad
-
 -- what playing a script did
 abbrev pub HasPlayed : {R S F : Type 0} → FacilityState → Bytes R S F → (old new : Channels R S F)
     → Result Unit RunFault → Type 0
@@ -64,56 +60,57 @@ HasServedStreams on_bad Adds before bytes old new result =
       faults = new.faults;
     }) result
 
--- 0: the input came to its end, no line was bad, and the whole text was written; 1: some line was bad, each was
--- reported until the writer of reports failed, and the whole text of the others was written; or serving failed, and
--- `told` is the writer of reports before the failure's own report, which no clause describes
+-- what serving did, by its ending
 abbrev pub ServingEnds : {R S F : Type 0} → OnBadLine → Decoration → FacilityState → Bytes R S F
-    → (old new : Channels R S F) → ℕ → Type 0
-ServingEnds {R} {S} {F} on_bad Adds before bytes old new status =
-    Ends (HasServedStreams on_bad Adds before bytes old new (Ok true))
-    (HasServedStreams on_bad Adds before bytes old new (Ok false)
-    ⊎ ((fault : ServeFault) × (told : Watched F)
-    × HasServedStreams on_bad Adds before bytes old (record { streams = new.streams; faults = told }) (Err fault)))
-    status
+    → (old new : Channels R S F) → Ending → Type 0
+-- the input came to its end, no line was bad, and the whole text was written
+ServingEnds on_bad Adds before bytes old new Done = HasServedStreams on_bad Adds before bytes old new (Ok true)
+-- some line was bad, each was reported until the writer of reports failed, and the whole text of the others was written
+ServingEnds on_bad Adds before bytes old new Skipped = HasServedStreams on_bad Adds before bytes old new (Ok false)
+-- `told` is the writer of reports before the failure's own report, which no clause describes
+ServingEnds {R} {S} {F} on_bad Adds before bytes old new Failed = (fault : ServeFault) × (told : Watched F)
+    × HasServedStreams on_bad Adds before bytes old (record { streams = new.streams; faults = told }) (Err fault)
+ServingEnds on_bad Adds before bytes old new ending = ⊥
 
 -- a script was played, or lines were answered as they came, or answered and shown
 abbrev pub HasDone : {R S F : Type 0} → Verb → FacilityState → Bytes R S F → (old new : Channels R S F)
-    → ℕ → Type 0
-HasDone verbs.Play before bytes old new status =
-    Ends (HasPlayed before bytes old new (Ok tt)) ((fault : RunFault) × HasPlayed before bytes old new (Err fault))
-    status
-HasDone (verbs.Serve on_bad false) before bytes old new status =
-    ServingEnds on_bad AddsNothing before bytes old new status
-HasDone (verbs.Serve on_bad true) before bytes old new status =
-    ServingEnds on_bad AddsWakeups before bytes old new status
-HasDone (verbs.Show shows) before bytes old new status = ServingEnds Stop (AddsPictures shows) before bytes old new status
+    → Ending → Type 0
+HasDone verbs.Play before bytes old new Done = HasPlayed before bytes old new (Ok tt)
+HasDone verbs.Play before bytes old new Failed = (fault : RunFault) × HasPlayed before bytes old new (Err fault)
+HasDone verbs.Play before bytes old new ending = ⊥
+HasDone (verbs.Serve on_bad false) before bytes old new ending =
+    ServingEnds on_bad AddsNothing before bytes old new ending
+HasDone (verbs.Serve on_bad true) before bytes old new ending =
+    ServingEnds on_bad AddsWakeups before bytes old new ending
+HasDone (verbs.Show shows) before bytes old new ending = ServingEnds Stop (AddsPictures shows) before bytes old new ending
 
 -- that was done over the facility of the options, or the options are refused and the streams are untouched
-pub record HasRunVerb {R S F : Type 0} (verb : Verb) (options : RunOptions) (bytes : Bytes R S F)
-    (old new : Channels R S F) (status : ℕ) : Type 0 where
-  pub in_range : status ≤ 2
-  pub done : status ≤ 1 → IsPlayable options × HasDone verb (opened_by options) bytes old new status
-  pub refused : status ≡ 2 → ((fault : OptionsFault) × RefusesOptions fault options) × (new.streams ≡ old.streams)
+abbrev pub HasRunVerb : {R S F : Type 0} → Verb → RunOptions → Bytes R S F → (old new : Channels R S F) → Ending → Type 0
+HasRunVerb verb options bytes old new ending =
+    (IsPlayable options × HasDone verb (opened_by options) bytes old new ending)
+    ⊎ (((fault : OptionsFault) × RefusesOptions fault options) × (new.streams ≡ old.streams) × (ending ≡ Refused))
 
--- a script was checked: 0: no line is bad, and the report, which is empty, was written; 1: some line is bad, and
--- the whole report was written; 2: the check failed, by its input, its output or memory
-pub record HasCheckedScript {R S : Type 0} (known : Known R S) (old new : Streams R S) (status : ℕ) : Type 0 where
-  pub in_range : status ≤ 2
-  pub good : status ≡ 0 → HasChecked known old new (Ok 0)
-  pub bad : status ≡ 1 → (lines : ℕ) × (1 ≤ lines) × HasChecked known old new (Ok lines)
-  pub failed : status ≡ 2 → (fault : CheckFault) × HasChecked known old new (Err fault)
+-- how a check of a script ended
+abbrev pub HasCheckedScript : {R S : Type 0} → Known R S → (old new : Streams R S) → Ending → Type 0
+-- no line is bad, and the report, which is empty, was written
+HasCheckedScript known old new Done = HasChecked known old new (Ok 0)
+-- some line is bad, and the whole report was written
+HasCheckedScript known old new Bad = (lines : ℕ) × (1 ≤ lines) × HasChecked known old new (Ok lines)
+-- by its input, its output or memory
+HasCheckedScript known old new CheckFailed = (fault : CheckFault) × HasChecked known old new (Err fault)
+HasCheckedScript known old new ending = ⊥
 
--- a script was explained from a state on: 0: no line is bad, no stop or restart found no timer, and nothing was written;
--- 1: some line is bad, or some stop or restart found no timer, and the whole text was written; 2: explaining failed
-pub record HasExplainedOver {R S : Type 0} (before : FacilityState) (known : Known R S) (old new : Streams R S)
-    (status : ℕ) : Type 0 where
-  pub in_range : status ≤ 2
-  pub good : status ≡ 0 → HasExplained before known old new (Ok false)
-  pub found : status ≡ 1 → HasExplained before known old new (Ok true)
-  pub failed : status ≡ 2 → (fault : CheckFault) × HasExplained before known old new (Err fault)
+-- how explaining a script from a state on ended
+abbrev pub HasExplainedOver : {R S : Type 0} → FacilityState → Known R S → (old new : Streams R S) → Ending → Type 0
+-- no line is bad, no stop or restart found no timer, and nothing was written
+HasExplainedOver before known old new Done = HasExplained before known old new (Ok false)
+-- some line is bad, or some stop or restart found no timer, and the whole text was written
+HasExplainedOver before known old new Bad = HasExplained before known old new (Ok true)
+HasExplainedOver before known old new CheckFailed = (fault : CheckFault) × HasExplained before known old new (Err fault)
+HasExplainedOver before known old new ending = ⊥
 
 -- that was done from the state of the options on, or the options are refused and the streams are untouched
-abbrev pub HasExplainedScript : {R S : Type 0} → RunOptions → Known R S → (old new : Streams R S) → ℕ → Type 0
-HasExplainedScript options known old new status =
-    (IsPlayable options × HasExplainedOver (opened_by options) known old new status)
-    ⊎ (((fault : OptionsFault) × RefusesOptions fault options) × (new ≡ old) × (status ≡ 2))
+abbrev pub HasExplainedScript : {R S : Type 0} → RunOptions → Known R S → (old new : Streams R S) → Ending → Type 0
+HasExplainedScript options known old new ending =
+    (IsPlayable options × HasExplainedOver (opened_by options) known old new ending)
+    ⊎ (((fault : OptionsFault) × RefusesOptions fault options) × (new ≡ old) × (ending ≡ Refused))

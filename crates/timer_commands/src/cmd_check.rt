@@ -6,7 +6,7 @@ ghost use Rattle.timer_commands.specs.Options.{config_of, over_hierarchy, IsPlay
 ghost use Rattle.timer_commands.specs.Subcommands.{HasCheckedScript, HasExplainedOver, HasExplainedScript, opened_by};
 ghost use Rattle.timer_script.specs.Watched.{has_failed};
 
-use crate::error_report::report_failure;
+use crate::ending::{Ending, report};
 use crate::options::{RunOptions, WhyOptions};
 use std::alloc::Global;
 use std::io::{Read, Write};
@@ -15,39 +15,34 @@ use timer_facility::{Checked, Facility};
 use timer_script::{Streams, check, explain};
 use timer_wheels::{HierWheel, Table};
 
-/// Reports the bad lines of the script of the reader, and returns the exit status.
-///
-/// 0: no line is bad, and nothing is written. 1: a line is bad, and each that is bad is reported on the
-/// writer. 2: an error of input or output, or out of memory, reported in one line on `faults`.
+/// Reports the bad lines of the script of the reader on the writer. An error of input or output, or out of memory, is
+/// reported in one line on `faults`.
 pub fn check_script<R: Read, W: Write, F: Write>(
     alloc: Global,
     streams: &mut Streams<R, W>,
     faults: &mut F,
-) -> u8
+) -> Ending
     requires reader_good { has_failed streams.old.reader ≡ false }
     requires writer_good { has_failed streams.old.writer ≡ false }
     ensures { HasCheckedScript (record { remaining = R.remaining; contents = W.contents })
         streams.old streams.new result }
 {
     match check(alloc, &mut streams.reader, &mut streams.writer) {
-        Ok(bad) => { if bad == 0 { 0 } else { 1 } }
-        Err(fault) => report_failure(fault, faults),
+        Ok(bad) => { if bad == 0 { Ending::Done } else { Ending::Bad } }
+        Err(fault) => report(fault, Ending::CheckFailed, faults),
     }
 }
 
 /// Plays the script of the reader on a facility of these options, and writes a line for each stop or restart that is
 /// refused as `no-such`: what became of the timer. If the script has bad lines, it reports those, as `check_script`, and
-/// plays nothing. Returns the exit status.
-///
-/// 0: nothing is written, since no line is bad and none is refused so. 1: a line was written. 2: an error of input or
-/// output, or out of memory; or the options are refused, and the streams are untouched. It is reported in one line on
-/// `faults`.
+/// plays nothing. It ends as `check_script`. Or the options are refused, which is reported in one line on `faults`,
+/// and the streams are untouched.
 pub fn explain_script<R: Read, W: Write, F: Write>(
     alloc: Global,
     options: WhyOptions,
     streams: &mut Streams<R, W>,
     faults: &mut F,
-) -> u8
+) -> Ending
     requires reader_good { has_failed streams.old.reader ≡ false }
     requires writer_good { has_failed streams.old.writer ≡ false }
     ensures { HasExplainedScript (over_hierarchy options) (record { remaining = R.remaining; contents = W.contents })
@@ -56,7 +51,7 @@ pub fn explain_script<R: Read, W: Write, F: Write>(
     let options = options.over_hierarchy();
     match options.check() {
         Ok(checked) => explain_with(alloc, options, checked, streams, faults),
-        Err(fault) => report_failure(fault, faults),
+        Err(fault) => report(fault, Ending::Refused, faults),
     }
 }
 
@@ -67,7 +62,7 @@ fn explain_with<R: Read, W: Write, F: Write>(
     checked: Checked,
     streams: &mut Streams<R, W>,
     faults: &mut F,
-) -> u8
+) -> Ending
     requires scheme { options.scheme ≡ Hier }
     requires playable { IsPlayable options }
     requires config { checked ≡ config_of options }
@@ -83,7 +78,7 @@ fn explain_with<R: Read, W: Write, F: Write>(
             streams,
             faults,
         ),
-        Err(fault) => report_failure(fault, faults),
+        Err(fault) => report(fault, Ending::CheckFailed, faults),
     }
 }
 
@@ -93,7 +88,7 @@ fn explain_over<R: Read, S: Write, F: Write, W: Wheel + Drop>(
     facility: Facility<W>,
     streams: &mut Streams<R, S>,
     faults: &mut F,
-) -> u8
+) -> Ending
     requires reader_good { has_failed streams.old.reader ≡ false }
     requires writer_good { has_failed streams.old.writer ≡ false }
     requires pending { facility.state.pending ≡ [] }
@@ -102,7 +97,7 @@ fn explain_over<R: Read, S: Write, F: Write, W: Wheel + Drop>(
         streams.old streams.new result }
 {
     match explain(alloc, &mut streams.reader, &mut streams.writer, facility) {
-        Ok(wrote) => { if wrote { 1 } else { 0 } }
-        Err(fault) => report_failure(fault, faults),
+        Ok(wrote) => { if wrote { Ending::Bad } else { Ending::Done } }
+        Err(fault) => report(fault, Ending::CheckFailed, faults),
     }
 }

@@ -5,7 +5,7 @@ ghost use Rattle.timer_threads.specs.Threads.{whole_text, IsThreadsRun, IsExplai
 ghost use Rattle.timer_commands.specs.Clients.{IsRunnable, HasRunClients, HasEndedClients, error_line, client_fault};
 ghost use Rattle.timer_script.specs.Watched.{inner_of, has_failed};
 
-use crate::error_report::report;
+use crate::ending::{Ending, report};
 use crate::threads_options::ThreadsOptions;
 use itoa::Buffer;
 use std::alloc::{AllocError, Global};
@@ -17,16 +17,16 @@ use timer_threads::{Open, ThreadsFault, threads_run};
 /// Idle turns, one after another, before a side gives up.
 const LIMIT: u64 = 10_000_000;
 
-/// Runs as many clients as the options say, writes their text, and returns the exit status. The writer is
-/// untouched if a number is out of range or the run fails, and then `faults` gets a line. An error in writing that line
-/// is ignored. Waits for the clients' threads.
+/// Runs as many clients as the options say, and writes their text. The writer is untouched if a number is out of range
+/// or the run fails, and then `faults` gets a line. An error in writing that line is ignored. Waits for the clients'
+/// threads.
 pub fn run_clients<W: Write, F: Write>(
     rt: &impl Threads,
     alloc: Global,
     options: ThreadsOptions,
     writer: &mut Watched<W>,
     faults: &mut Watched<F>,
-) -> u8
+) -> Ending
     requires writer_good { has_failed writer.old ≡ false }
     requires faults_good { has_failed faults.old ≡ false }
     ensures { HasRunClients options W.contents F.contents writer.old writer.new faults.old faults.new result }
@@ -36,7 +36,7 @@ pub fn run_clients<W: Write, F: Write>(
             faults,
             b"the number of clients or of timers is out of range\n",
         );
-        return 2;
+        return Ending::Refused;
     }
     let ended = run_open(rt, alloc, options);
     end_clients(ended, writer, faults)
@@ -59,25 +59,24 @@ fn run_open(
     }
 }
 
-/// Writes the text of clients that finished, or reports in one line why they did not, and returns the exit
-/// status. An error in reporting is ignored.
+/// Writes the text of clients that finished, or reports in one line why they did not. An error in reporting is ignored.
 pub fn end_clients<W: Write, F: Write>(
     ended: Result<Vec<u8>, ThreadsFault>,
     writer: &mut Watched<W>,
     faults: &mut Watched<F>,
-) -> u8
+) -> Ending
     requires writer_good { has_failed writer.old ≡ false }
     requires faults_good { has_failed faults.old ≡ false }
     ensures { HasEndedClients ended W.contents F.contents writer.old writer.new faults.old faults.new result }
 {
     match ended {
         Ok(text) => match write_text(writer, &text) {
-            Ok(()) => 0,
-            Err(fault) => report(fault, faults),
+            Ok(()) => Ending::Done,
+            Err(fault) => report(fault, Ending::Failed, faults),
         },
         Err(fault) => {
             let _ = write_fault(fault, faults);
-            1
+            Ending::Failed
         }
     }
 }

@@ -1,20 +1,19 @@
-//! The subcommands of the program, each over its options, its input and its outputs, up to the exit status.
+//! The subcommands of the program, each over its options, its input and its outputs, up to its ending.
 //! No command line: what the user types is read in timer_program.
 //!
 //! `options` and `threads_options` have the options and their ranges. `schemes` makes the wheel that they
 //! name, and `verbs` has what is done over it: `play`, `serve` and `show`. The other subcommands are in
-//! `cmd_check` and `cmd_threads`; `error_report` reports an error. `render` draws where the timers are that `shows`
-//! keeps.
-//! `laws` has what is known of the lines that `serve` and `show` add.
+//! `cmd_check` and `cmd_threads`. `ending` says how they end, and reports an error. `render` draws where the
+//! timers are that `shows` keeps. `laws` has what is known of the lines that `serve` and `show` add.
 //!
 //! The definitions of `options` are in `specs/Options.antt`, those of the subcommands in `Subcommands.antt`,
 //! of clients in threads in `Clients.antt`, and of the lines that `serve` and `show` add in `Wakeups.antt`,
-//! `Indented.antt` and `Shows.antt`.
+//! `Indented.antt` and `Shows.antt`. `Endings.antt` has the exit status of each ending.
 #![tactic(auto)]
 
 mod cmd_check;
 mod cmd_threads;
-mod error_report;
+mod ending;
 pub mod laws;
 mod options;
 mod render;
@@ -25,7 +24,7 @@ mod verbs;
 
 pub use cmd_check::{check_script, explain_script};
 pub use cmd_threads::{end_clients, run_clients};
-pub use error_report::report;
+pub use ending::{Ending, report};
 pub use options::{OptionsFault, RunOptions, Scheme, WhyOptions};
 pub use schemes::run_verb;
 pub use shows::Shows;

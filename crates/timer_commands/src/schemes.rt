@@ -11,7 +11,7 @@ ghost use Rattle.timer_commands.specs.Options.{scheme_last, scheme_layout, confi
 ghost use Rattle.timer_commands.specs.Subcommands.{opened_by, HasDone, HasRunVerb};
 ghost use Rattle.timer_script.specs.Watched.{has_failed};
 
-use crate::error_report::report;
+use crate::ending::{Ending, report};
 use crate::options::{RunOptions, Scheme};
 use crate::render::Placement;
 use crate::verbs::{Verb, do_verb};
@@ -47,16 +47,15 @@ impl OfScheme for SmoothWheel {
     ghost is_wheel_of = { λ options wheel. (options.scheme ≡ schemes.Smooth) × (smooth_table wheel ≡ tables.Wide) };
 }
 
-/// Does what the verb says over a new wheel of the scheme that the options name, and returns the exit status.
-///
-/// 2: the options are refused, and the streams are untouched. Nothing is read before the wheel is made.
+/// Does what the verb says over a new wheel of the scheme that the options name. If the options are refused, the
+/// streams are untouched. Nothing is read before the wheel is made.
 pub fn run_verb<R: Read, S: Write, F: Write>(
     alloc: Global,
     verb: Verb,
     options: RunOptions,
     streams: &mut Streams<R, S>,
     faults: &mut Watched<F>,
-) -> u8
+) -> Ending
     requires reader_good { has_failed streams.old.reader ≡ false }
     requires writer_good { has_failed streams.old.writer ≡ false }
     ensures { HasRunVerb verb options
@@ -66,10 +65,7 @@ pub fn run_verb<R: Read, S: Write, F: Write>(
 {
     match options.check() {
         Ok(checked) => over_scheme(alloc, verb, options, checked, streams, faults),
-        Err(fault) => {
-            let _ = writeln!(faults, "{fault}");
-            2
-        }
+        Err(fault) => report(fault, Ending::Refused, faults),
     }
 }
 
@@ -81,7 +77,7 @@ fn over_scheme<R: Read, S: Write, F: Write>(
     checked: Checked,
     streams: &mut Streams<R, S>,
     faults: &mut Watched<F>,
-) -> u8
+) -> Ending
     requires playable { IsPlayable options }
     requires config { checked ≡ config_of options }
     requires reader_good { has_failed streams.old.reader ≡ false }
@@ -127,7 +123,7 @@ fn over_wheel<R: Read, S: Write, F: Write, W: Wheel + Placement + OfScheme + Dro
     made: Result<W, MakeFault>,
     streams: &mut Streams<R, S>,
     faults: &mut Watched<F>,
-) -> u8
+) -> Ending
     requires wheel { IfOk made (λ wheel. W.is_wheel_of _options wheel) }
     requires state { IfOk made (λ wheel. W.state wheel
         ≡ empty_wheel (scheme_layout _options.scheme _options.slots) (scheme_last _options.scheme) _options.first_tick) }
@@ -149,6 +145,6 @@ fn over_wheel<R: Read, S: Write, F: Write, W: Wheel + Placement + OfScheme + Dro
             streams,
             faults,
         ),
-        Err(fault) => report(fault, faults),
+        Err(fault) => report(fault, Ending::Failed, faults),
     }
 }

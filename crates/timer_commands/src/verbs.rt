@@ -5,7 +5,7 @@ ghost use Rattle.std.specs.Prelude.{◌≡◌, [], false};
 ghost use Rattle.timer_script.specs.Watched.{has_failed};
 ghost use Rattle.timer_commands.specs.Subcommands.{ServingEnds, HasDone};
 
-use crate::error_report::report;
+use crate::ending::{Ending, report};
 use crate::render::{Placement, push_shown, push_wakeup};
 use crate::shows::Shows;
 use std::alloc::Global;
@@ -123,17 +123,14 @@ impl<W: Wheel + Drop> Decorator<W> for Wakeups {
     ghost is_lawful = { λ wakeups. after_is_lawful IsWakeup };
 }
 
-/// Does it, and returns the exit status.
-///
-/// 0: the input came to its end, no line was bad, and the whole text was written. 1: a line was bad, and is
-/// reported on `faults`; or an error, reported there in one line.
+/// Does it. A bad line, or an error, is reported on `faults`, in one line.
 pub fn do_verb<R: Read, S: Write, F: Write, W: Wheel + Placement + Drop>(
     alloc: Global,
     verb: Verb,
     facility: Facility<W>,
     streams: &mut Streams<R, S>,
     faults: &mut Watched<F>,
-) -> u8
+) -> Ending
     requires reader_good { has_failed streams.old.reader ≡ false }
     requires writer_good { has_failed streams.old.writer ≡ false }
     requires pending { facility.state.pending ≡ [] }
@@ -145,8 +142,8 @@ pub fn do_verb<R: Read, S: Write, F: Write, W: Wheel + Placement + Drop>(
 {
     match verb {
         Verb::Play => match run(alloc, &mut streams.reader, &mut streams.writer, facility) {
-            Ok(()) => 0,
-            Err(fault) => report(fault, faults),
+            Ok(()) => Ending::Done,
+            Err(fault) => report(fault, Ending::Failed, faults),
         },
         Verb::Serve { on_bad, wakeups } => {
             if wakeups {
@@ -169,7 +166,7 @@ pub fn do_verb<R: Read, S: Write, F: Write, W: Wheel + Placement + Drop>(
     }
 }
 
-/// Serves with this decorator, and returns the exit status. An error is reported in one line.
+/// Serves with this decorator. An error is reported in one line.
 fn serve_with<R: Read, S: Write, F: Write, W: Wheel + Drop, D: Decorator<W>>(
     alloc: Global,
     facility: Facility<W>,
@@ -177,7 +174,7 @@ fn serve_with<R: Read, S: Write, F: Write, W: Wheel + Drop, D: Decorator<W>>(
     on_bad: OnBadLine,
     streams: &mut Streams<R, S>,
     faults: &mut Watched<F>,
-) -> u8
+) -> Ending
     requires reader_good { has_failed streams.old.reader ≡ false }
     requires writer_good { has_failed streams.old.writer ≡ false }
     requires pending { facility.state.pending ≡ [] }
@@ -188,8 +185,8 @@ fn serve_with<R: Read, S: Write, F: Write, W: Wheel + Drop, D: Decorator<W>>(
         (record { streams = streams.new; faults = faults.new }) result }
 {
     match serve(alloc, streams, facility, decorator, on_bad, faults) {
-        Ok(true) => 0,
-        Ok(false) => 1,
-        Err(fault) => report(fault, faults),
+        Ok(true) => Ending::Done,
+        Ok(false) => Ending::Skipped,
+        Err(fault) => report(fault, Ending::Failed, faults),
     }
 }

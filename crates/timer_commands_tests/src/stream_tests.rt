@@ -7,7 +7,8 @@ use crate::support::{
 use std::alloc::Global;
 use std::io::ErrorKind;
 use std::process::Abort;
-use timer_commands::{OptionsFault, Scheme};
+use timer_commands::Ending::{Bad, CheckFailed, Done, Failed, Skipped};
+use timer_commands::{Ending, OptionsFault, Scheme};
 use timer_facility::ConfigFault;
 
 static KINDS: [ErrorKind; 3] = [
@@ -23,33 +24,33 @@ static FAULTS: [Fault; 3] = [
     Fault::Fails(ErrorKind::BrokenPipe),
 ];
 
-/// A subcommand, its script, and what it leaves: the exit status, the output, and the reports.
-type Row = (Reading, &'static str, u8, &'static str, &'static str);
+/// A subcommand, its script, and what it leaves: how it ends, the output, and the reports.
+type Row = (Reading, &'static str, Ending, &'static str, &'static str);
 
 /// Scripts without a bad line, and with some.
 static ROWS: [Row; 15] = [
-    (Reading::Play, MIGRATION, 0, MIGRATION_TEXT, ""),
-    (Reading::Play, "close\ntick 0\n", 1, "", "bad line 2\n"),
-    (Reading::Serve, MIGRATION, 0, MIGRATION_TEXT, ""),
+    (Reading::Play, MIGRATION, Done, MIGRATION_TEXT, ""),
+    (Reading::Play, "close\ntick 0\n", Failed, "", "bad line 2\n"),
+    (Reading::Serve, MIGRATION, Done, MIGRATION_TEXT, ""),
     (
         Reading::Serve,
         "start 0 1 5 0\nstart 0 01 5 0\ntick 5\n",
-        1,
+        Failed,
         "started 0 1 1 5\n",
         "bad line 2\n",
     ),
     (
         Reading::Serve,
         "start 0 1 5 0\ntick 5\ntick 1",
-        1,
+        Failed,
         "started 0 1 1 5\nexpired 5 0 1 0\n",
         "bad line 3\n",
     ),
-    (Reading::ServeGood, MIGRATION, 0, MIGRATION_TEXT, ""),
+    (Reading::ServeGood, MIGRATION, Done, MIGRATION_TEXT, ""),
     (
         Reading::ServeGood,
         "tick 0\nstart 0 1 5 0\nstart 0 01 5 0\ntick 5\ntick 5",
-        1,
+        Skipped,
         "started 0 1 1 5\nexpired 5 0 1 0\nend 5 0\n",
         "bad line 1, column 6: count: {OutOfTicks}\n\
          bad line 3, column 10: number: {LeadingZero}\nbad line 5, column 7: {NoLineEnd}\n",
@@ -57,50 +58,50 @@ static ROWS: [Row; 15] = [
     (
         Reading::ServeWakeups,
         "start 0 1 130 7\ntick 128\nclose\n",
-        0,
+        Done,
         "started 0 1 1 130\nwakeup 128\nwakeup 130\nclosed 1\nreturned 0 1 130 7\nwakeup never\nend 128 0\n",
         "",
     ),
     (
         Reading::Show,
         "start 0 1 5 0\nstart 0 01 5 0\ntick 5\n",
-        1,
+        Failed,
         "started 0 1 1 5\n  now 0\n  wheel 0 slot 5: 1\n",
         "bad line 2\n",
     ),
     (
         Reading::Show,
         "start 0 1 5 0\ntick 5\ntick 1",
-        1,
+        Failed,
         "started 0 1 1 5\n  now 0\n  wheel 0 slot 5: 1\nexpired 5 0 1 0\n  now 5\n",
         "bad line 3\n",
     ),
     (
         Reading::Check,
         "start 0 1 0 7\nstart 77 9 5 7\ntick 1000000\nclose\nclose\n",
-        0,
+        Done,
         "",
         "",
     ),
     (
         Reading::Check,
         "tick 0\ntick 1\nclose",
-        1,
+        Bad,
         "line 1, column 6: count: {OutOfTicks}\nline 3, column 6: {NoLineEnd}\n",
         "",
     ),
     (
         Reading::Why,
         "start 0 1 5 7\ntick 5\nstop 0 2 1\nclose\nstop 0 3 1\n",
-        1,
+        Bad,
         "line 3: no-such: timer 1 expired at tick 5\n",
         "",
     ),
-    (Reading::Why, "start 0 1 5 7\nstop 0 2 1\n", 0, "", ""),
+    (Reading::Why, "start 0 1 5 7\nstop 0 2 1\n", Done, "", ""),
     (
         Reading::Why,
         "stop 0 1 1\ntick 0\n",
-        1,
+        Bad,
         "line 2, column 6: count: {OutOfTicks}\n",
         "",
     ),
@@ -108,7 +109,7 @@ static ROWS: [Row; 15] = [
 
 #[test]
 fn pieces_of_any_size_change_nothing(rt: HostRuntime) {
-    for (subcommand, script, status, text, faults) in ROWS {
+    for (subcommand, script, ending, text, faults) in ROWS {
         let faults = filled(&rt, rt.alloc(), faults);
         let text = filled(&rt, rt.alloc(), text);
         for read in SIZES {
@@ -117,7 +118,7 @@ fn pieces_of_any_size_change_nothing(rt: HostRuntime) {
                 let sink = Sink::new(rt.alloc()).in_pieces(written);
                 let ended = call(rt.alloc(), subcommand, source, sink);
                 let row = (script, read, written);
-                has_left(&rt, row, &ended, status, text.as_bytes(), faults.as_bytes());
+                has_left(&rt, row, &ended, ending, text.as_bytes(), faults.as_bytes());
             }
         }
     }
@@ -127,7 +128,7 @@ fn pieces_of_any_size_change_nothing(rt: HostRuntime) {
 fn read_fails(
     rt: &impl Abort,
     alloc: Global,
-    (subcommand, script, status, text, faults): Row,
+    (subcommand, script, ending, text, faults): Row,
     room: usize,
 ) {
     let faults = filled(rt, alloc, faults);
@@ -136,20 +137,20 @@ fn read_fails(
             .in_pieces(5)
             .failing_after(room, kind);
         let ended = call(alloc, subcommand, source, Sink::new(alloc));
-        has_left(rt, room, &ended, status, text.as_bytes(), faults.as_bytes());
+        has_left(rt, room, &ended, ending, text.as_bytes(), faults.as_bytes());
         same_in(rt, room, ended.reader_failed, true);
     }
 }
 
 /// What has come before the read fails: a part of a line, some lines, all of them.
 static FAILED_READS: [(usize, Row); 9] = [
-    (3, (Reading::Serve, MIGRATION, 1, "", "read failed\n")),
+    (3, (Reading::Serve, MIGRATION, Failed, "", "read failed\n")),
     (
         16,
         (
             Reading::Serve,
             MIGRATION,
-            1,
+            Failed,
             "started 0 1 1 130\n",
             "read failed\n",
         ),
@@ -159,7 +160,7 @@ static FAILED_READS: [(usize, Row); 9] = [
         (
             Reading::Serve,
             MIGRATION,
-            1,
+            Failed,
             "started 0 1 1 130\nstarted 1 1 2 130\nexpired 130 0 1 1\nexpired 130 1 2 2\n",
             "read failed\n",
         ),
@@ -169,7 +170,7 @@ static FAILED_READS: [(usize, Row); 9] = [
         (
             Reading::ServeGood,
             "tick 0\ntick 1\n",
-            1,
+            Failed,
             "",
             "bad line 1, column 6: count: {OutOfTicks}\nread failed\n",
         ),
@@ -179,15 +180,39 @@ static FAILED_READS: [(usize, Row); 9] = [
         (
             Reading::Show,
             "start 0 1 5 0\ntick 5\n",
-            1,
+            Failed,
             "started 0 1 1 5\n  now 0\n  wheel 0 slot 5: 1\n",
             "read failed\n",
         ),
     ),
-    (3, (Reading::Check, "tick 0\n", 2, "", "read failed\n")),
-    (7, (Reading::Check, "tick 0\n", 2, "", "read failed\n")),
-    (3, (Reading::Why, "stop 0 1 1\n", 2, "", "read failed\n")),
-    (11, (Reading::Why, "stop 0 1 1\n", 2, "", "read failed\n")),
+    (
+        3,
+        (Reading::Check, "tick 0\n", CheckFailed, "", "read failed\n"),
+    ),
+    (
+        7,
+        (Reading::Check, "tick 0\n", CheckFailed, "", "read failed\n"),
+    ),
+    (
+        3,
+        (
+            Reading::Why,
+            "stop 0 1 1\n",
+            CheckFailed,
+            "",
+            "read failed\n",
+        ),
+    ),
+    (
+        11,
+        (
+            Reading::Why,
+            "stop 0 1 1\n",
+            CheckFailed,
+            "",
+            "read failed\n",
+        ),
+    ),
 ];
 
 #[test]
@@ -197,7 +222,7 @@ fn a_reader_that_fails_once_ends_the_call(rt: HostRuntime) {
     }
     // After the last byte of a script the reader fails in place of its end.
     for room in 0..=MIGRATION.len() {
-        let row = (Reading::Play, MIGRATION, 1, "", "read failed\n");
+        let row = (Reading::Play, MIGRATION, Failed, "", "read failed\n");
         read_fails(&rt, rt.alloc(), row, room);
     }
 }
@@ -217,11 +242,11 @@ fn write_fails(
             .with_fault_after(room, fault);
         let source = Source::of(script.as_bytes()).in_pieces(7);
         let ended = call(alloc, subcommand, source, sink);
-        let status = match subcommand {
-            Reading::Check | Reading::Why => 2,
-            _ => 1,
+        let ending = match subcommand {
+            Reading::Check | Reading::Why => CheckFailed,
+            _ => Failed,
         };
-        has_left(rt, room, &ended, status, front, b"write failed\n");
+        has_left(rt, room, &ended, ending, front, b"write failed\n");
         let failed = (ended.reader_failed, ended.writer_failed);
         same_in(rt, room, failed, (false, true));
     }
@@ -260,7 +285,7 @@ fn a_fault_behind_the_last_byte_is_never_met(rt: HostRuntime) {
         let sink = Sink::new(rt.alloc()).with_fault_after(text.len(), fault);
         let source = Source::of(MIGRATION.as_bytes());
         let ended = call(rt.alloc(), Reading::Play, source, sink);
-        has_left(&rt, "the whole text", &ended, 0, text, b"");
+        has_left(&rt, "the whole text", &ended, Done, text, b"");
     }
 }
 
@@ -281,7 +306,7 @@ const ONE_TIMER: &str = "start 0 1 1 7\ntick 1\n";
 fn io_faults(rt: HostRuntime) {
     for scheme in SCHEMES {
         let play = Reading::PlayBy(scheme);
-        let row = (play, ONE_TIMER, 1, "", "read failed\n");
+        let row = (play, ONE_TIMER, Failed, "", "read failed\n");
         read_fails(&rt, rt.alloc(), row, 3);
         let front = b"started 0 1 1 1\nexpi";
         write_fails(&rt, rt.alloc(), (play, ONE_TIMER, 5), front.as_slice());
@@ -305,7 +330,7 @@ fn a_stream_ends_at_the_flush_that_fails(rt: HostRuntime) {
         let (front, _) = MIGRATION_TEXT.as_bytes().split_at(answered);
         let source = Source::of(MIGRATION.as_bytes()).in_pieces(7);
         let ended = call(rt.alloc(), Reading::Serve, source, sink);
-        has_left(&rt, len, &ended, 1, front, b"write failed\n");
+        has_left(&rt, len, &ended, Failed, front, b"write failed\n");
     }
 }
 

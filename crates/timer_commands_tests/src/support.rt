@@ -5,7 +5,7 @@ use std::io;
 use std::io::{ErrorKind, Read, Write};
 use std::process::Abort;
 use timer_commands::{
-    RunOptions, Scheme, Shows, Verb, WhyOptions, check_script, explain_script, run_verb,
+    Ending, RunOptions, Scheme, Shows, Verb, WhyOptions, check_script, explain_script, run_verb,
 };
 use timer_facility::MAX_CLIENTS;
 use timer_script::{LineReason, OnBadLine, Streams, Watched};
@@ -223,7 +223,7 @@ const USUAL_WHY: WhyOptions = WhyOptions {
 /// What a subcommand left.
 #[derive(Drop)]
 pub struct Ended {
-    pub status: u8,
+    pub ending: Ending,
     pub output: Vec<u8>,
     pub faults: Vec<u8>,
     pub reader_failed: bool,
@@ -255,7 +255,7 @@ pub fn call(alloc: Global, subcommand: Reading, source: Source, sink: Sink) -> E
         Reading::PlayBy(scheme) => RunOptions { scheme, ..USUAL },
         _ => USUAL,
     };
-    let status = match verb {
+    let ending = match verb {
         Some(verb) => run_verb(alloc, verb, options, &mut streams, &mut faults),
         None => match subcommand {
             Reading::Why => explain_script(alloc, USUAL_WHY, &mut streams, &mut faults),
@@ -266,7 +266,7 @@ pub fn call(alloc: Global, subcommand: Reading, source: Source, sink: Sink) -> E
     let reader_failed = reader.failed();
     let writer_failed = writer.failed();
     Ended {
-        status,
+        ending,
         output: writer.into_inner().bytes,
         faults: faults.into_inner(),
         reader_failed,
@@ -274,19 +274,19 @@ pub fn call(alloc: Global, subcommand: Reading, source: Source, sink: Sink) -> E
     }
 }
 
-/// Goes on only if a subcommand ended with this exit status, and this is all that it wrote.
+/// Goes on only if a subcommand ended so, and this is all that it wrote.
 pub fn has_left<R: Debug + Drop>(
     rt: &impl Abort,
     row: R,
     ended: &Ended,
-    status: u8,
+    ending: Ending,
     output: &[u8],
     faults: &[u8],
 ) {
     let left = (
-        ended.status,
+        ended.ending,
         ended.output.as_slice(),
         ended.faults.as_slice(),
     );
-    same_in(rt, row, left, (status, output, faults));
+    same_in(rt, row, left, (ending, output, faults));
 }

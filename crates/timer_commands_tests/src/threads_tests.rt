@@ -3,24 +3,25 @@ use crate::support::{Fault, Sink, same_in};
 use std::io::ErrorKind;
 use std::process::Abort;
 use std::thread::Threads;
-use timer_commands::{ThreadsOptions, end_clients, run_clients};
+use timer_commands::Ending::{Done, Failed, Refused};
+use timer_commands::{Ending, ThreadsOptions, end_clients, run_clients};
 use timer_facility::MAX_CLIENTS;
 use timer_script::Watched;
 use timer_threads::ThreadsFault;
 
-/// Runs the clients, and compares what is left: the exit status, the output, and the report.
+/// Runs the clients, and compares what is left: how they end, the output, and the report.
 fn check_ended<T: AllocGlobal + Abort + Threads>(
     rt: &T,
     options: ThreadsOptions,
     sink: Sink,
-    status: u8,
+    ending: Ending,
     text: &str,
     faults: &str,
 ) {
     let mut writer = Watched::new(sink);
     let mut reports = Watched::new(Vec::new(rt.alloc()));
     let ended = run_clients(rt, rt.alloc(), options, &mut writer, &mut reports);
-    same_in(rt, text, ended, status);
+    same_in(rt, text, ended, ending);
     let output = writer.into_inner().bytes;
     same_in(rt, text, output.as_slice(), text.as_bytes());
     let reports = reports.into_inner();
@@ -32,17 +33,17 @@ fn a_run_of_clients_ends_with_its_status_and_text(rt: HostRuntime) {
     let two = "client 0 sent 3 started 3 expired 3\nclient 1 sent 3 started 3 expired 3\nend\n";
     let range = "the number of clients or of timers is out of range\n";
     let fault = Fault::Fails(ErrorKind::BrokenPipe);
-    for (clients, timers, room, status, text, faults) in [
-        (2, 3, usize::MAX, 0, two, ""),
-        (1, 2, 10, 1, "client 0 s", "write failed\n"),
-        (0, 1, usize::MAX, 2, "", range),
-        (MAX_CLIENTS + 1, 1, usize::MAX, 2, "", range),
-        (1, 0, usize::MAX, 2, "", range),
-        (1, 10001, usize::MAX, 2, "", range),
+    for (clients, timers, room, ending, text, faults) in [
+        (2, 3, usize::MAX, Done, two, ""),
+        (1, 2, 10, Failed, "client 0 s", "write failed\n"),
+        (0, 1, usize::MAX, Refused, "", range),
+        (MAX_CLIENTS + 1, 1, usize::MAX, Refused, "", range),
+        (1, 0, usize::MAX, Refused, "", range),
+        (1, 10001, usize::MAX, Refused, "", range),
     ] {
         let sink = Sink::new(rt.alloc()).with_fault_after(room, fault);
         let options = ThreadsOptions { clients, timers };
-        check_ended(&rt, options, sink, status, text, faults);
+        check_ended(&rt, options, sink, ending, text, faults);
     }
 }
 
@@ -56,13 +57,13 @@ fn each_error_of_a_run_of_clients_has_its_line_and_writes_nothing_else(rt: HostR
     ] {
         let mut writer = Watched::new(Sink::new(rt.alloc()));
         let mut faults = Watched::new(Sink::new(rt.alloc()));
-        let status = end_clients(Err(fault), &mut writer, &mut faults);
+        let ending = end_clients(Err(fault), &mut writer, &mut faults);
         let reported = faults.into_inner().bytes;
         let left = (
-            status,
+            ending,
             writer.into_inner().bytes.is_empty(),
             reported.as_slice(),
         );
-        same_in(&rt, line, left, (1, true, line.as_bytes()));
+        same_in(&rt, line, left, (Failed, true, line.as_bytes()));
     }
 }

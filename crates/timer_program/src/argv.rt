@@ -2,7 +2,7 @@
 ghost use Rattle.std.specs.Prelude.{◌≡◌, ◌≢◌, drop};
 
 use std::io::{ErrorKind, Write};
-use timer_commands::report;
+use timer_commands::{Ending, report};
 use timer_script::ScriptFault;
 
 /// The arguments after the program's name.
@@ -15,15 +15,14 @@ pub fn after_name<S>(arguments: &[S]) -> &[S]
     }
 }
 
-/// Ends the program if its arguments could not be read, and returns the exit status: 1 if
-/// memory ran out, and 2 if an argument is not UTF-8. Either is reported in one line.
-pub fn end_without_arguments<F: Write>(kind: ErrorKind, faults: &mut F) -> u8
-    ensures out_of_memory { kind ≡ ErrorKind.OutOfMemory → result ≡ 1 }
-    ensures not_utf8 { kind ≢ ErrorKind.OutOfMemory → result ≡ 2 }
+/// Ends the program if its arguments could not be read: if memory ran out, or an argument is not UTF-8. Either is
+/// reported in one line.
+pub fn end_without_arguments<F: Write>(kind: ErrorKind, faults: &mut F) -> Ending
+    ensures out_of_memory { kind ≡ ErrorKind.OutOfMemory → result ≡ Ending.Failed }
+    ensures not_utf8 { kind ≢ ErrorKind.OutOfMemory → result ≡ Ending.Refused }
 {
     if kind == ErrorKind::OutOfMemory {
-        return report(ScriptFault::OutOfMemory, faults);
+        return report(ScriptFault::OutOfMemory, Ending::Failed, faults);
     }
-    let _ = writeln!(faults, "error: an argument is not UTF-8");
-    2
+    report("error: an argument is not UTF-8", Ending::Refused, faults)
 }

@@ -1,6 +1,8 @@
 //! The whole program, over its arguments, its input and its outputs.
 ghost use Rattle.std.specs.Prelude.{◌≡◌, false};
 ghost use Rattle.clap.specs.Values.{kind_of};
+ghost use Rattle.timer_commands.specs.declared.ending.Ending.{Ending};
+ghost use Rattle.timer_commands.specs.Endings.{status_of};
 ghost use Rattle.timer_program.specs.Command.{HasCalled, HasNotPlayed, HasRunProgram};
 ghost use Rattle.timer_script.specs.Watched.{has_failed};
 
@@ -11,22 +13,13 @@ use std::alloc::Global;
 use std::convert::AsStr;
 use std::io::{Read, Write};
 use std::thread::Threads;
-use timer_commands::{check_script, explain_script, report, run_clients, run_verb};
+use timer_commands::{Ending, check_script, explain_script, report, run_clients, run_verb};
 use timer_script::{ScriptFault, Streams, Watched, write_text};
 
-/// Runs the program on the arguments after its name, and returns its exit status.
+/// Runs the program on the arguments after its name, and returns the exit status of its `Ending`.
 ///
-/// 0: the subcommand reached its end, and its text was written; or help or the version, as was asked for.
-///
-/// 1: an error, reported in one line on `faults`. Or a checked script has a bad line, and each is reported on
-/// standard output. Or `check --why` plays a script in which a stop or a restart found no timer, and each of these is
-/// reported there. Or a stream that is served past bad lines has one, and each is reported on `faults`.
-///
-/// 2: the arguments are refused, and `faults` gets the reason. The streams are untouched. Or a script could
-/// not be checked, which is reported in one line on `faults`.
-///
-/// An error in writing to `faults` is ignored. Neither the reader nor a writer may have failed before.
-/// Waits if clients run in threads.
+/// If the arguments are refused, `faults` gets the reason, and the streams are untouched. An error in writing to
+/// `faults` is ignored. Neither the reader nor a writer may have failed before. Waits if clients run in threads.
 pub fn command<T: AllocGlobal + Threads, S: AsStr, R: Read, W: Write, F: Write>(
     rt: &T,
     arguments: &[S],
@@ -36,22 +29,22 @@ pub fn command<T: AllocGlobal + Threads, S: AsStr, R: Read, W: Write, F: Write>(
     requires reader_good { has_failed streams.old.reader ≡ false }
     requires writer_good { has_failed streams.old.writer ≡ false }
     requires faults_good { has_failed faults.old ≡ false }
-    ensures { HasRunProgram S.text arguments.now
+    ensures { (ending : Ending) × (result ≡ status_of ending) × HasRunProgram S.text arguments.now
         (record { remaining = R.remaining; contents = W.contents; reports = F.contents })
         (record { streams = streams.old; faults = faults.old })
-        (record { streams = streams.new; faults = faults.new }) result }
+        (record { streams = streams.new; faults = faults.new }) ending }
 {
     let read = read_arguments(rt.alloc(), arguments);
-    run_subcommand(rt, read, streams, faults)
+    run_subcommand(rt, read, streams, faults).status()
 }
 
-/// Runs the subcommand that the arguments were read as, or reports the error, and returns the exit status.
+/// Runs the subcommand that the arguments were read as, or reports the error.
 fn run_subcommand<T: AllocGlobal + Threads, R: Read, W: Write, F: Write>(
     rt: &T,
     read: Result<Subcommand, Error>,
     streams: &mut Streams<R, W>,
     faults: &mut Watched<F>,
-) -> u8
+) -> Ending
     requires reader_good { has_failed streams.old.reader ≡ false }
     requires writer_good { has_failed streams.old.writer ≡ false }
     requires faults_good { has_failed faults.old ≡ false }
@@ -73,28 +66,27 @@ fn run_subcommand<T: AllocGlobal + Threads, R: Read, W: Write, F: Write>(
 }
 
 /// Writes the help or the version that was asked for, or reports why the arguments are refused.
-/// Returns the exit status.
 fn end_unplayed<W: Write, F: Write>(
     alloc: Global,
     error: &Error,
     writer: &mut Watched<W>,
     faults: &mut F,
-) -> u8
+) -> Ending
     requires { has_failed writer.old ≡ false }
     ensures { HasNotPlayed (kind_of error.now) W.contents writer.old writer.new result }
 {
     if error.kind() == ErrorKind::OutOfMemory {
-        return report(ScriptFault::OutOfMemory, faults);
+        return report(ScriptFault::OutOfMemory, Ending::Failed, faults);
     }
     if error.use_stderr() {
         let _ = write!(faults, "{error}");
-        return 2;
+        return Ending::Refused;
     }
     let Ok(text) = format!(in alloc; "{error}") else {
-        return report(ScriptFault::OutOfMemory, faults);
+        return report(ScriptFault::OutOfMemory, Ending::Failed, faults);
     };
     if let Err(fault) = write_text(writer, text.as_bytes()) {
-        return report(fault, faults);
+        return report(fault, Ending::Failed, faults);
     }
-    0
+    Ending::Done
 }

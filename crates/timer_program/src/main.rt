@@ -32,7 +32,7 @@ fn main(rt: HostRuntime) -> ExitCode {
             &mut Streams::new(rt.stdin(), rt.stdout()),
             &mut faults,
         ),
-        Err(error) => end_without_arguments(error.kind(), &mut faults),
+        Err(error) => end_without_arguments(error.kind(), &mut faults).status(),
     };
     ExitCode::from(status)
 }
