@@ -12,7 +12,7 @@ use Rattle.timer_facility.specs.Types.{Timer, NotTaken, Reason, TickFault, Notic
 use Rattle.timer_base.specs.Pending.{Entry, timer_of, timers_of, put, is_due_at, has_serial, first_timer, without_found}
 use Rattle.timer_facility.specs.declared.event.Event.TheVariants as Events
 use Rattle.timer_facility.specs.declared.event.Out.TheVariants as Outs
-use Rattle.timer_facility.specs.State.{FacilityState, Deadline, After, At, interval_until, ByHandle, BySerial, ModelRequest, Start, Stop, Restart, SingleEvent, Asked, Tick}
+use Rattle.timer_facility.specs.State.{FacilityState, Deadline, After, At, tested_interval, ByHandle, BySerial, ModelRequest, Start, Stop, Restart, SingleEvent, Asked, Tick}
 use Rattle.timer_facility.specs.Verdict.{not_taken, of_client, timer_named, interval_refusal, room_refusal, refusal, tick_refusal, verdict_on_request}
 use Rattle.timer_facility.specs.Step.{StepResult, with_number, answered, timer_stopped, timer_started, due_at_start, answer_to, put_later, without_timer, with_timer, after_request, step_by, step, step_of_tick}
 use Rattle.timer_facility.specs.Run.{PlacedEvent, state_after, run, bare_answer, bare, bare_outs, bare_entry, bare_state, NamesBySerial, AreSameButForPlaces}
@@ -77,19 +77,19 @@ named-bare : (s : FacilityState) (client serial : ℕ)
     → timer_named (bare_state s) client (BySerial serial) ≡ timer_named s client (BySerial serial)
 named-bare s client serial = ap (of_client client) (first_timer-bare (has_serial serial) s.pending)
 
-until-bare : (s : FacilityState) (deadline : Deadline) → interval_until (bare_state s) deadline ≡ interval_until s deadline
+until-bare : (s : FacilityState) (deadline : Deadline) → tested_interval (bare_state s) deadline ≡ tested_interval s deadline
 until-bare s (After interval) = refl
 until-bare s (At tick) = refl
 
 refusal-bare : (s : FacilityState) (client number : ℕ) (request : ModelRequest) → NamesBySerial (Asked client number request)
     → refusal (bare_state s) client request ≡ refusal s client request
 refusal-bare s client number (Start deadline action) n =
-    rw (until-bare s deadline, interval_refusal-bare s (interval_until s deadline), room_refusal-bare s) refl
+    rw (until-bare s deadline, interval_refusal-bare s (tested_interval s deadline), room_refusal-bare s) refl
 refusal-bare s client number (Stop (ByHandle handle)) n = absurd n
 refusal-bare s client number (Stop (BySerial serial)) n = rw (named-bare s client serial) refl
 refusal-bare s client number (Restart (ByHandle handle) deadline action) n = absurd n
 refusal-bare s client number (Restart (BySerial serial) deadline action) n =
-    rw (named-bare s client serial, until-bare s deadline, interval_refusal-bare s (interval_until s deadline)) refl
+    rw (named-bare s client serial, until-bare s deadline, interval_refusal-bare s (tested_interval s deadline)) refl
 
 stopped-bare : (s : FacilityState) (client number : ℕ) (request : ModelRequest) → NamesBySerial (Asked client number request)
     → timer_stopped (bare_state s) client request ≡ timer_stopped s client request

@@ -8,7 +8,7 @@ use Rattle.timer_facility.specs.Types.{Timer, Answer, NotTaken, Reason, Request,
 use Rattle.timer_base.specs.Pending.{Entry, timers_of, put, first_timer}
 use Rattle.timer_facility.specs.declared.request.Request.TheVariants as Requests
 use Rattle.timer_facility.specs.declared.event.Out.TheVariants as Outs
-use Rattle.timer_facility.specs.State.{FacilityState, Deadline, ticks_until, interval_until, Name, ByHandle, ModelRequest, Start, Stop, Restart, action_of, SingleEvent, Asked}
+use Rattle.timer_facility.specs.State.{FacilityState, Deadline, ticks_until, tested_interval, Name, ByHandle, ModelRequest, Start, Stop, Restart, action_of, SingleEvent, Asked}
 use Rattle.timer_facility.specs.Verdict.{not_taken, has_name, timer_named, first_refusal, interval_refusal, start_refusal, restart_refusal, name_refusal, refusal, Refusal, RequestNotTaken, verdict_on_request, verdict}
 use Rattle.timer_facility.specs.Step.{StepResult, with_number, answered, refused, new_timer, timer_stopped, timer_started, due_at_start, put_later, after_request, accepted, step_by, step}
 use Rattle.timer_facility.specs.Facility.{FacilityView, view_after, model_of, is_for_a_tick, event_of_request, notice_outs, place_in, IsAnswered, HasAnswered, IsTaken}
@@ -76,7 +76,7 @@ pub step-restart : (s : FacilityState) (client number place : ℕ) (a b : Name) 
     → step s (Asked client number (Restart a deadline action)) place ≡ step s (Asked client number (Restart b deadline action)) place
 step-restart s client number place a b deadline action e =
     step-alike s client number (Restart a deadline action) (Restart b deadline action) place
-    (ap (λ o. first_refusal (name_refusal o) (interval_refusal s (interval_until s deadline))) e) e refl
+    (ap (λ o. first_refusal (name_refusal o) (interval_refusal s (tested_interval s deadline))) e) e refl
 
 -- What it stops and starts.
 

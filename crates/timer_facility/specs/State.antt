@@ -73,9 +73,9 @@ ticks_until s (At tick) = tick - s.now
 
 -- with which interval a deadline is tested: that of the next tick, if it is not after the present one. So a deadline
 -- that has passed is refused exactly as one at the next tick would be
-abbrev pub interval_until : FacilityState → Deadline → ℕ
-interval_until s (After interval) = interval
-interval_until s (At tick) = max 1 (tick - s.now)
+abbrev pub tested_interval : FacilityState → Deadline → ℕ
+tested_interval s (After interval) = interval
+tested_interval s (At tick) = max 1 (tick - s.now)
 
 -- how a request names a timer
 pub data Name : Type 0 where

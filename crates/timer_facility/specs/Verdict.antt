@@ -6,7 +6,7 @@ use Rattle.timer_facility.specs.declared.request.NotTaken.TheVariants.{Closed, N
 use Rattle.timer_facility.specs.declared.request.Reason.TheVariants.{ZeroInterval, TooLate, SerialsSpent, Full, NoSuch}
 use Rattle.timer_facility.specs.declared.request.TickFault.TheVariants as TickFaults
 use Rattle.timer_facility.specs.declared.request.CloseFault.TheVariants as CloseFaults
-use Rattle.timer_facility.specs.State.{FacilityState, number_of, interval_until, Name, ByHandle, BySerial, ModelRequest, Start, Stop, Restart, SingleEvent, Asked, Tick, Close}
+use Rattle.timer_facility.specs.State.{FacilityState, number_of, tested_interval, Name, ByHandle, BySerial, ModelRequest, Start, Stop, Restart, SingleEvent, Asked, Tick, Close}
 
 -- why a request is not taken, if it is not taken: the first test that holds
 unfoldable pub not_taken : FacilityState → ℕ → ℕ → Option NotTaken
@@ -66,9 +66,9 @@ restart_refusal s client name interval =
 
 -- why a request that is taken is refused, if it is refused
 abbrev pub refusal : FacilityState → ℕ → ModelRequest → Option Reason
-refusal s client (Start deadline action) = start_refusal s (interval_until s deadline)
+refusal s client (Start deadline action) = start_refusal s (tested_interval s deadline)
 refusal s client (Stop name) = name_refusal (timer_named s client name)
-refusal s client (Restart name deadline action) = restart_refusal s client name (interval_until s deadline)
+refusal s client (Restart name deadline action) = restart_refusal s client name (tested_interval s deadline)
 
 -- why a tick is refused, if it is refused: the first test that holds
 unfoldable pub tick_refusal : FacilityState → Option TickFault
