@@ -6,12 +6,12 @@ use Rattle.timer_desk_c.specs.DeskSlots.{RingDesk}
 use Rattle.timer_ffi_base.specs.Cells.{is_open}
 
 -- it holds a desk
-abbrev pub IsOpen : CDesk → Type 0
-IsOpen d = is_open d.slot.mark ≡ true
+abbrev pub HasDesk : CDesk → Type 0
+HasDesk d = is_open d.slot.mark ≡ true
 
 -- it holds none
-abbrev pub IsShut : CDesk → Type 0
-IsShut d = is_open d.slot.mark ≡ false
+abbrev pub HasNoDesk : CDesk → Type 0
+HasNoDesk d = is_open d.slot.mark ≡ false
 
 -- the same, with a desk of this state
 abbrev pub with_desk : CDesk → RingDesk → CDesk

@@ -18,16 +18,16 @@ pub struct CDesk {
 }
 
 impl CDesk {
-    ghost use Rattle.timer_desk_c.specs.Frames.{IsOpen, IsShut, with_desk};
+    ghost use Rattle.timer_desk_c.specs.Frames.{HasDesk, HasNoDesk, with_desk};
     ghost use Rattle.timer_desk_c.specs.Lent.{c_desk, the_desk};
 
     /// Lends the desk, if there is one.
     pub(crate) fn desk(&mut self) -> Option<&mut Desk<TieredWheel, RingInlet>>
         ensures* writes_back { sem 𝓛 (LendsIf c_desk the_desk self.entry result
             (with_desk self.entry.now) self.entry.now) }
-        ensures held { IfSome result (λ desk. IsOpen self.old × (desk.now ≡ self.old.slot.state)) }
+        ensures held { IfSome result (λ desk. HasDesk self.old × (desk.now ≡ self.old.slot.state)) }
         ensures same { IfSome result (λ desk. with_desk self.old desk.now ≡ self.old) }
-        ensures none { result ≡ None → IsShut self.old }
+        ensures none { result ≡ None → HasNoDesk self.old }
     {
         self.slot.cell().get()
     }

@@ -19,14 +19,14 @@ pub struct ConstDesk {
 
 impl ConstDesk {
     ghost use Rattle.timer_ffi_base.specs.Cells.{EndsUnchanged};
-    ghost use Rattle.timer_desk_c.specs.Frames.{IsOpen, IsShut};
+    ghost use Rattle.timer_desk_c.specs.Frames.{HasDesk, HasNoDesk};
     ghost use Rattle.timer_desk_c.specs.Lent.{const_desk};
 
     /// Lends the desk to be read, if there is one.
     pub(crate) fn desk(&mut self) -> Option<&Desk<TieredWheel, RingInlet>>
         ensures* unchanged { sem 𝓛 (EndsUnchanged const_desk self.entry) }
-        ensures held { IfSome result (λ desk. IsOpen self.old.held × (desk.now ≡ self.old.held.slot.state)) }
-        ensures none { result ≡ None → IsShut self.old.held }
+        ensures held { IfSome result (λ desk. HasDesk self.old.held × (desk.now ≡ self.old.held.slot.state)) }
+        ensures none { result ≡ None → HasNoDesk self.old.held }
     {
         match self.held.desk() {
             Some(desk) => Some(desk),

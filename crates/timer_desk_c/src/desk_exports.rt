@@ -7,7 +7,7 @@ ghost use Rattle.std.specs.Prelude.{◌≡◌, ◌≢◌, ◌<◌, ◌≤◌, �
 ghost use Rattle.timer_facility.specs.State.{pending_of};
 ghost use Rattle.timer_desk.specs.Desk.{clients_of, backlog_at};
 ghost use Rattle.timer_desk.specs.WindingUp.{KeepsLines};
-ghost use Rattle.timer_desk_c.specs.Frames.{IsOpen, IsShut, with_desk, HasLine, HasNoLine, with_line, is_own, next_life};
+ghost use Rattle.timer_desk_c.specs.Frames.{HasDesk, HasNoDesk, with_desk, HasLine, HasNoLine, with_line, is_own, next_life};
 ghost use Rattle.timer_desk_c.specs.Desks.{IsFit, IsMade, AllEmpty, IsOneHeld, WhyNotMade, with_reserve, HasServed, HasTicked, HasClosed, IsNextTick, IsFirstDeadline, IsSettled, IsGivenAs, IsAsBefore, WhyNotSettled};
 ghost use Rattle.timer_desk_c.specs.Rounds.{HasServedAll, HasFlushedAll};
 ghost use Rattle.timer_desk_c.specs.Ticks.{HasAdvanced, WhyNoTickPassed, HasFlushed};
@@ -44,12 +44,12 @@ pub extern "C" fn timers_desk_new(
     lines: &mut [CLine],
     config: &DeskConfig,
 ) -> u32
-    ensures made { result ≡ OK → IsShut d.old × AllEmpty lines.old × IsFit (length lines.old) config.now
-        × IsOpen d.new
+    ensures made { result ≡ OK → HasNoDesk d.old × AllEmpty lines.old × IsFit (length lines.old) config.now
+        × HasDesk d.new
         × (d.new.lives ≡ next_life d.old.lives)
         × IsMade d.new.lives config.now d.new.slot.state lines.new × (length lines.new ≡ length lines.old) }
-    ensures refused { 0 < result → ((result ≡ OPEN) × (IsOpen d.old ⊎ IsOneHeld lines.old))
-        ⊎ (IsShut d.old × AllEmpty lines.old × WhyNotMade (length lines.old) config.now result) }
+    ensures refused { 0 < result → ((result ≡ OPEN) × (HasDesk d.old ⊎ IsOneHeld lines.old))
+        ⊎ (HasNoDesk d.old × AllEmpty lines.old × WhyNotMade (length lines.old) config.now result) }
     ensures kept { 0 < result → (d.new ≡ d.old) × (lines.new ≡ lines.old) }
 {
     if let Some(_) = d.desk() {
@@ -75,9 +75,9 @@ pub extern "C" fn timers_desk_new(
 /// lines. The struct keeps the count of its lives.
 #[unsafe(no_mangle)]
 pub extern "C" fn timers_desk_free(alloc: Global, d: &mut CDesk)
-    ensures shut { IsShut d.new }
+    ensures shut { HasNoDesk d.new }
     ensures lives { d.new.lives ≡ d.old.lives }
-    ensures kept { IsShut d.old → d.new ≡ d.old }
+    ensures kept { HasNoDesk d.old → d.new ≡ d.old }
 {
     if let Some(_) = d.desk() {
         drop(d.slot.cell().take(alloc));
@@ -87,11 +87,11 @@ pub extern "C" fn timers_desk_free(alloc: Global, d: &mut CDesk)
 /// Serves a client once: takes its held request, or else the next of its line, to the facility.
 #[unsafe(no_mangle)]
 pub extern "C" fn timers_desk_serve(d: &mut CDesk, client: usize) -> u32
-    ensures served { IsOpen d.old → client < clients_of d.old.slot.state
+    ensures served { HasDesk d.old → client < clients_of d.old.slot.state
         → HasServed client result d.old.slot.state d.new.slot.state }
-    ensures none { IsOpen d.old → clients_of d.old.slot.state ≤ client
+    ensures none { HasDesk d.old → clients_of d.old.slot.state ≤ client
         → (result ≡ NO_CLIENT) × (d.new ≡ d.old) }
-    ensures not_open { IsShut d.old → (result ≡ NOT_OPEN) × (d.new ≡ d.old) }
+    ensures not_open { HasNoDesk d.old → (result ≡ NOT_OPEN) × (d.new ≡ d.old) }
     ensures only { d.new ≡ with_desk d.old d.new.slot.state }
 {
     match d.desk() {
@@ -110,8 +110,8 @@ pub extern "C" fn timers_desk_serve(d: &mut CDesk, client: usize) -> u32
 /// else `OK` if a request was done, else `IDLE`.
 #[unsafe(no_mangle)]
 pub extern "C" fn timers_desk_serve_all(d: &mut CDesk, most: u64) -> u32
-    ensures served { IsOpen d.old → HasServedAll most result d.old.slot.state d.new.slot.state }
-    ensures not_open { IsShut d.old → (result ≡ NOT_OPEN) × (d.new ≡ d.old) }
+    ensures served { HasDesk d.old → HasServedAll most result d.old.slot.state d.new.slot.state }
+    ensures not_open { HasNoDesk d.old → (result ≡ NOT_OPEN) × (d.new ≡ d.old) }
     ensures only { d.new ≡ with_desk d.old d.new.slot.state }
 {
     match d.desk() {
@@ -124,8 +124,8 @@ pub extern "C" fn timers_desk_serve_all(d: &mut CDesk, most: u64) -> u32
 /// line was freed are dropped. Returns whether a word has left its outbox.
 #[unsafe(no_mangle)]
 pub extern "C" fn timers_desk_flush_all(d: &mut CDesk) -> bool
-    ensures flushed { IsOpen d.old → HasFlushedAll result d.old.slot.state d.new.slot.state }
-    ensures not_open { IsShut d.old → (result ≡ false) × (d.new ≡ d.old) }
+    ensures flushed { HasDesk d.old → HasFlushedAll result d.old.slot.state d.new.slot.state }
+    ensures not_open { HasNoDesk d.old → (result ≡ false) × (d.new ≡ d.old) }
     ensures only { d.new ≡ with_desk d.old d.new.slot.state }
 {
     match d.desk() {
@@ -137,8 +137,8 @@ pub extern "C" fn timers_desk_flush_all(d: &mut CDesk) -> bool
 /// Advances the clock by one tick. The notices of the timers that expire wait in the outboxes.
 #[unsafe(no_mangle)]
 pub extern "C" fn timers_desk_tick(d: &mut CDesk) -> u32
-    ensures ticked { IsOpen d.old → HasTicked result d.old.slot.state d.new.slot.state }
-    ensures not_open { IsShut d.old → (result ≡ NOT_OPEN) × (d.new ≡ d.old) }
+    ensures ticked { HasDesk d.old → HasTicked result d.old.slot.state d.new.slot.state }
+    ensures not_open { HasNoDesk d.old → (result ≡ NOT_OPEN) × (d.new ≡ d.old) }
     ensures only { d.new ≡ with_desk d.old d.new.slot.state }
 {
     let Some(desk) = d.desk() else {
@@ -155,10 +155,10 @@ pub extern "C" fn timers_desk_tick(d: &mut CDesk) -> u32
 /// passed: 0 only if `most` is 0.
 #[unsafe(no_mangle)]
 pub extern "C" fn timers_desk_advance(d: &mut CDesk, most: u64, passed: &mut u64) -> u32
-    ensures advanced { result ≡ OK → IsOpen d.old × HasAdvanced most passed.new d.old.slot.state
+    ensures advanced { result ≡ OK → HasDesk d.old × HasAdvanced most passed.new d.old.slot.state
         d.new.slot.state }
-    ensures refused { 0 < result → ((result ≡ NOT_OPEN) × IsShut d.old)
-        ⊎ (IsOpen d.old × WhyNoTickPassed most d.old.slot.state.facility result) }
+    ensures refused { 0 < result → ((result ≡ NOT_OPEN) × HasNoDesk d.old)
+        ⊎ (HasDesk d.old × WhyNoTickPassed most d.old.slot.state.facility result) }
     ensures kept { 0 < result → (d.new ≡ d.old) × (passed.new ≡ passed.old) }
     ensures only { d.new ≡ with_desk d.old d.new.slot.state }
 {
@@ -183,10 +183,10 @@ pub extern "C" fn timers_desk_advance(d: &mut CDesk, most: u64, passed: &mut u64
 /// was freed. Returns how many have left the outbox.
 #[unsafe(no_mangle)]
 pub extern "C" fn timers_desk_flush(d: &mut CDesk, client: usize) -> usize
-    ensures flushed { IsOpen d.old → client < clients_of d.old.slot.state
+    ensures flushed { HasDesk d.old → client < clients_of d.old.slot.state
         → HasFlushed client result d.old.slot.state d.new.slot.state }
-    ensures none { IsOpen d.old → clients_of d.old.slot.state ≤ client → (result ≡ 0) × (d.new ≡ d.old) }
-    ensures not_open { IsShut d.old → (result ≡ 0) × (d.new ≡ d.old) }
+    ensures none { HasDesk d.old → clients_of d.old.slot.state ≤ client → (result ≡ 0) × (d.new ≡ d.old) }
+    ensures not_open { HasNoDesk d.old → (result ≡ 0) × (d.new ≡ d.old) }
     ensures only { d.new ≡ with_desk d.old d.new.slot.state }
 {
     match d.desk() {
@@ -204,8 +204,8 @@ pub extern "C" fn timers_desk_flush(d: &mut CDesk, client: usize) -> usize
 /// on. Writes how many were returned. It is never out of memory after a `timers_desk_reserve`.
 #[unsafe(no_mangle)]
 pub extern "C" fn timers_desk_close(d: &mut CDesk, returned: &mut u64) -> u32
-    ensures closed { IsOpen d.old → HasClosed result returned.new d.old.slot.state d.new.slot.state }
-    ensures not_open { IsShut d.old → (result ≡ NOT_OPEN) × (d.new ≡ d.old) }
+    ensures closed { HasDesk d.old → HasClosed result returned.new d.old.slot.state d.new.slot.state }
+    ensures not_open { HasNoDesk d.old → (result ≡ NOT_OPEN) × (d.new ≡ d.old) }
     ensures kept { 0 < result → returned.new ≡ returned.old }
     ensures only { d.new ≡ with_desk d.old d.new.slot.state }
 {
@@ -225,8 +225,8 @@ pub extern "C" fn timers_desk_close(d: &mut CDesk, returned: &mut u64) -> u32
 /// The present tick, or 0 if there is no desk.
 #[unsafe(no_mangle)]
 pub extern "C" fn timers_desk_now(d: &mut ConstDesk) -> u64
-    ensures now { IsOpen d.old.held → result ≡ d.old.held.slot.state.facility.now }
-    ensures not_open { IsShut d.old.held → result ≡ 0 }
+    ensures now { HasDesk d.old.held → result ≡ d.old.held.slot.state.facility.now }
+    ensures not_open { HasNoDesk d.old.held → result ≡ 0 }
     ensures same { d.new ≡ d.old }
 {
     match d.desk() {
@@ -238,8 +238,8 @@ pub extern "C" fn timers_desk_now(d: &mut ConstDesk) -> u64
 /// How many timers are pending, or 0 if there is no desk.
 #[unsafe(no_mangle)]
 pub extern "C" fn timers_desk_len(d: &mut ConstDesk) -> usize
-    ensures pending { IsOpen d.old.held → result ≡ length d.old.held.slot.state.facility.pending }
-    ensures not_open { IsShut d.old.held → result ≡ 0 }
+    ensures pending { HasDesk d.old.held → result ≡ length d.old.held.slot.state.facility.pending }
+    ensures not_open { HasNoDesk d.old.held → result ≡ 0 }
     ensures same { d.new ≡ d.old }
 {
     match d.desk() {
@@ -252,8 +252,8 @@ pub extern "C" fn timers_desk_len(d: &mut ConstDesk) -> usize
 /// desk. It is after the present one and at most the first deadline, and nothing expires before it.
 #[unsafe(no_mangle)]
 pub extern "C" fn timers_desk_wakeup(d: &mut ConstDesk) -> u64
-    ensures tick { IsOpen d.old.held → IsNextTick result d.old.held.slot.state.facility }
-    ensures not_open { IsShut d.old.held → result ≡ NEVER }
+    ensures tick { HasDesk d.old.held → IsNextTick result d.old.held.slot.state.facility }
+    ensures not_open { HasNoDesk d.old.held → result ≡ NEVER }
     ensures same { d.new ≡ d.old }
 {
     match d.desk() {
@@ -265,8 +265,8 @@ pub extern "C" fn timers_desk_wakeup(d: &mut ConstDesk) -> u64
 /// The first pending deadline; `NEVER` if nothing is pending or there is no desk.
 #[unsafe(no_mangle)]
 pub extern "C" fn timers_desk_next(d: &mut ConstDesk) -> u64
-    ensures deadline { IsOpen d.old.held → IsFirstDeadline result d.old.held.slot.state.facility }
-    ensures not_open { IsShut d.old.held → result ≡ NEVER }
+    ensures deadline { HasDesk d.old.held → IsFirstDeadline result d.old.held.slot.state.facility }
+    ensures not_open { HasNoDesk d.old.held → result ≡ NEVER }
     ensures same { d.new ≡ d.old }
 {
     match d.desk() {
@@ -281,13 +281,13 @@ pub extern "C" fn timers_desk_next(d: &mut ConstDesk) -> u64
 /// that report. Nothing changes but what is known of the line.
 #[unsafe(no_mangle)]
 pub extern "C" fn timers_desk_line_freed(d: &mut CDesk, client: usize) -> bool
-    ensures looked { IsOpen d.old → client < clients_of d.old.slot.state
+    ensures looked { HasDesk d.old → client < clients_of d.old.slot.state
         → OnlyLooks client d.old.slot.state d.new.slot.state }
-    ensures freed { IsOpen d.old → client < clients_of d.old.slot.state
+    ensures freed { HasDesk d.old → client < clients_of d.old.slot.state
         → IsSeenFreed result client d.old.slot.state d.new.slot.state }
-    ensures none { IsOpen d.old → clients_of d.old.slot.state ≤ client
+    ensures none { HasDesk d.old → clients_of d.old.slot.state ≤ client
         → (result ≡ false) × (d.new ≡ d.old) }
-    ensures not_open { IsShut d.old → (result ≡ false) × (d.new ≡ d.old) }
+    ensures not_open { HasNoDesk d.old → (result ≡ false) × (d.new ≡ d.old) }
     ensures only { d.new ≡ with_desk d.old d.new.slot.state }
 {
     match d.desk() {
@@ -306,12 +306,12 @@ pub extern "C" fn timers_desk_open(
     line: &mut CLine,
     room: usize,
 ) -> u32
-    ensures opened { result ≡ OK → IsOpen d.old × HasNoLine line.old × HasLine line.new
+    ensures opened { result ≡ OK → HasDesk d.old × HasNoLine line.old × HasLine line.new
         × (line.new.client ≡ client) × (line.new.life ≡ d.old.lives)
         × HasOpened client room d.old.slot.state d.new.slot.state line.new.slot.state }
-    ensures refused { 0 < result → ((result ≡ NOT_OPEN) × IsShut d.old)
-        ⊎ ((result ≡ OPEN) × IsOpen d.old × HasLine line.old)
-        ⊎ (IsOpen d.old × HasNoLine line.old
+    ensures refused { 0 < result → ((result ≡ NOT_OPEN) × HasNoDesk d.old)
+        ⊎ ((result ≡ OPEN) × HasDesk d.old × HasLine line.old)
+        ⊎ (HasDesk d.old × HasNoLine line.old
         × WhyNotOpened client room d.old.slot.state d.new.slot.state result) }
     ensures kept { 0 < result → (line.new ≡ line.old) × ((d.new ≡ d.old)
         ⊎ OnlyLooks client d.old.slot.state d.new.slot.state) }
@@ -337,10 +337,10 @@ pub extern "C" fn timers_desk_open(
 /// request of the client, under its next number, whose answer nobody gets.
 #[unsafe(no_mangle)]
 pub extern "C" fn timers_desk_stop_pending(d: &mut CDesk, client: usize, stopped: &mut usize) -> u32
-    ensures stopped { result ≡ OK → IsOpen d.old
+    ensures stopped { result ≡ OK → HasDesk d.old
         × HasStopped client stopped.new d.old.slot.state d.new.slot.state }
-    ensures refused { 0 < result → ((result ≡ NOT_OPEN) × IsShut d.old)
-        ⊎ (IsOpen d.old × WhyNotStopped client d.old.slot.state d.new.slot.state result) }
+    ensures refused { 0 < result → ((result ≡ NOT_OPEN) × HasNoDesk d.old)
+        ⊎ (HasDesk d.old × WhyNotStopped client d.old.slot.state d.new.slot.state result) }
     ensures kept { 0 < result → (stopped.new ≡ stopped.old) × ((d.new ≡ d.old)
         ⊎ OnlyLooks client d.old.slot.state d.new.slot.state) }
     ensures only { d.new ≡ with_desk d.old d.new.slot.state }
@@ -354,9 +354,9 @@ pub extern "C" fn timers_desk_stop_pending(d: &mut CDesk, client: usize, stopped
 /// Makes room for as many timers as may be pending: no serve and no close runs out of memory from then on.
 #[unsafe(no_mangle)]
 pub extern "C" fn timers_desk_reserve(d: &mut CDesk) -> u32
-    ensures reserved { result ≡ OK → IsOpen d.old × (d.new.slot.state ≡ with_reserve d.old.slot.state) }
-    ensures refused { 0 < result → ((result ≡ NOT_OPEN) × IsShut d.old)
-        ⊎ ((result ≡ NO_MEMORY) × IsOpen d.old) }
+    ensures reserved { result ≡ OK → HasDesk d.old × (d.new.slot.state ≡ with_reserve d.old.slot.state) }
+    ensures refused { 0 < result → ((result ≡ NOT_OPEN) × HasNoDesk d.old)
+        ⊎ ((result ≡ NO_MEMORY) × HasDesk d.old) }
     ensures kept { 0 < result → d.new.slot.state ≡ d.old.slot.state }
     ensures only { d.new ≡ with_desk d.old d.new.slot.state }
 {
@@ -372,10 +372,10 @@ pub extern "C" fn timers_desk_reserve(d: &mut CDesk) -> u32
 /// How many timers of a client are pending. 0 if there is no such client or no desk.
 #[unsafe(no_mangle)]
 pub extern "C" fn timers_desk_pending(d: &mut ConstDesk, client: usize) -> usize
-    ensures pending { IsOpen d.old.held → client < clients_of d.old.held.slot.state
+    ensures pending { HasDesk d.old.held → client < clients_of d.old.held.slot.state
         → result ≡ pending_of d.old.held.slot.state.facility client }
-    ensures none { IsOpen d.old.held → clients_of d.old.held.slot.state ≤ client → result ≡ 0 }
-    ensures not_open { IsShut d.old.held → result ≡ 0 }
+    ensures none { HasDesk d.old.held → clients_of d.old.held.slot.state ≤ client → result ≡ 0 }
+    ensures not_open { HasNoDesk d.old.held → result ≡ 0 }
     ensures same { d.new ≡ d.old }
 {
     match d.desk() {
@@ -387,10 +387,10 @@ pub extern "C" fn timers_desk_pending(d: &mut ConstDesk, client: usize) -> usize
 /// How many words wait in a client's outbox. 0 if there is no such client or no desk.
 #[unsafe(no_mangle)]
 pub extern "C" fn timers_desk_outbox(d: &mut ConstDesk, client: usize) -> usize
-    ensures len { IsOpen d.old.held → client < clients_of d.old.held.slot.state
+    ensures len { HasDesk d.old.held → client < clients_of d.old.held.slot.state
         → result ≡ length (backlog_at d.old.held.slot.state client).outbox }
-    ensures none { IsOpen d.old.held → clients_of d.old.held.slot.state ≤ client → result ≡ 0 }
-    ensures not_open { IsShut d.old.held → result ≡ 0 }
+    ensures none { HasDesk d.old.held → clients_of d.old.held.slot.state ≤ client → result ≡ 0 }
+    ensures not_open { HasNoDesk d.old.held → result ≡ 0 }
     ensures same { d.new ≡ d.old }
 {
     match d.desk() {
@@ -407,13 +407,13 @@ pub extern "C" fn timers_desk_settle(
     line: &mut CLine,
     standing: &mut usize,
 ) -> u32
-    requires line { IsOpen d.old → HasLine line.old → client < clients_of d.old.slot.state
+    requires line { HasDesk d.old → HasLine line.old → client < clients_of d.old.slot.state
         → is_own client d.old.lives line.old ≡ true
         → IsGivenAs client d.old.slot.state line.old.slot.state }
-    ensures settled { result ≡ OK → IsOpen d.old × HasLine line.old × (is_own client d.old.lives line.old ≡ true)
+    ensures settled { result ≡ OK → HasDesk d.old × HasLine line.old × (is_own client d.old.lives line.old ≡ true)
         × IsSettled client standing.new line.old.slot.state d.old.slot.state d.new.slot.state }
-    ensures refused { 0 < result → ((result ≡ NOT_OPEN) × (IsShut d.old ⊎ HasNoLine line.old))
-        ⊎ (IsOpen d.old × HasLine line.old × WhyNotSettled client (clients_of d.old.slot.state)
+    ensures refused { 0 < result → ((result ≡ NOT_OPEN) × (HasNoDesk d.old ⊎ HasNoLine line.old))
+        ⊎ (HasDesk d.old × HasLine line.old × WhyNotSettled client (clients_of d.old.slot.state)
         (is_own client d.old.lives line.old) line.old.slot.state result) }
     ensures kept { 0 < result → (d.new ≡ d.old) × (standing.new ≡ standing.old) }
     ensures line { IsAsBefore line.old.slot.state line.new.slot.state }
@@ -453,13 +453,13 @@ pub extern "C" fn timers_desk_end(
     line: &mut CLine,
     unread: &mut usize,
 ) -> u32
-    requires line { IsOpen d.old → HasLine line.old → client < clients_of d.old.slot.state
+    requires line { HasDesk d.old → HasLine line.old → client < clients_of d.old.slot.state
         → is_own client d.old.lives line.old ≡ true
         → IsTied client d.old.slot.state line.old.slot.state }
-    ensures ended { result ≡ OK → IsOpen d.old × HasLine line.old × (is_own client d.old.lives line.old ≡ true)
+    ensures ended { result ≡ OK → HasDesk d.old × HasLine line.old × (is_own client d.old.lives line.old ≡ true)
         × HasEnded client unread.new d.old.slot.state line.old.slot.state line.new.slot.state }
-    ensures refused { 0 < result → ((result ≡ NOT_OPEN) × (IsShut d.old ⊎ HasNoLine line.old))
-        ⊎ (IsOpen d.old × HasLine line.old × WhyNotEnded client (is_own client d.old.lives line.old)
+    ensures refused { 0 < result → ((result ≡ NOT_OPEN) × (HasNoDesk d.old ⊎ HasNoLine line.old))
+        ⊎ (HasDesk d.old × HasLine line.old × WhyNotEnded client (is_own client d.old.lives line.old)
         d.old.slot.state line.old.slot.state result) }
     ensures kept { 0 < result → (unread.new ≡ unread.old)
         × IsAsBefore line.old.slot.state line.new.slot.state }
@@ -487,18 +487,18 @@ pub extern "C" fn timers_desk_end(
 /// of its client was not freed, the reason is `NOT_FREED`.
 #[unsafe(no_mangle)]
 pub extern "C" fn timers_desk_end_all(d: &mut CDesk, lines: &mut [CLine], client: &mut usize) -> u32
-    requires lines { IsOpen d.old → length lines.old ≡ clients_of d.old.slot.state
+    requires lines { HasDesk d.old → length lines.old ≡ clients_of d.old.slot.state
         → AreTied d.old.lives d.old.slot.state lines.old }
-    ensures ended { result ≡ OK → IsOpen d.old × AllEnded d.old.lives d.old.slot.state d.new.slot.state lines.old
+    ensures ended { result ≡ OK → HasDesk d.old × AllEnded d.old.lives d.old.slot.state d.new.slot.state lines.old
         lines.new }
-    ensures refused { 0 < result → ((result ≡ NOT_OPEN) × IsShut d.old)
-        ⊎ (IsOpen d.old × WhyNotAllEnded d.old.lives client.new result d.old.slot.state d.new.slot.state lines.old
+    ensures refused { 0 < result → ((result ≡ NOT_OPEN) × HasNoDesk d.old)
+        ⊎ (HasDesk d.old × WhyNotAllEnded d.old.lives client.new result d.old.slot.state d.new.slot.state lines.old
         lines.new) }
 
     // The number is written only if a client is to blame.
     ensures client { result ≡ OK → client.new ≡ client.old }
-    ensures shut { IsShut d.old → (d.new ≡ d.old) × (lines.new ≡ lines.old) × (client.new ≡ client.old) }
-    ensures other_lines { IsOpen d.old → length lines.old ≢ clients_of d.old.slot.state
+    ensures shut { HasNoDesk d.old → (d.new ≡ d.old) × (lines.new ≡ lines.old) × (client.new ≡ client.old) }
+    ensures other_lines { HasDesk d.old → length lines.old ≢ clients_of d.old.slot.state
         → (d.new ≡ d.old) × (lines.new ≡ lines.old) × (client.new ≡ client.old) }
 
     ensures desk { KeepsLines d.old.slot.state d.new.slot.state }
