@@ -23,12 +23,12 @@ abbrev pub timer_clone : clone.Ghosts Timer
 timer_clone = record { is_clone = λ kept copy. copy ≡ kept; is_infallible = λ kept. ⊤ }
 
 -- the desk's wheel
-abbrev pub tiered_row : RattleType
-tiered_row = tiered.the_row timer.the_row kept.ghosts
+abbrev pub desk_wheel_row : RattleType
+desk_wheel_row = tiered.the_row timer.the_row kept.ghosts
 
 -- what the wheel's impl of `Wheel` says of it
-abbrev pub wheel_ghosts : Ghosts (TieredWheel Timer kept.ghosts)
-wheel_ghosts = wheel.ghosts timer.the_row kept.ghosts kept.dict timer_clone kept.dict
+abbrev pub desk_wheel_ghosts : Ghosts (TieredWheel Timer kept.ghosts)
+desk_wheel_ghosts = wheel.ghosts timer.the_row kept.ghosts kept.dict timer_clone kept.dict
 
 abbrev pub the_desk : RattleType
-the_desk = desk.the_row tiered_row ring.the_row wheel_ghosts inlet.ghosts
+the_desk = desk.the_row desk_wheel_row ring.the_row desk_wheel_ghosts inlet.ghosts

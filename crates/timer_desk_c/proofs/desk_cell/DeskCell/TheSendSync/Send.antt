@@ -13,11 +13,12 @@ use Rattle.timer_desk.proofs.ring_ends.RingInlet.TheSendSync as ring'
 use Rattle.timer_desk.proofs.desk.Desk.TheSendSync as desk'
 use Rattle.timer_ffi_base.specs.Cells.{is_open}
 use Rattle.timer_ffi_base.proofs.CellLaws.{keyless}
-use Rattle.timer_desk_c.specs.DeskSlots.{tiered_row, wheel_ghosts, the_desk}
+use Rattle.timer_desk_c.specs.DeskSlots.{desk_wheel_row, desk_wheel_ghosts, the_desk}
 use Rattle.timer_desk_c.specs.contracts.desk_cell.DeskCell.{the_row, the_type}
 
 desk_send : IsSend the_desk
-desk_send = desk'.the_send tiered_row ring.the_row wheel_ghosts inlet.ghosts (tiered'.the_send timer.the_row kept.ghosts timer'.the_send) ring'.the_send
+desk_send = desk'.the_send desk_wheel_row ring.the_row desk_wheel_ghosts inlet.ghosts
+    (tiered'.the_send timer.the_row kept.ghosts timer'.the_send) ring'.the_send
 
 pub send : IsSend the_row
 send =
