@@ -1,7 +1,7 @@
 //! The hierarchical timing wheel: Scheme 7 of G. Varghese and T. Lauck, "Hashed and Hierarchical
 //! Timing Wheels", SOSP 1987.
 //!
-//! One body serves three tables of radices. Digit k of a tick t is t divided by the product of the lower
+//! One body serves each `Table` of radices. Digit k of a tick t is t divided by the product of the lower
 //! radices, modulo radix k, and wheel k has a slot for each value of digit k.
 //!
 //!     Wide: ticks 0 to 2^60 - 1
