@@ -9,7 +9,7 @@ use std::alloc::{AllocError, Global};
 
 /// How many requests of a client were served, and how many of its words were flushed, each counted up
 /// to its goal.
-#[derive(Clone, Copy, Debug, PartialEq, Eq)]
+#[derive(Clone, Copy)]
 pub struct Progress {
     pub served: u64,
     pub flushed: u64,

@@ -82,7 +82,7 @@ impl Kept for Timer {
 }
 
 /// What is kept of a timer whose client and number are 0, without rounds.
-#[derive(Clone, Copy, Debug)]
+#[derive(Clone, Copy)]
 pub struct Unowned {
     /// The serial.
     pub serial: u64,

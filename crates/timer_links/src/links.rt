@@ -28,7 +28,7 @@ use std::marker::Model;
 use timer_base::OutOfMemory;
 
 /// What a walk along a list asks of each node.
-#[derive(Clone, Copy, Debug, PartialEq, Eq)]
+#[derive(Clone, Copy)]
 pub struct WalkStep {
     /// The node's rounds.
     pub rounds: u64,
@@ -37,7 +37,7 @@ pub struct WalkStep {
 }
 
 /// A node that was removed.
-#[derive(Clone, Copy, Debug, PartialEq, Eq)]
+#[derive(Clone, Copy)]
 pub struct RemovedNode {
     /// The node.
     pub node: Node,
