@@ -16,7 +16,7 @@ use timer_base::OutOfMemory;
 use timer_facility::{Answer, Notice, Out};
 
 /// What became of a timer. Lines are counted from 1.
-#[derive(Clone, Copy, Debug, PartialEq, Eq)]
+#[derive(Clone, Copy)]
 pub enum Fate {
     /// No request started it.
     NotStarted,

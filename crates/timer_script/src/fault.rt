@@ -46,7 +46,7 @@ impl From<timer_base::OutOfMemory> for ScriptFault {
 }
 
 /// Why a script was not read to its end.
-#[derive(Clone, Copy, Debug, PartialEq, Eq)]
+#[derive(Clone, Copy)]
 pub enum ReadFault {
     /// The reader failed.
     Read,
@@ -72,7 +72,7 @@ pub struct WriteFault {
 }
 
 /// Why a piece of a stream was not answered.
-#[derive(Clone, Copy, Debug, PartialEq, Eq)]
+#[derive(Clone, Copy)]
 pub enum TurnFault {
     /// An allocation failed.
     OutOfMemory,
