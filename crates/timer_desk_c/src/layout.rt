@@ -3,7 +3,7 @@
 
 /// How C refers to a timer: `struct timers_handle`.
 #[repr(C)]
-#[derive(Clone, Copy, Debug, Default, PartialEq, Eq)]
+#[derive(Clone, Copy, Default)]
 pub struct CHandle {
     /// Where the wheel keeps the timer: a free choice of the wheel.
     pub place: usize,
@@ -13,7 +13,7 @@ pub struct CHandle {
 
 /// A message to a client: `struct timers_word`. Fields that its kind doesn't use are 0.
 #[repr(C)]
-#[derive(Clone, Copy, Debug, Default, PartialEq, Eq)]
+#[derive(Clone, Copy, Default)]
 pub struct Message {
     /// One of the kinds.
     pub kind: u32,
@@ -36,7 +36,7 @@ pub const CONFIG_SIZE: usize = 48;
 
 /// The numbers that a desk is made with: `struct timers_desk_config`.
 #[repr(C)]
-#[derive(Clone, Copy, Debug, PartialEq, Eq)]
+#[derive(Clone, Copy)]
 pub struct DeskConfig {
     /// How many bytes this struct has, `CONFIG_SIZE`: so that a later version can tell it from one with more fields.
     pub size: usize,
