@@ -14,7 +14,7 @@
 //!       5   1:5 3:5                               1:5 3:5
 //!
 //! Each handle has place 0: the serial alone identifies the timer.
-ghost use Rattle.std.specs.Prelude.{◌≡◌, ◌≤◌, ◌<◌, ◌+◌, ◌↔◌, ◌++◌, ◌∷◌, [], IfOk, IfErr, IsErr, Some, length, filter, find, not, drop, vec_len, vec_capacity};
+ghost use Rattle.std.specs.Prelude.{◌≡◌, ◌≤◌, ◌<◌, ◌+◌, ◌↔◌, ◌++◌, [], IfOk, IfErr, IsErr, Some, length, filter, find, not, drop, vec_len, vec_capacity};
 ghost use Rattle.std.proofs.Math.Nat.{ℕ_set};
 ghost use Rattle.std.specs.List.{AllByRecursion};
 ghost use Rattle.timer_base.specs.Types.{LAST};

@@ -28,7 +28,7 @@ impl Model for Backlog {
 }
 
 impl Backlog {
-    ghost use Rattle.std.specs.Prelude.{◌≡◌, ◌+◌, ◌<◌, ◌≤◌, ◌⊎◌, [], ◌∷◌, ◌++◌, length, Some, None, IfOk, ℕ, true};
+    ghost use Rattle.std.specs.Prelude.{◌≡◌, ◌+◌, ◌<◌, ◌≤◌, ◌⊎◌, [], ◌++◌, length, Some, None, IfOk, true};
     ghost use Rattle.timer_desk.specs.Backlog.{empty_backlog, with_word, notices_for, HoldsAtMostOneMore};
     ghost use Rattle.timer_facility.specs.State.{pending_of};
     ghost use Rattle.timer_desk.specs.Inlet.{taken_of};

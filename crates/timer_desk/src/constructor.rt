@@ -1,5 +1,5 @@
 //! The errors of the constructor of a desk, and the backlogs of a new one.
-ghost use Rattle.std.specs.Prelude.{◌≡◌, ◌≤◌, IfOk, replicate, vec_len, vec_capacity};
+ghost use Rattle.std.specs.Prelude.{◌≡◌, IfOk, replicate};
 ghost use Rattle.timer_desk.specs.Backlog.{empty_backlog};
 
 use crate::backlog::Backlog;

@@ -1,6 +1,6 @@
 //! The owner's desk: one facility, and for each client its line and its backlog.
 ghost use Rattle.std.specs.Prelude.{◌≡◌, ◌<◌, ◌≤◌, ◌⊎◌, [], ◌∷◌, length, get_or, true, IfOk, IfErr, OnOk, OnErr, slice_set, vec_len};
-ghost use Rattle.timer_facility.specs.State.{FacilityState, IsSound, with_room_made};
+ghost use Rattle.timer_facility.specs.State.{IsSound, with_room_made};
 ghost use Rattle.timer_facility.specs.Facility.{NoRoomToClose, with_nothing_waiting};
 ghost use Rattle.timer_desk.specs.Flush.{FlushesClient};
 ghost use Rattle.timer_desk.specs.Member.{IsKept};

@@ -1,5 +1,5 @@
 //! Moves the notices that wait into their clients' outboxes.
-ghost use Rattle.std.specs.Prelude.{◌≡◌, ◌≤◌, ◌+◌, ◌++◌, [], map, take, drop, length, slice_get, vec_len, vec_capacity};
+ghost use Rattle.std.specs.Prelude.{◌≡◌, ◌≤◌, ◌+◌, ◌++◌, map, take, drop, length, slice_get, vec_len, vec_capacity};
 ghost use Rattle.timer_facility.specs.Facility.{with_nothing_waiting};
 ghost use Rattle.timer_desk.specs.Backlog.{client_of, HasRoomForNotices, with_notices};
 

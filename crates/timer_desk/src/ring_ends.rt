@@ -70,7 +70,7 @@ pub struct ClientReader {
 }
 
 impl ClientEnd {
-    ghost use Rattle.std.specs.Prelude.{◌≡◌, ◌==◌, ◌+◌, ◌<◌, ◌≤◌, ◌↔◌, [], ◌∷◌, ◌++◌, true, false, length, Err, IsOk, OnOk, IfOk, OnErr, IfErr, IfSome, IsNone};
+    ghost use Rattle.std.specs.Prelude.{◌≡◌, ◌==◌, ◌+◌, ◌<◌, ◌≤◌, ◌↔◌, [], ◌∷◌, ◌++◌, true, false, length, Err, IsOk, OnOk, IfOk, IfErr, IfSome, IsNone};
     ghost use Rattle.timer_desk.specs.RingEnds.{line_of_end, submitted, received_by_end, free_of, seen_by_end, next_of, numbered, IsUnsent, requests_ring_of, words_ring_of_reader, all_submitted, read_by, is_settled_reader, found_by_end, found_by_reader};
     ghost use Rattle.timer_desk.specs.Looks.{AreLooksInOrder};
     ghost use Rattle.timer_desk.specs.declared.looks.Found.TheVariants as Found;

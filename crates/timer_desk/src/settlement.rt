@@ -1,10 +1,10 @@
 //! A desk over ring lines settles a line whose client has finished: its requests, and its words. It drops the words
 //! to a client that is gone, and stops its timers.
-ghost use Rattle.std.specs.Prelude.{◌≡◌, ◌==◌, ◌+◌, ◌<◌, ◌↔◌, ◌++◌, ◌≢◌, [], ℕ, true, false, length, get_or};
+ghost use Rattle.std.specs.Prelude.{◌≡◌, ◌==◌, ◌+◌, ◌<◌, ◌↔◌, ◌≢◌, [], ℕ, true, false, length, get_or};
 ghost use Rattle.timer_facility.specs.State.{number_of};
 ghost use Rattle.timer_desk.specs.Backlog.{BacklogState};
 ghost use Rattle.timer_desk.specs.Desk.{clients_of, backlog_at};
-ghost use Rattle.timer_desk.specs.RingEnds.{line_of_inlet, got_of, standing_of, given_of, is_settled, seen_by_inlet, found_by_inlet, IsOver, requests_ring_of, all_submitted, words_ring_of_reader, read_by, unread_by, is_settled_reader};
+ghost use Rattle.timer_desk.specs.RingEnds.{line_of_inlet, is_settled, seen_by_inlet, found_by_inlet, IsOver, requests_ring_of, all_submitted, words_ring_of_reader, read_by, unread_by, is_settled_reader};
 ghost use Rattle.timer_desk.specs.Looks.{MayFind, AreLooksInOrder};
 ghost use Rattle.timer_desk.specs.declared.looks.Found.TheVariants as Found;
 ghost use Rattle.timer_desk.specs.WindingUp.{IsReadOut};

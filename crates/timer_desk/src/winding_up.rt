@@ -1,5 +1,5 @@
 //! The end of a desk over ring lines whose clients have finished.
-ghost use Rattle.std.specs.Prelude.{◌≡◌, ◌<◌, ℕ, get_or, vec_len, false, IsTrue, IfOk, IfErr};
+ghost use Rattle.std.specs.Prelude.{◌≡◌, ◌<◌, get_or, vec_len, false, IsTrue, IfOk, IfErr};
 ghost use Rattle.timer_facility.specs.Facility.{with_nothing_waiting};
 ghost use Rattle.timer_desk.specs.Desk.{clients_of, backlog_at, IsIdle, AllIdle};
 ghost use Rattle.timer_desk.specs.RingEnds.{line_of_inlet, got_of, requests_ring_of, all_submitted};

@@ -4,18 +4,18 @@
 //! owner takes them by `next_out` until none waits, and only then makes the next call. Expired timers stay in the
 //! wheel, which hands them out by serial. A close moves the timers to a list of their own, and the wheel is empty
 //! then.
-ghost use Rattle.std.specs.Prelude.{◌≡◌, false, true, None, Some, is_some, ℕ, ◌+◌, ◌-◌, ◌<◌, ◌≤◌, ◌↔◌, [], length, drop, slice_get, slice_index, slice_set, IsTrue, IfSome, IfOk, IfErr, OnErr, OnOk, MatchResult, if◌then◌else◌, nat_lt, vec_capacity};
+ghost use Rattle.std.specs.Prelude.{◌≡◌, false, true, None, Some, is_some, ℕ, ◌+◌, ◌-◌, ◌<◌, ◌≤◌, ◌↔◌, [], length, drop, slice_get, slice_index, slice_set, IsTrue, IfSome, IfOk, IfErr, OnErr, OnOk, MatchResult, vec_capacity};
 ghost use Rattle.timer_facility.specs.Types.{LAST, Timer, MAX_CLIENTS};
 ghost use Rattle.timer_base.specs.Pending.{timers_of};
 ghost use Rattle.timer_base.specs.WheelState.{after_clear};
 ghost use Rattle.timer_base.specs.WakeUps.{IsQuietUntil, next_deadline};
-ghost use Rattle.timer_facility.specs.State.{FacilityState, IsSound, opened, At, ByHandle, Stop, Tick, Close, number_of, pending_of, ticks_until};
+ghost use Rattle.timer_facility.specs.State.{IsSound, opened, At, ByHandle, Stop, Tick, Close, pending_of, ticks_until};
 ghost use Rattle.timer_facility.specs.Verdict.{not_taken, timer_named, start_refusal, restart_refusal, interval_refusal, refusal, tick_refusal, TickRefused, verdict, verdict_on_close};
 ghost use Rattle.timer_facility.specs.Step.{step, new_timer, timer_started};
 ghost use Rattle.timer_facility.specs.Owed.{timer_handed};
 ghost use Rattle.timer_facility.specs.Handles.{is_pending};
 ghost use Rattle.timer_facility.specs.Ticked.{AreTicked};
-ghost use Rattle.timer_facility.specs.Facility.{FacilityView, view_of, view_after, view_with_room_made, with_nothing_waiting, NoRoomToClose, IsTaken, IsNotTaken, Fields, IsFacilityOver, model_of, is_for_a_tick, IsStart, IsAnswered, MakesTimer, HasAnswered};
+ghost use Rattle.timer_facility.specs.Facility.{FacilityView, view_of, view_after, view_with_room_made, with_nothing_waiting, NoRoomToClose, IsTaken, IsNotTaken, IsFacilityOver, model_of, is_for_a_tick, IsStart, IsAnswered, MakesTimer, HasAnswered};
 
 use crate::config::{CLIENTS, Checked};
 use crate::request::{Answer, CloseFault, NotTaken, Notice, Reason, Request, TickFault};

@@ -3,10 +3,8 @@
 //! Memory for all that an event can produce is reserved before the event: one out for a request, a handle for one that
 //! makes a timer, and one notice for each pending timer. After that only the facility's own call can fail,
 //! which then has changed nothing. So an event is played whole or not at all.
-ghost use Rattle.std.specs.Prelude.{◌≡◌, ◌<◌, ◌≤◌, ◌⊎◌, ◌+◌, ◌*◌, ◌++◌, ◌∷◌, ◌↔◌, false, ℕ, List, [], None, length, map, take, IsTrue, IfSome, IfOk, IfErr, OnErr, OnOk, vec_len, vec_capacity};
-ghost use Rattle.timer_facility.specs.State.{FacilityState, IsSound, Tick, Close};
-ghost use Rattle.timer_facility.specs.Verdict.{tick_refusal};
-ghost use Rattle.timer_facility.specs.Step.{step};
+ghost use Rattle.std.specs.Prelude.{◌≡◌, ◌<◌, ◌≤◌, ◌⊎◌, ◌+◌, ◌*◌, ◌++◌, ◌∷◌, false, [], None, length, map, take, IfSome, IfOk, IfErr, OnErr, OnOk, vec_len, vec_capacity};
+ghost use Rattle.timer_facility.specs.State.{FacilityState, IsSound, Close};
 ghost use Rattle.timer_facility.specs.Facility.{with_nothing_waiting, event_of_request, model_of, is_for_a_tick, MakesTimer};
 ghost use Rattle.timer_facility.specs.Played.{IsPlayed, MakesStep, AddsRun, most_outs, TakesMemory};
 ghost use Rattle.timer_facility.specs.Handles.{HandleList, AreRecorded};

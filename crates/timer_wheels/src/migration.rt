@@ -5,7 +5,7 @@ ghost use Rattle.timer_links.specs.Lists.{list_at};
 ghost use Rattle.timer_wheels.specs.Digits.{slots, lowest_radix};
 ghost use Rattle.timer_wheels.specs.FirstDeadline.{IsFirstOf};
 ghost use Rattle.timer_wheels.specs.Firsts.{first_at, AreFirsts, AreFirstsBut};
-ghost use Rattle.timer_wheels.specs.Migration.{MayMigrate, IsOfTick, migrated, left_rows, first_deadline, second_deadline};
+ghost use Rattle.timer_wheels.specs.Migration.{MayMigrate, IsOfTick, migrated, left_rows, second_deadline};
 ghost use Rattle.timer_wheels.specs.Occupied.{bit_of, AreMarked, AreMarkedBut};
 ghost use Rattle.timer_wheels.specs.Tables.{radices};
 

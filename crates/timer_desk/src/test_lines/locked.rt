@@ -63,9 +63,8 @@ impl LockedEnd {
 }
 
 impl<R: Wait> Inlet for LockedInlet<R> {
-    ghost use Rattle.std.specs.Prelude.{◌≡◌, [], ◌++◌, true};
-    ghost use Rattle.timer_desk.specs.Inlet.{taken_of, put_of, HandsBack};
-    ghost use Rattle.timer_desk.specs.test_lines.Locked.{got_by_locked, given_by_locked, SameLockedLine, locked_lines};
+    ghost use Rattle.std.specs.Prelude.{◌≡◌};
+    ghost use Rattle.timer_desk.specs.test_lines.Locked.{locked_lines};
 
     ghost kind = { locked_lines };
 

@@ -1,5 +1,5 @@
 //! A line held in memory, for one thread.
-ghost use Rattle.std.specs.Prelude.{◌≡◌, [], ◌++◌, ◌≤◌, take, drop, vec_len};
+ghost use Rattle.std.specs.Prelude.{◌≡◌, [], ◌++◌, ◌≤◌, take, vec_len};
 
 use crate::inlet::{Inlet, Put, Taken};
 use crate::word::{Numbered, Word};
@@ -44,9 +44,9 @@ impl MemoryInlet {
 }
 
 impl Inlet for MemoryInlet {
-    ghost use Rattle.std.specs.Prelude.{◌≡◌, [], ◌++◌, ◌<◌, ◌≤◌, ◌⊎◌, length, take, true, false, ◌↔◌};
+    ghost use Rattle.std.specs.Prelude.{◌≡◌, [], ◌++◌, ◌<◌, ◌≤◌, ◌⊎◌, length, take, true, ◌↔◌};
     ghost use Rattle.timer_desk.specs.test_lines.Memory.{got_of_memory, standing_of_memory, given_of_memory, room_of_memory, fitting, LacksMemory, SameMemoryLine, memory_lines};
-    ghost use Rattle.timer_desk.specs.Inlet.{taken_of, put_of, HandsBack};
+    ghost use Rattle.timer_desk.specs.Inlet.{put_of, HandsBack};
 
     ghost kind = { memory_lines };
 

@@ -17,7 +17,7 @@ pub struct Queues {
 }
 
 impl Queues {
-    ghost use Rattle.std.specs.Prelude.{◌≡◌, ◌≢◌, ◌≤◌, ◌<◌, [], ◌∷◌, ◌++◌, length, drop, slice_get, IfOk, IfErr, OnOk, OnErr, IsOk, ◌↔◌, true};
+    ghost use Rattle.std.specs.Prelude.{◌≡◌, ◌≢◌, ◌≤◌, ◌<◌, [], ◌∷◌, ◌++◌, length, drop, slice_get, IfOk, IfErr, OnOk, IsOk, ◌↔◌, true};
     ghost use Rattle.timer_desk.specs.Inlet.{taken_of, put_of, HandsBack};
     ghost use Rattle.timer_desk.specs.test_lines.Locked.{requests_queued, words_queued, capacity_of};
 

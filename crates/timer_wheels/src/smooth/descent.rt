@@ -1,7 +1,7 @@
 //! How deep a timer goes: through next buckets that are empty.
 ghost use Rattle.std.specs.Prelude.{◌≡◌, ◌<◌, ◌≤◌, length};
 ghost use Rattle.timer_base.specs.declared.limits.TheConstants.{LAST};
-ghost use Rattle.timer_wheels.specs.Smooth.{descend_by, smooth_slots};
+ghost use Rattle.timer_wheels.specs.Smooth.{descend_by};
 ghost use Rattle.timer_wheels.specs.Tables.{radices};
 
 use crate::smooth::turns::{Filled, is_in_next, next_list};

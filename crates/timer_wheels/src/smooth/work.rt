@@ -3,7 +3,7 @@
 //! At each tick as many timers of a wheel's next bucket move as its pace says. As a bucket begins to be the next one, with n
 //! timers held in all, its pace becomes 2 * (n / w + 1), w the ticks of its slot: so it is empty by the half of its time,
 //! however many of the n it has. What comes to it meanwhile moves two timers for each.
-ghost use Rattle.std.specs.Prelude.{◌≡◌, ◌≢◌, ◌<◌, ◌≤◌, ◌⊎◌, ◌+◌, ◌-◌, ◌*◌, ◌==◌, ℕ, length};
+ghost use Rattle.std.specs.Prelude.{◌≡◌, ◌≢◌, ◌<◌, ◌≤◌, ◌+◌, ◌-◌, ◌*◌, ◌==◌, ℕ, length};
 ghost use Rattle.timer_links.specs.Lists.{row_count};
 ghost use Rattle.timer_wheels.specs.Bank.{next_len, movable, potential_of, IsEarly, OthersShrink};
 ghost use Rattle.timer_wheels.specs.Buckets.{state_of};
