@@ -17,7 +17,7 @@ use timer_facility::{Answer, CloseFault, Facility, Notice};
 use timer_wheels::{HierWheel, Table};
 
 /// How a step is taken.
-#[derive(Clone, Copy, PartialEq, Eq)]
+#[derive(Clone, Copy)]
 pub enum By {
     /// By a call of its own.
     Call,

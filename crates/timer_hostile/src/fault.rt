@@ -4,7 +4,7 @@ ghost use Rattle.std.specs.Prelude.{◌≡◌, OnOk, true};
 use std::alloc::{AllocError, AllocFailed};
 
 /// Why a scenario did not finish.
-#[derive(Clone, Copy, Debug, PartialEq, Eq)]
+#[derive(Clone, Copy, Debug)]
 pub enum Fault {
     /// An allocation of the scenario's own was refused.
     OutOfMemory,
