@@ -844,7 +844,7 @@ static const ALIGN(1) byte tp_static_75[80] = { 82, 101, 112, 111, 114, 116, 115
 	32, 116, 104, 101, 32, 115, 99, 114, 105, 112, 116, 32, 111, 110, 32, 115, 116, 97, 110, 100, 97, 114, 100, 32, 105,
 	110, 112, 117, 116, 59, 32, 112, 108, 97, 121, 115, 32, 105, 116, 32, 111, 110, 108, 121, 32, 119, 105, 116, 104, 32,
 	45, 45, 119, 104, 121 };
-static const ALIGN(1) byte tp_static_76[1362] = { 70, 111, 114, 32, 101, 97, 99, 104, 32, 98, 97, 100, 32, 108, 105, 110, 101, 32, 116, 104, 101, 32, 110, 117, 109,
+static const ALIGN(1) byte tp_static_76[1368] = { 70, 111, 114, 32, 101, 97, 99, 104, 32, 98, 97, 100, 32, 108, 105, 110, 101, 32, 116, 104, 101, 32, 110, 117, 109,
 	98, 101, 114, 32, 111, 102, 32, 116, 104, 101, 32, 108, 105, 110, 101, 44, 32, 116, 104, 101, 32, 99, 111, 108, 117,
 	109, 110, 44, 32, 116, 104, 101, 32, 102, 105, 101, 108, 100, 32, 105, 102, 32, 116, 104, 101, 32, 101, 114, 114, 111,
 	114, 32, 105, 115, 32, 105, 110, 32, 111, 110, 101, 44, 10, 97, 110, 100, 32, 116, 104, 101, 32, 114, 101, 97, 115,
@@ -889,15 +889,15 @@ static const ALIGN(1) byte tp_static_76[1362] = { 70, 111, 114, 32, 101, 97, 99,
 	97, 110, 100, 32, 110, 111, 116, 104, 105, 110, 103, 32, 105, 115, 32, 119, 114, 105, 116, 116, 101, 110, 46, 32, 73,
 	116, 32, 105, 115, 32, 49, 32, 105, 102, 32, 97, 32, 108, 105, 110, 101, 32, 105, 115, 32, 98, 97, 100, 44, 10, 111,
 	114, 32, 119, 105, 116, 104, 32, 96, 45, 45, 119, 104, 121, 96, 32, 105, 115, 32, 96, 110, 111, 45, 115, 117, 99, 104,
-	96, 44, 32, 97, 110, 100, 32, 97, 102, 116, 101, 114, 32, 97, 110, 32, 101, 114, 114, 111, 114, 32, 98, 101, 102, 111,
-	114, 101, 32, 116, 104, 101, 32, 115, 99, 114, 105, 112, 116, 32, 105, 115, 32, 114, 101, 97, 100, 46, 32, 73, 116,
-	32, 105, 115, 32, 50, 32, 97, 102, 116, 101, 114, 10, 97, 110, 121, 32, 111, 116, 104, 101, 114, 32, 101, 114, 114,
-	111, 114, 44, 32, 119, 104, 105, 99, 104, 32, 105, 115, 32, 111, 110, 101, 32, 108, 105, 110, 101, 32, 111, 110, 32,
-	115, 116, 97, 110, 100, 97, 114, 100, 32, 101, 114, 114, 111, 114, 32, 40, 96, 116, 111, 111, 32, 108, 111, 110, 103,
-	96, 44, 32, 96, 114, 101, 97, 100, 32, 102, 97, 105, 108, 101, 100, 96, 44, 10, 96, 119, 114, 105, 116, 101, 32, 102,
-	97, 105, 108, 101, 100, 96, 32, 111, 114, 32, 96, 111, 117, 116, 32, 111, 102, 32, 109, 101, 109, 111, 114, 121, 96,
-	41, 44, 32, 97, 110, 100, 32, 105, 102, 32, 116, 104, 101, 32, 97, 114, 103, 117, 109, 101, 110, 116, 115, 32, 97,
-	114, 101, 32, 114, 101, 102, 117, 115, 101, 100, 46 };
+	96, 46, 32, 73, 116, 32, 105, 115, 32, 49, 32, 97, 102, 116, 101, 114, 32, 97, 110, 32, 101, 114, 114, 111, 114, 32,
+	98, 101, 102, 111, 114, 101, 32, 116, 104, 101, 32, 115, 99, 114, 105, 112, 116, 32, 105, 115, 32, 114, 101, 97, 100,
+	44, 32, 97, 110, 100, 32, 50, 10, 97, 102, 116, 101, 114, 32, 97, 110, 121, 32, 111, 116, 104, 101, 114, 32, 101, 114,
+	114, 111, 114, 44, 32, 119, 104, 105, 99, 104, 32, 105, 115, 32, 111, 110, 101, 32, 108, 105, 110, 101, 32, 111, 110,
+	32, 115, 116, 97, 110, 100, 97, 114, 100, 32, 101, 114, 114, 111, 114, 32, 40, 96, 116, 111, 111, 32, 108, 111, 110,
+	103, 96, 44, 32, 96, 114, 101, 97, 100, 32, 102, 97, 105, 108, 101, 100, 96, 44, 10, 96, 119, 114, 105, 116, 101, 32,
+	102, 97, 105, 108, 101, 100, 96, 32, 111, 114, 32, 96, 111, 117, 116, 32, 111, 102, 32, 109, 101, 109, 111, 114, 121,
+	96, 41, 46, 32, 73, 116, 32, 105, 115, 32, 50, 32, 105, 102, 32, 116, 104, 101, 32, 97, 114, 103, 117, 109, 101, 110,
+	116, 115, 32, 97, 114, 101, 32, 114, 101, 102, 117, 115, 101, 100, 46 };
 static const ALIGN(1) byte tp_static_77[3] = { 119, 104, 121 };
 static const ALIGN(1) byte tp_static_78[2] = { 46, 46 };
 static const ALIGN(1) byte tp_static_79[4] = { 116, 114, 117, 101 };
@@ -1663,8 +1663,8 @@ static const ALIGN(1) byte tp_static_316[17] = { 32, 101, 120, 112, 105, 114, 10
 static const ALIGN(1) byte tp_static_317[21] = { 32, 119, 97, 115, 32, 115, 116, 111, 112, 112, 101, 100, 32, 98, 121, 32, 108, 105, 110, 101, 32 };
 static const ALIGN(1) byte tp_static_318[23] = { 32, 119, 97, 115, 32, 114, 101, 115, 116, 97, 114, 116, 101, 100, 32, 98, 121, 32, 108, 105, 110, 101, 32 };
 static const ALIGN(1) byte tp_static_319[21] = { 101, 114, 114, 111, 114, 58, 32, 111, 117, 116, 32, 111, 102, 32, 109, 101, 109, 111, 114, 121, 10 };
-static const ALIGN(1) byte tp_static_320[32] = { 101, 114, 114, 111, 114, 58, 32, 97, 110, 32, 97, 114, 103, 117, 109, 101, 110, 116, 32, 105, 115, 32, 110, 111, 116,
-	32, 85, 84, 70, 45, 56, 10 };
+static const ALIGN(1) byte tp_static_320[31] = { 101, 114, 114, 111, 114, 58, 32, 97, 110, 32, 97, 114, 103, 117, 109, 101, 110, 116, 32, 105, 115, 32, 110, 111, 116,
+	32, 85, 84, 70, 45, 56 };
 static void tp_clap_builder_command_Command_Destruct_drop(byte *p1);
 static void tp_Vec_truncate(byte *p1);
 static uint64_t tp_Command_depth(byte *p1);
@@ -3878,7 +3878,7 @@ L1:
 						memset(p20 + 240, 0, 96);
 						store64u(p20 + 336, 1);
 						storeptru(p20 + 344, (byte *)tp_static_76);
-						store64u(p20 + 352, 1362);
+						store64u(p20 + 352, 1368);
 						storeptru(p20 + 360, p2);
 						storeptru(p20 + 384, p2);
 						storeptru(p20 + 408, p2);
@@ -50513,8 +50513,8 @@ static COLD uint8_t tp_Formatter_write_indented(byte *p1, byte *p2, uint64_t n3)
 	return n21;
 }
 
-/* timer_commands::error_report::report: crates/timer_commands/src/error_report.rt */
-static void tp_timer_commands_error_report_report(uint8_t n1, uint64_t n2, byte *p3)
+/* timer_commands::ending::report: crates/timer_commands/src/ending.rt */
+static void tp_timer_commands_ending_report_4(uint8_t n1, uint64_t n2, byte *p3)
 {
 	ALIGN(1) byte p4[24];
 	ALIGN(8) byte p5[144];
@@ -52665,8 +52665,8 @@ L4:
 	}
 }
 
-/* timer_commands::error_report::report: crates/timer_commands/src/error_report.rt */
-static void tp_timer_commands_error_report_report_2(uint8_t n1, uint64_t n2, byte *p3)
+/* timer_commands::ending::report: crates/timer_commands/src/ending.rt */
+static void tp_timer_commands_ending_report_5(uint8_t n1, uint64_t n2, byte *p3)
 {
 	ALIGN(1) byte p4[24];
 	ALIGN(8) byte p5[144];
@@ -53584,7 +53584,7 @@ L14:
 		}
 L16:
 		{
-			tp_timer_commands_error_report_report(n215, n216, p4);
+			tp_timer_commands_ending_report_4(n215, n216, p4);
 			return 1;
 		}
 	}
@@ -53850,7 +53850,7 @@ L23:
 						if (load8(p35 + 8) == 1) {
 							n270 = load64u(p35 + 16);
 							n271 = 1;
-							n272 = 1;
+							n272 = 3;
 							b273 = true;
 						} else {
 							if (load64(p43 + 8) != 0)
@@ -53859,7 +53859,7 @@ L23:
 							if ((n274 & 1) != 0) {
 								n270 = 0;
 								n271 = 2;
-								n272 = 1;
+								n272 = 3;
 								b273 = true;
 							} else {
 								byte *p275 = loadptr(p43);
@@ -53879,7 +53879,7 @@ L23:
 								}
 								n270 = 0;
 								n271 = 0;
-								n272 = (uint8_t)(load8(p45 + 88) ^ 1);
+								n272 = (uint8_t)(((load8(p45 + 88) & 1) != 0) ? 0 : 3);
 								b273 = false;
 								goto L26;
 L25:
@@ -53887,7 +53887,7 @@ L25:
 									store8(p3 + 1, 1);
 									n270 = 0;
 									n271 = 3;
-									n272 = 1;
+									n272 = 3;
 									b273 = true;
 								}
 							}
@@ -53895,7 +53895,7 @@ L25:
 					} else {
 						n270 = 0;
 						n271 = 2;
-						n272 = 1;
+						n272 = 3;
 						b273 = true;
 					}
 L26:
@@ -54026,7 +54026,7 @@ L24:
 			}
 L27:
 			{
-				tp_timer_commands_error_report_report_2(n286, n285, p4);
+				tp_timer_commands_ending_report_5(n286, n285, p4);
 				return 1;
 			}
 		}
@@ -54214,7 +54214,7 @@ L33:
 					if (load8(p22 + 8) == 1) {
 						n335 = load64u(p22 + 16);
 						n336 = 1;
-						n337 = 1;
+						n337 = 3;
 						b338 = true;
 					} else {
 						if (load64(p30 + 8) != 0)
@@ -54223,7 +54223,7 @@ L33:
 						if ((n339 & 1) != 0) {
 							n335 = 0;
 							n336 = 2;
-							n337 = 1;
+							n337 = 3;
 							b338 = true;
 						} else {
 							byte *p340 = loadptr(p30);
@@ -54243,7 +54243,7 @@ L33:
 							}
 							n335 = 0;
 							n336 = 0;
-							n337 = (uint8_t)(load8(p32 + 88) ^ 1);
+							n337 = (uint8_t)(((load8(p32 + 88) & 1) != 0) ? 0 : 3);
 							b338 = false;
 							goto L36;
 L35:
@@ -54251,7 +54251,7 @@ L35:
 								store8(p3 + 1, 1);
 								n335 = 0;
 								n336 = 3;
-								n337 = 1;
+								n337 = 3;
 								b338 = true;
 							}
 						}
@@ -54259,7 +54259,7 @@ L35:
 				} else {
 					n335 = 0;
 					n336 = 2;
-					n337 = 1;
+					n337 = 3;
 					b338 = true;
 				}
 L36:
@@ -54419,7 +54419,7 @@ L34:
 		}
 L37:
 		{
-			tp_timer_commands_error_report_report_2(n351, n350, p4);
+			tp_timer_commands_ending_report_5(n351, n350, p4);
 			return 1;
 		}
 	}
@@ -54960,7 +54960,7 @@ L56:
 					if (load8(p7 + 8) == 1) {
 						n475 = load64u(p7 + 16);
 						n476 = 1;
-						n477 = 1;
+						n477 = 3;
 						b478 = true;
 					} else {
 						if (load64(p17 + 8) != 0)
@@ -54969,7 +54969,7 @@ L56:
 						if ((n479 & 1) != 0) {
 							n475 = 0;
 							n476 = 2;
-							n477 = 1;
+							n477 = 3;
 							b478 = true;
 						} else {
 							byte *p480 = loadptr(p17);
@@ -54989,7 +54989,7 @@ L56:
 							}
 							n475 = 0;
 							n476 = 0;
-							n477 = (uint8_t)(load8(p19 + 88) ^ 1);
+							n477 = (uint8_t)(((load8(p19 + 88) & 1) != 0) ? 0 : 3);
 							b478 = false;
 							goto L59;
 L58:
@@ -54997,7 +54997,7 @@ L58:
 								store8(p3 + 1, 1);
 								n475 = 0;
 								n476 = 3;
-								n477 = 1;
+								n477 = 3;
 								b478 = true;
 							}
 						}
@@ -55005,7 +55005,7 @@ L58:
 				} else {
 					n475 = 0;
 					n476 = 2;
-					n477 = 1;
+					n477 = 3;
 					b478 = true;
 				}
 L59:
@@ -55136,7 +55136,7 @@ L57:
 		}
 L60:
 		{
-			tp_timer_commands_error_report_report_2(n491, n490, p4);
+			tp_timer_commands_ending_report_5(n491, n490, p4);
 			return 1;
 		}
 	}
@@ -59380,7 +59380,7 @@ L14:
 		}
 L16:
 		{
-			tp_timer_commands_error_report_report(n241, n242, p4);
+			tp_timer_commands_ending_report_4(n241, n242, p4);
 			return 1;
 		}
 	}
@@ -59661,7 +59661,7 @@ L23:
 						if (load8(p36 + 8) == 1) {
 							n299 = load64u(p36 + 16);
 							n300 = 1;
-							n301 = 1;
+							n301 = 3;
 							b302 = true;
 						} else {
 							uint64_t n313;
@@ -59695,7 +59695,7 @@ L23:
 							if ((n315 & 1) != 0) {
 								n299 = 0;
 								n300 = 2;
-								n301 = 1;
+								n301 = 3;
 								b302 = true;
 							} else {
 								byte *p316 = loadptr(p45);
@@ -59715,7 +59715,7 @@ L23:
 								}
 								n299 = 0;
 								n300 = 0;
-								n301 = (uint8_t)(load8(p47 + 88) ^ 1);
+								n301 = (uint8_t)(((load8(p47 + 88) & 1) != 0) ? 0 : 3);
 								b302 = false;
 								goto L26;
 L25:
@@ -59723,7 +59723,7 @@ L25:
 									store8(p3 + 1, 1);
 									n299 = 0;
 									n300 = 3;
-									n301 = 1;
+									n301 = 3;
 									b302 = true;
 								}
 							}
@@ -59731,7 +59731,7 @@ L25:
 					} else {
 						n299 = 0;
 						n300 = 2;
-						n301 = 1;
+						n301 = 3;
 						b302 = true;
 					}
 L26:
@@ -59878,7 +59878,7 @@ L24:
 			}
 L27:
 			{
-				tp_timer_commands_error_report_report_2(n329, n328, p4);
+				tp_timer_commands_ending_report_5(n329, n328, p4);
 				return 1;
 			}
 		}
@@ -60077,7 +60077,7 @@ L33:
 					if (load8(p22 + 8) == 1) {
 						n386 = load64u(p22 + 16);
 						n387 = 1;
-						n388 = 1;
+						n388 = 3;
 						b389 = true;
 					} else {
 						uint64_t n400;
@@ -60111,7 +60111,7 @@ L33:
 						if ((n402 & 1) != 0) {
 							n386 = 0;
 							n387 = 2;
-							n388 = 1;
+							n388 = 3;
 							b389 = true;
 						} else {
 							byte *p403 = loadptr(p31);
@@ -60131,7 +60131,7 @@ L33:
 							}
 							n386 = 0;
 							n387 = 0;
-							n388 = (uint8_t)(load8(p33 + 88) ^ 1);
+							n388 = (uint8_t)(((load8(p33 + 88) & 1) != 0) ? 0 : 3);
 							b389 = false;
 							goto L36;
 L35:
@@ -60139,7 +60139,7 @@ L35:
 								store8(p3 + 1, 1);
 								n386 = 0;
 								n387 = 3;
-								n388 = 1;
+								n388 = 3;
 								b389 = true;
 							}
 						}
@@ -60147,7 +60147,7 @@ L35:
 				} else {
 					n386 = 0;
 					n387 = 2;
-					n388 = 1;
+					n388 = 3;
 					b389 = true;
 				}
 L36:
@@ -60327,7 +60327,7 @@ L34:
 		}
 L37:
 		{
-			tp_timer_commands_error_report_report_2(n416, n415, p4);
+			tp_timer_commands_ending_report_5(n416, n415, p4);
 			return 1;
 		}
 	}
@@ -60618,15 +60618,15 @@ L47:
 								store8(inside(loadptr(p17), n507), 58);
 								store64(p17 + 8, n507 + 1);
 								uint64_t n508 = load64(p18 + 56);
-								uint64_t n509 = n492;
-								uint64_t n510 = 0;
-								bool b511 = true;
-								while (n510 != n508) {
+								bool b509 = true;
+								uint64_t n510 = n492;
+								uint64_t n511 = 0;
+								while (n511 != n508) {
 									uint8_t n515, n516;
-									if (!b511)
+									if (!b509)
 										break;
-									byte *p512 = at(loadptr(p18 + 32), n509 * 56);
-									if (n509 >= load64(p18 + 40))
+									byte *p512 = at(loadptr(p18 + 32), n510 * 56);
+									if (n510 >= load64(p18 + 40))
 										break;
 									if (load8(p512) != 1)
 										break;
@@ -60651,10 +60651,10 @@ L47:
 L48:
 									{
 										uint64_t n517 = load64(p18 + 96);
-										uint64_t n518 = (uint64_t)load32(at(loadptr(p18 + 72), (n517 + n509) << 3) + 4);
-										n509 = usub_sat64(n518, n517);
-										n510 = n510 + 1;
-										b511 = n517 <= n518;
+										uint64_t n518 = (uint64_t)load32(at(loadptr(p18 + 72), (n517 + n510) << 3) + 4);
+										b509 = n517 <= n518;
+										n510 = usub_sat64(n518, n517);
+										n511 = n511 + 1;
 									}
 								}
 								uint64_t n519 = load64(p17 + 8);
@@ -60826,7 +60826,7 @@ L51:
 					if (load8(p7 + 8) == 1) {
 						n548 = load64u(p7 + 16);
 						n549 = 1;
-						n550 = 1;
+						n550 = 3;
 						b551 = true;
 					} else {
 						uint64_t n562;
@@ -60860,7 +60860,7 @@ L51:
 						if ((n564 & 1) != 0) {
 							n548 = 0;
 							n549 = 2;
-							n550 = 1;
+							n550 = 3;
 							b551 = true;
 						} else {
 							byte *p565 = loadptr(p17);
@@ -60880,7 +60880,7 @@ L51:
 							}
 							n548 = 0;
 							n549 = 0;
-							n550 = (uint8_t)(load8(p19 + 88) ^ 1);
+							n550 = (uint8_t)(((load8(p19 + 88) & 1) != 0) ? 0 : 3);
 							b551 = false;
 							goto L54;
 L53:
@@ -60888,7 +60888,7 @@ L53:
 								store8(p3 + 1, 1);
 								n548 = 0;
 								n549 = 3;
-								n550 = 1;
+								n550 = 3;
 								b551 = true;
 							}
 						}
@@ -60896,7 +60896,7 @@ L53:
 				} else {
 					n548 = 0;
 					n549 = 2;
-					n550 = 1;
+					n550 = 3;
 					b551 = true;
 				}
 L54:
@@ -61043,7 +61043,7 @@ L52:
 		}
 L55:
 		{
-			tp_timer_commands_error_report_report_2(n578, n577, p4);
+			tp_timer_commands_ending_report_5(n578, n577, p4);
 			return 1;
 		}
 	}
@@ -61053,124 +61053,54 @@ L55:
 	}
 }
 
-/* std::io::traits::Write::write_fmt */
-static void tp_io_traits_Write_write_fmt(byte *p1, byte *p2, byte *p3)
+/* timer_commands::ending::report: crates/timer_commands/src/ending.rt */
+static uint8_t tp_timer_commands_ending_report_2(uint8_t n1, uint8_t n2, byte *p3)
 {
-	ALIGN(8) byte p4[64];
-	ALIGN(8) byte p5[64];
-	ALIGN(8) byte p8[144];
-	uint8_t n11, n14, n25, n26, n27, n28, n29;
-	uint32_t n30;
-	uint64_t n31, n32;
-	byte *p6 = loadptru(p3 + 8);
-	uint64_t n7 = load64u(p3 + 16);
-	byte *p9 = loadptru(p3);
-	memset(p5, 0, 64);
-	store64u(p8, (uint64_t)(uintptr_t)p2);
-	memset(p8 + 8, 0, 96);
-	store32u(p8 + 104, 32);
-	memset(p8 + 108, 0, 12);
-	store64u(p8 + 120, UINT64_MAX);
-	memset(p8 + 128, 0, 16);
-	store32u(p8 + 104, 32);
-	memset(p8 + 108, 0, 12);
-	store64u(p8 + 120, UINT64_MAX);
-	store32u(p8 + 104, 32);
-	memset(p8 + 108, 0, 12);
-	store64u(p8 + 120, UINT64_MAX);
-	switch (MOSTLY_0(load8(p9))) {
+	ALIGN(8) byte p4[144];
+	uint8_t n6;
+	store64u(p4, (uint64_t)(uintptr_t)p3);
+	memset(p4 + 8, 0, 96);
+	memset(p4 + 128, 0, 16);
+	switch (MOSTLY_0(n1)) {
 	case 0: {
-		store32u(p8 + 104, 32);
-		memset(p8 + 108, 0, 12);
-		store64u(p8 + 120, UINT64_MAX);
-		uint8_t n10 = tp_AdapterWrite_write_str(p8, (byte *)tp_static_285, 35);
-		n11 = n10;
+		store32u(p4 + 104, 32);
+		memset(p4 + 108, 0, 12);
+		store64u(p4 + 120, UINT64_MAX);
+		uint8_t n5 = tp_AdapterWrite_write_str(p4, (byte *)tp_static_285, 35);
+		n6 = n5;
 		break;
 	}
 	case 1: {
-		store32u(p8 + 104, 32);
-		memset(p8 + 108, 0, 12);
-		store64u(p8 + 120, UINT64_MAX);
-		uint8_t n12 = tp_AdapterWrite_write_str(p8, (byte *)tp_static_286, 30);
-		n11 = n12;
+		store32u(p4 + 104, 32);
+		memset(p4 + 108, 0, 12);
+		store64u(p4 + 120, UINT64_MAX);
+		uint8_t n7 = tp_AdapterWrite_write_str(p4, (byte *)tp_static_286, 30);
+		n6 = n7;
 		break;
 	}
 	case 2: {
-		store32u(p8 + 104, 32);
-		memset(p8 + 108, 0, 12);
-		store64u(p8 + 120, UINT64_MAX);
-		uint8_t n13 = tp_AdapterWrite_write_str(p8, (byte *)tp_static_247, 13);
-		n11 = n13;
+		store32u(p4 + 104, 32);
+		memset(p4 + 108, 0, 12);
+		store64u(p4 + 120, UINT64_MAX);
+		uint8_t n8 = tp_AdapterWrite_write_str(p4, (byte *)tp_static_247, 13);
+		n6 = n8;
 		break;
 	}
 	default: {
 		UNREACHABLE();
 	}
 	}
-	if ((n11 & 1) != 0) {
-		n14 = 1;
-	} else {
-		store32u(p8 + 104, 32);
-		memset(p8 + 108, 0, 12);
-		store64u(p8 + 120, UINT64_MAX);
-		if (load64(p8 + 128) == 0) {
-			uint8_t n15 = tp_AdapterWrite_write_str(p8, p6, n7);
-			n14 = n15;
-		} else {
-			uint8_t n16 = tp_Formatter_write_indented(p8, p6, n7);
-			n14 = n16;
-		}
+	if ((n6 & 1) != 0)
+		return n2;
+	store32u(p4 + 104, 32);
+	memset(p4 + 108, 0, 12);
+	store64u(p4 + 120, UINT64_MAX);
+	if (load64(p4 + 128) == 0) {
+		(void)tp_AdapterWrite_write_str(p4, (byte *)tp_static_110, 1);
+		return n2;
 	}
-	uint8_t n17 = load8(p8 + 16);
-	uint8_t n18 = load8(p8 + 17);
-	uint8_t n19 = load8(p8 + 18);
-	uint8_t n20 = load8(p8 + 19);
-	uint32_t n21 = load32u(p8 + 20);
-	uint64_t n22 = load64u(p8 + 24);
-	uint64_t n23 = load64u(p8 + 32);
-	uint8_t n24 = (uint8_t)load64u(p8 + 8);
-	memset(p4, 0, 64);
-	if (n24 == 1) {
-		memcpy(p4, p8 + 40, 64);
-		n25 = 1;
-		n26 = n17;
-		n27 = n18;
-		n28 = n19;
-		n29 = n20;
-		n30 = n21;
-		n31 = n22;
-		n32 = n23;
-	} else if ((n14 & 1) != 0) {
-		memset(p4, 46, 64);
-		n25 = 1;
-		n26 = 2;
-		n27 = 41;
-		n28 = 15;
-		n29 = 0;
-		n30 = 0;
-		n31 = UINT64_C(7310596056926023526);
-		n32 = UINT64_C(3346860010425884786);
-	} else {
-		n25 = 0;
-		n26 = 0;
-		n27 = 0;
-		n28 = 0;
-		n29 = 0;
-		n30 = 0;
-		n31 = 0;
-		n32 = 0;
-	}
-	memcpy(p5, p4, 64);
-	store8(p1, n25);
-	store8(p1 + 8, n26);
-	store8(p1 + 9, n27);
-	store8(p1 + 10, n28);
-	store8(p1 + 11, n29);
-	store32u(p1 + 12, n30);
-	store64u(p1 + 16, n31);
-	store64u(p1 + 24, n32);
-	memcpy(p1 + 32, p5, 64);
-	return;
+	(void)tp_Formatter_write_indented(p4, (byte *)tp_static_110, 1);
+	return n2;
 }
 
 /* timer_wheels::buckets::Buckets::new: crates/timer_wheels/src/buckets.rt */
@@ -65866,40 +65796,51 @@ L1:
 }
 
 /* timer_commands::render::push_name: crates/timer_commands/src/render.rt */
-static uint8_t tp_render_push_name(byte *p1, uint64_t n2, uint8_t n3)
+static uint8_t tp_render_push_name(byte *p1, uint64_t n2, uint8_t n3, uint8_t n4)
 {
 	switch (n3) {
-	case 4: {
+	case 3: {
 		if (n2 < 60) {
-			uint8_t n4 = tp_render_push_number(p1, (byte *)tp_static_289, 8, n2);
-			return n4;
-		}
-		if (n2 < 120) {
-			uint8_t n5 = tp_render_push_number(p1, (byte *)tp_static_290, 8, n2 - 60);
+			uint8_t n5 = tp_render_push_number(p1, (byte *)tp_static_289, 8, n2);
 			return n5;
 		}
-		if (n2 < 144) {
-			uint8_t n6 = tp_render_push_number(p1, (byte *)tp_static_291, 6, n2 - 120);
+		if (n2 < 120) {
+			uint8_t n6 = tp_render_push_number(p1, (byte *)tp_static_290, 8, n2 - 60);
 			return n6;
 		}
-		uint8_t n7 = tp_render_push_number(p1, (byte *)tp_static_292, 5, n2 - 144);
-		return n7;
+		if (n2 < 144) {
+			uint8_t n7 = tp_render_push_number(p1, (byte *)tp_static_291, 6, n2 - 120);
+			return n7;
+		}
+		uint8_t n8 = tp_render_push_number(p1, (byte *)tp_static_292, 5, n2 - 144);
+		return n8;
 	}
 	case 1: {
-		uint8_t n8 = tp_render_push_number(p1, (byte *)tp_static_288, 7, n2 >> 6);
-		if ((n8 & 1) != 0)
-			return 1;
-		uint8_t n9 = tp_render_push_number(p1, (byte *)tp_static_287, 6, n2 & 63);
-		return n9;
-	}
-	case 2: {
-		uint8_t n10 = tp_render_push_number(p1, (byte *)tp_static_288, 7, n2 >> 4);
+		uint64_t n9;
+		switch (MOSTLY_0(n4)) {
+		case 0: {
+			n9 = 64;
+			break;
+		}
+		case 1: {
+			n9 = 60;
+			break;
+		}
+		case 2: {
+			n9 = 16;
+			break;
+		}
+		default: {
+			UNREACHABLE();
+		}
+		}
+		uint8_t n10 = tp_render_push_number(p1, (byte *)tp_static_288, 7, n2 / n9);
 		if ((n10 & 1) != 0)
 			return 1;
-		uint8_t n11 = tp_render_push_number(p1, (byte *)tp_static_287, 6, n2 & 15);
+		uint8_t n11 = tp_render_push_number(p1, (byte *)tp_static_287, 6, n2 % n9);
 		return n11;
 	}
-	case 3: {
+	case 2: {
 		uint8_t n12 = tp_render_push_number(p1, (byte *)tp_static_288, 7, n2 >> 7);
 		if ((n12 & 1) != 0)
 			return 1;
@@ -65913,75 +65854,75 @@ static uint8_t tp_render_push_name(byte *p1, uint64_t n2, uint8_t n3)
 }
 
 /* timer_commands::render::push_list: crates/timer_commands/src/render.rt */
-static uint8_t tp_render_push_list(byte *p1, byte *p2, uint64_t n3, uint64_t n4, uint8_t n5, byte *p6)
+static uint8_t tp_render_push_list(byte *p1, byte *p2, uint64_t n3, uint64_t n4, uint8_t n5, uint8_t n6, byte *p7)
 {
-	uint64_t n15, n27;
-	uint8_t n7 = load8(p6);
-	uint64_t n8 = load64u(p6 + 8);
-	uint8_t n9 = load8(p6 + 16);
-	uint64_t n10 = load64u(p6 + 24);
-	uint64_t n11 = load64u(p6 + 32);
-	uint8_t n12 = tp_render_push_name(p1, n3, n5);
-	if ((n12 & 1) != 0)
+	uint64_t n16, n28;
+	uint8_t n8 = load8(p7);
+	uint64_t n9 = load64u(p7 + 8);
+	uint8_t n10 = load8(p7 + 16);
+	uint64_t n11 = load64u(p7 + 24);
+	uint64_t n12 = load64u(p7 + 32);
+	uint8_t n13 = tp_render_push_name(p1, n3, n5, n6);
+	if ((n13 & 1) != 0)
 		return 1;
-	uint64_t n13 = load64(p1 + 8);
-	if (load64(p1 + 16) == n13) {
-		bool b14 = tp_std_alloc_vec_Vec_grow_amortized_6(p1, 1);
-		if (!b14)
+	uint64_t n14 = load64(p1 + 8);
+	if (load64(p1 + 16) == n14) {
+		bool b15 = tp_std_alloc_vec_Vec_grow_amortized_6(p1, 1);
+		if (!b15)
 			return 1;
-		n15 = load64(p1 + 8);
+		n16 = load64(p1 + 8);
 	} else {
-		n15 = n13;
+		n16 = n14;
 	}
-	store8(inside(loadptr(p1), n15), 58);
-	store64(p1 + 8, n15 + 1);
-	uint64_t n16 = load64(p2 + 24);
-	uint64_t n17 = n4;
-	uint64_t n18 = 0;
-	bool b19 = true;
-	while (n18 != n16) {
-		uint8_t n22;
-		if (!b19)
+	store8(inside(loadptr(p1), n16), 58);
+	store64(p1 + 8, n16 + 1);
+	uint64_t n17 = load64(p2 + 24);
+	uint64_t n18 = n4;
+	uint64_t n19 = 0;
+	bool b20 = true;
+	while (n19 != n17) {
+		uint8_t n23;
+		if (!b20)
 			break;
-		byte *p20 = at(loadptr(p2), n17 * 48);
-		if (n17 >= load64(p2 + 8))
+		byte *p21 = at(loadptr(p2), n18 * 48);
+		if (n18 >= load64(p2 + 8))
 			break;
-		if (load8(p20) != 1)
+		if (load8(p21) != 1)
 			break;
-		uint64_t n21 = load64u(p20 + 8);
-		if (n7 == 1) {
-			if (n8 != load64u(p20 + 16))
+		uint64_t n22 = load64u(p21 + 8);
+		if (n8 == 1) {
+			if (n9 != load64u(p21 + 16))
 				goto L1;
 		}
-		if (n9 == 1) {
-			if ((n10 != n21) || (n11 > n21))
+		if (n10 == 1) {
+			if ((n11 != n22) || (n12 > n22))
 				goto L1;
-		} else if (n11 > n21) {
+		} else if (n12 > n22) {
 			goto L1;
 		}
-		n22 = tp_render_push_number(p1, (byte *)tp_static_93, 1, n21);
-		if ((n22 & 1) != 0)
+		n23 = tp_render_push_number(p1, (byte *)tp_static_93, 1, n22);
+		if ((n23 & 1) != 0)
 			return 1;
 L1:
 		{
-			uint64_t n23 = load64(p2 + 64);
-			uint64_t n24 = (uint64_t)load32(at(loadptr(p2 + 40), (n23 + n17) << 3) + 4);
-			n17 = usub_sat64(n24, n23);
-			n18 = n18 + 1;
-			b19 = n23 <= n24;
+			uint64_t n24 = load64(p2 + 64);
+			uint64_t n25 = (uint64_t)load32(at(loadptr(p2 + 40), (n24 + n18) << 3) + 4);
+			n18 = usub_sat64(n25, n24);
+			n19 = n19 + 1;
+			b20 = n24 <= n25;
 		}
 	}
-	uint64_t n25 = load64(p1 + 8);
-	if (load64(p1 + 16) == n25) {
-		bool b26 = tp_std_alloc_vec_Vec_grow_amortized_6(p1, 1);
-		if (!b26)
+	uint64_t n26 = load64(p1 + 8);
+	if (load64(p1 + 16) == n26) {
+		bool b27 = tp_std_alloc_vec_Vec_grow_amortized_6(p1, 1);
+		if (!b27)
 			return 1;
-		n27 = load64(p1 + 8);
+		n28 = load64(p1 + 8);
 	} else {
-		n27 = n25;
+		n28 = n26;
 	}
-	store8(inside(loadptr(p1), n27), 10);
-	store64(p1 + 8, n27 + 1);
+	store8(inside(loadptr(p1), n28), 10);
+	store64(p1 + 8, n28 + 1);
 	return 0;
 }
 
@@ -66013,87 +65954,87 @@ static uint8_t tp_render_push_work(byte *p1, uint64_t n2, uint64_t n3, uint64_t 
 }
 
 /* timer_commands::render::push_lists: crates/timer_commands/src/render.rt */
-static uint8_t tp_render_push_lists(byte *p1, byte *p2, uint8_t n3, byte *p4)
+static uint8_t tp_render_push_lists(byte *p1, byte *p2, uint8_t n3, uint8_t n4, byte *p5)
 {
-	ALIGN(8) byte p5[40];
-	memcpy(p5, p4, 40);
-	uint64_t n6 = load64(p2 + 64);
-	uint64_t n7 = 0;
+	ALIGN(8) byte p6[40];
+	memcpy(p6, p5, 40);
+	uint64_t n7 = load64(p2 + 64);
+	uint64_t n8 = 0;
 	for (;;) {
-		if (n7 == n6)
+		if (n8 == n7)
 			return 0;
-		uint8_t n8 = load8(p5);
-		uint64_t n9 = load64u(p5 + 8);
-		uint8_t n10 = load8(p5 + 16);
-		uint64_t n11 = load64u(p5 + 24);
-		uint64_t n12 = load64u(p5 + 32);
-		byte *p13 = loadptr(p2 + 40);
-		uint64_t n14 = load64(p2 + 64);
-		uint64_t n15 = (uint64_t)load32(at(p13, n7 << 3));
-		uint64_t n16 = load64(p2 + 24);
-		uint8_t n17 = 0;
-		uint64_t n18 = 0;
-		uint64_t n19 = n15;
-		uint64_t n20 = usub_sat64(n15, n14);
-		uint64_t n21 = 0;
-		while (n21 != n16) {
-			uint8_t n25;
-			uint64_t n26;
-			if (n14 > n19)
+		uint8_t n9 = load8(p6);
+		uint64_t n10 = load64u(p6 + 8);
+		uint8_t n11 = load8(p6 + 16);
+		uint64_t n12 = load64u(p6 + 24);
+		uint64_t n13 = load64u(p6 + 32);
+		byte *p14 = loadptr(p2 + 40);
+		uint64_t n15 = load64(p2 + 64);
+		uint64_t n16 = (uint64_t)load32(at(p14, n8 << 3));
+		uint64_t n17 = load64(p2 + 24);
+		uint8_t n18 = 0;
+		uint64_t n19 = 0;
+		uint64_t n20 = n16;
+		uint64_t n21 = usub_sat64(n16, n15);
+		uint64_t n22 = 0;
+		while (n22 != n17) {
+			uint8_t n26;
+			uint64_t n27;
+			if (n15 > n20)
 				break;
-			byte *p22 = at(loadptr(p2), n20 * 48);
-			if (n20 >= load64(p2 + 8))
+			byte *p23 = at(loadptr(p2), n21 * 48);
+			if (n21 >= load64(p2 + 8))
 				break;
-			if (load8(p22) != 1)
+			if (load8(p23) != 1)
 				break;
-			uint64_t n23 = load64u(p22 + 8);
-			uint64_t n24 = load64u(p22 + 16);
-			if (n23 < n12)
+			uint64_t n24 = load64u(p23 + 8);
+			uint64_t n25 = load64u(p23 + 16);
+			if (n24 < n13)
 				break;
-			if (n8 == 1) {
-				if (n9 != n24) {
-					n25 = n17;
+			if (n9 == 1) {
+				if (n10 != n25) {
 					n26 = n18;
+					n27 = n19;
 					goto L1;
 				}
 			}
-			if (n10 == 1) {
-				if (n11 != n23) {
-					n25 = n17;
+			if (n11 == 1) {
+				if (n12 != n24) {
 					n26 = n18;
+					n27 = n19;
 					goto L1;
 				}
 			}
-			n25 = 1;
-			n26 = n20;
+			n26 = 1;
+			n27 = n21;
 L1:
 			{
-				uint64_t n27 = (uint64_t)load32(at(p13, (n14 + n20) << 3));
-				n17 = n25;
+				uint64_t n28 = (uint64_t)load32(at(p14, (n15 + n21) << 3));
 				n18 = n26;
 				n19 = n27;
-				n20 = usub_sat64(n27, n14);
-				n21 = n21 + 1;
+				n20 = n28;
+				n21 = usub_sat64(n28, n15);
+				n22 = n22 + 1;
 			}
 		}
-		if (n17 == 1) {
-			uint64_t n30;
-			uint64_t n28 = load64(p1 + 8);
-			if (load64(p1 + 16) == n28) {
-				bool b29 = tp_std_alloc_vec_Vec_grow_amortized_6(p1, 1);
-				if (!b29)
+		if (n18 == 1) {
+			uint64_t n31;
+			uint64_t n29 = load64(p1 + 8);
+			if (load64(p1 + 16) == n29) {
+				bool b30 = tp_std_alloc_vec_Vec_grow_amortized_6(p1, 1);
+				if (!b30)
 					return 1;
-				n30 = load64(p1 + 8);
+				n31 = load64(p1 + 8);
 			} else {
-				n30 = n28;
+				n31 = n29;
 			}
-			store8(inside(loadptr(p1), n30), 32);
-			store64(p1 + 8, n30 + 1);
-			uint8_t n31 = tp_render_push_list(p1, p2, n7, n18, n3, p5);
-			if ((n31 & 1) != 0)
+			store8(inside(loadptr(p1), n31), 32);
+			store64(p1 + 8, n31 + 1);
+			uint8_t n32 = tp_render_push_list(p1, p2, n8, n19, n3, n4, p6);
+			if ((n32 & 1) != 0)
 				return 1;
 		}
-		n7 = n7 + 1;
+		n8 = n8 + 1;
 	}
 }
 
@@ -67006,7 +66947,7 @@ L14:
 		}
 L16:
 		{
-			tp_timer_commands_error_report_report(n259, n260, p4);
+			tp_timer_commands_ending_report_4(n259, n260, p4);
 			return 1;
 		}
 	}
@@ -67277,7 +67218,7 @@ L23:
 						if (load8(p40 + 8) == 1) {
 							n314 = load64u(p40 + 16);
 							n315 = 1;
-							n316 = 1;
+							n316 = 3;
 							b317 = true;
 						} else {
 							uint64_t n328;
@@ -67311,7 +67252,7 @@ L23:
 							if ((n330 & 1) != 0) {
 								n314 = 0;
 								n315 = 2;
-								n316 = 1;
+								n316 = 3;
 								b317 = true;
 							} else {
 								byte *p331 = loadptr(p50);
@@ -67331,7 +67272,7 @@ L23:
 								}
 								n314 = 0;
 								n315 = 0;
-								n316 = (uint8_t)(load8(p52 + 88) ^ 1);
+								n316 = (uint8_t)(((load8(p52 + 88) & 1) != 0) ? 0 : 3);
 								b317 = false;
 								goto L26;
 L25:
@@ -67339,7 +67280,7 @@ L25:
 									store8(p3 + 1, 1);
 									n314 = 0;
 									n315 = 3;
-									n316 = 1;
+									n316 = 3;
 									b317 = true;
 								}
 							}
@@ -67347,7 +67288,7 @@ L25:
 					} else {
 						n314 = 0;
 						n315 = 2;
-						n316 = 1;
+						n316 = 3;
 						b317 = true;
 					}
 L26:
@@ -67510,7 +67451,7 @@ L24:
 			}
 L27:
 			{
-				tp_timer_commands_error_report_report_2(n346, n345, p4);
+				tp_timer_commands_ending_report_5(n346, n345, p4);
 				return 1;
 			}
 		}
@@ -67720,7 +67661,7 @@ L33:
 					if (load8(p25 + 8) == 1) {
 						n411 = load64u(p25 + 16);
 						n412 = 1;
-						n413 = 1;
+						n413 = 3;
 						b414 = true;
 					} else {
 						uint64_t n425;
@@ -67754,7 +67695,7 @@ L33:
 						if ((n427 & 1) != 0) {
 							n411 = 0;
 							n412 = 2;
-							n413 = 1;
+							n413 = 3;
 							b414 = true;
 						} else {
 							byte *p428 = loadptr(p35);
@@ -67774,7 +67715,7 @@ L33:
 							}
 							n411 = 0;
 							n412 = 0;
-							n413 = (uint8_t)(load8(p37 + 88) ^ 1);
+							n413 = (uint8_t)(((load8(p37 + 88) & 1) != 0) ? 0 : 3);
 							b414 = false;
 							goto L36;
 L35:
@@ -67782,7 +67723,7 @@ L35:
 								store8(p3 + 1, 1);
 								n411 = 0;
 								n412 = 3;
-								n413 = 1;
+								n413 = 3;
 								b414 = true;
 							}
 						}
@@ -67790,7 +67731,7 @@ L35:
 				} else {
 					n411 = 0;
 					n412 = 2;
-					n413 = 1;
+					n413 = 3;
 					b414 = true;
 				}
 L36:
@@ -67990,13 +67931,13 @@ L34:
 		}
 L37:
 		{
-			tp_timer_commands_error_report_report_2(n443, n442, p4);
+			tp_timer_commands_ending_report_5(n443, n442, p4);
 			return 1;
 		}
 	}
 	case 2: {
-		uint8_t n477, n614;
-		uint64_t n478, n613;
+		uint8_t n477, n618;
+		uint64_t n478, n617;
 		memcpy(p15, p2, 40);
 		memcpy(p16, p2 + 64, 16);
 		memcpy(p17, p2 + 104, 104);
@@ -68023,9 +67964,9 @@ L37:
 				n478 = 0;
 			}
 		} else {
-			uint64_t n484, n542, n543, n561, n563, n565, n567;
-			uint8_t n558;
-			byte *p560, *p562, *p564, *p566;
+			uint64_t n484, n544, n545, n565, n567, n569, n571;
+			uint8_t n562;
+			byte *p564, *p566, *p568, *p570;
 			byte *p479 = (byte *)(uintptr_t)s476.f1;
 			uint64_t n480 = 0;
 			while (n480 != 16383) {
@@ -68119,8 +68060,8 @@ L37:
 						}
 						}
 						while (n496 != 0) {
-							uint64_t n499, n502, n506, n507;
-							uint8_t n505;
+							uint64_t n499, n502, n508, n509;
+							uint8_t n505, n506, n507;
 							uint64_t n497 = load64(p21 + 16);
 							of_i8_i64 s498 = tp_Facility_quiet_until(p21);
 							if (s498.f0 == 1) {
@@ -68160,76 +68101,76 @@ L37:
 								if (n504 > n76)
 									goto L42;
 							}
-							switch (MOSTLY_0(load8(p21))) {
-							case 0: {
-								n505 = 1;
-								break;
-							}
+							n505 = load8(p21);
+							switch (n505) {
 							case 1: {
-								n505 = 4;
+								n506 = 3;
+								n507 = 0;
 								break;
 							}
+							case 0:
 							case 2: {
-								n505 = 2;
+								n506 = 1;
+								n507 = n505;
 								break;
 							}
 							default: {
 								UNREACHABLE();
 							}
 							}
-							n506 = umin64(load64(p21 + 104), n502);
-							n507 = 0;
-							while (n507 != n506) {
-								byte *p508 = loadptr(p21 + 80);
-								uint64_t n509 = load64(p21 + 104);
-								uint64_t n510 = (uint64_t)load32(at(p508, n507 << 3));
-								uint64_t n511 = load64(p21 + 64);
-								uint8_t n512 = 0;
-								uint64_t n513 = 0;
-								uint64_t n514 = n510;
-								uint64_t n515 = usub_sat64(n510, n509);
-								uint64_t n516 = 0;
-								while (n516 != n511) {
-									uint8_t n519;
-									uint64_t n520;
-									if (n509 > n514)
+							n508 = umin64(load64(p21 + 104), n502);
+							n509 = 0;
+							while (n509 != n508) {
+								byte *p510 = loadptr(p21 + 80);
+								uint64_t n511 = load64(p21 + 104);
+								uint64_t n512 = (uint64_t)load32(at(p510, n509 << 3));
+								uint64_t n513 = load64(p21 + 64);
+								uint8_t n514 = 0;
+								uint64_t n515 = 0;
+								uint64_t n516 = n512;
+								uint64_t n517 = usub_sat64(n512, n511);
+								uint64_t n518 = 0;
+								while (n518 != n513) {
+									uint8_t n521;
+									uint64_t n522;
+									if (n511 > n516)
 										break;
-									byte *p517 = at(loadptr(p21 + 40), n515 * 48);
-									if (n515 >= load64(p21 + 48))
+									byte *p519 = at(loadptr(p21 + 40), n517 * 48);
+									if (n517 >= load64(p21 + 48))
 										break;
-									if (load8(p517) != 1)
+									if (load8(p519) != 1)
 										break;
-									uint64_t n518 = load64u(p517 + 8);
+									uint64_t n520 = load64u(p519 + 8);
 									if (n69 == 1) {
-										if (n70 != load64u(p517 + 16)) {
-											n519 = n512;
-											n520 = n513;
+										if (n70 != load64u(p519 + 16)) {
+											n521 = n514;
+											n522 = n515;
 											goto L43;
 										}
 									}
 									if (n71 == 1) {
-										if (n72 != n518) {
-											n519 = n512;
-											n520 = n513;
+										if (n72 != n520) {
+											n521 = n514;
+											n522 = n515;
 											goto L43;
 										}
 									}
-									n519 = 1;
-									n520 = n515;
+									n521 = 1;
+									n522 = n517;
 L43:
 									{
-										uint64_t n521 = (uint64_t)load32(at(p508, (n509 + n515) << 3));
-										n512 = n519;
-										n513 = n520;
+										uint64_t n523 = (uint64_t)load32(at(p510, (n511 + n517) << 3));
 										n514 = n521;
-										n515 = usub_sat64(n521, n509);
-										n516 = n516 + 1;
+										n515 = n522;
+										n516 = n523;
+										n517 = usub_sat64(n523, n511);
+										n518 = n518 + 1;
 									}
 								}
-								if (n512 == 1) {
-									uint64_t n526, n527, n530;
-									uint8_t n522 = tp_render_push_number(p20, (byte *)tp_static_293, 11, load64(p21 + 16));
-									if ((n522 & 1) != 0)
+								if (n514 == 1) {
+									uint64_t n528, n529, n532;
+									uint8_t n524 = tp_render_push_number(p20, (byte *)tp_static_293, 11, load64(p21 + 16));
+									if ((n524 & 1) != 0)
 										goto L41;
 									store8(p11, n69);
 									store56u(p11 + 1, 0);
@@ -68238,73 +68179,73 @@ L43:
 									store56u(p11 + 17, 0);
 									store64(p11 + 24, n72);
 									store64(p11 + 32, 0);
-									uint64_t n523 = load64(p20 + 16);
-									uint64_t n524 = load64(p20 + 8);
-									if ((n523 - n524) < 5) {
-										bool b525 = tp_std_alloc_vec_Vec_grow_amortized_6(p20, 5);
-										if (!b525)
+									uint64_t n525 = load64(p20 + 16);
+									uint64_t n526 = load64(p20 + 8);
+									if ((n525 - n526) < 5) {
+										bool b527 = tp_std_alloc_vec_Vec_grow_amortized_6(p20, 5);
+										if (!b527)
 											goto L44;
-										n526 = load64(p20 + 16);
-										n527 = load64(p20 + 8);
+										n528 = load64(p20 + 16);
+										n529 = load64(p20 + 8);
 									} else {
-										n526 = n523;
-										n527 = n524;
+										n528 = n525;
+										n529 = n526;
 									}
-									byte *p528 = loadptr(p20);
-									byte *p529 = at(p528, n527);
-									if (((uint64_t)(uintptr_t)p529 - (uint64_t)(uintptr_t)(byte *)tp_static_294) >= 5) {
-										memcpy(p529, (byte *)tp_static_294, 5);
+									byte *p530 = loadptr(p20);
+									byte *p531 = at(p530, n529);
+									if (((uint64_t)(uintptr_t)p531 - (uint64_t)(uintptr_t)(byte *)tp_static_294) >= 5) {
+										memcpy(p531, (byte *)tp_static_294, 5);
 										goto L45;
 									}
-									n530 = 0;
-									while (n530 != 5) {
-										store8(inside(p529, n530), load8(inside((byte *)tp_static_294, n530)));
-										n530 = n530 + 1;
+									n532 = 0;
+									while (n532 != 5) {
+										store8(inside(p531, n532), load8(inside((byte *)tp_static_294, n532)));
+										n532 = n532 + 1;
 									}
 L45:
 									{
-										uint64_t n535, n536, n539;
-										storeptr(p20, p528);
-										store64(p20 + 8, n527 + 5);
-										store64(p20 + 16, n526);
-										uint8_t n531 = tp_render_push_name(p20, n502, n505);
-										if ((n531 & 1) != 0)
+										uint64_t n537, n538, n541;
+										storeptr(p20, p530);
+										store64(p20 + 8, n529 + 5);
+										store64(p20 + 16, n528);
+										uint8_t n533 = tp_render_push_name(p20, n502, n506, n507);
+										if ((n533 & 1) != 0)
 											goto L44;
-										uint64_t n532 = load64(p20 + 16);
-										uint64_t n533 = load64(p20 + 8);
-										if ((n532 - n533) < 3) {
-											bool b534 = tp_std_alloc_vec_Vec_grow_amortized_6(p20, 3);
-											if (!b534)
+										uint64_t n534 = load64(p20 + 16);
+										uint64_t n535 = load64(p20 + 8);
+										if ((n534 - n535) < 3) {
+											bool b536 = tp_std_alloc_vec_Vec_grow_amortized_6(p20, 3);
+											if (!b536)
 												goto L44;
-											n535 = load64(p20 + 16);
-											n536 = load64(p20 + 8);
+											n537 = load64(p20 + 16);
+											n538 = load64(p20 + 8);
 										} else {
-											n535 = n532;
-											n536 = n533;
+											n537 = n534;
+											n538 = n535;
 										}
-										byte *p537 = loadptr(p20);
-										byte *p538 = at(p537, n536);
-										if (((uint64_t)(uintptr_t)p538 - (uint64_t)(uintptr_t)(byte *)tp_static_295) >= 3) {
-											memcpy(p538, (byte *)tp_static_295, 3);
+										byte *p539 = loadptr(p20);
+										byte *p540 = at(p539, n538);
+										if (((uint64_t)(uintptr_t)p540 - (uint64_t)(uintptr_t)(byte *)tp_static_295) >= 3) {
+											memcpy(p540, (byte *)tp_static_295, 3);
 											goto L46;
 										}
-										n539 = 0;
-										while (n539 != 3) {
-											store8(inside(p538, n539), load8(inside((byte *)tp_static_295, n539)));
-											n539 = n539 + 1;
+										n541 = 0;
+										while (n541 != 3) {
+											store8(inside(p540, n541), load8(inside((byte *)tp_static_295, n541)));
+											n541 = n541 + 1;
 										}
 L46:
 										{
-											storeptr(p20, p537);
-											store64(p20 + 8, n536 + 3);
-											store64(p20 + 16, n535);
-											uint8_t n540 = tp_render_push_list(p20, p21 + 40, n507, n513, n505, p11);
-											if ((n540 & 1) != 0)
+											storeptr(p20, p539);
+											store64(p20 + 8, n538 + 3);
+											store64(p20 + 16, n537);
+											uint8_t n542 = tp_render_push_list(p20, p21 + 40, n509, n515, n506, n507, p11);
+											if ((n542 & 1) != 0)
 												goto L41;
 										}
 									}
 								}
-								n507 = n507 + 1;
+								n509 = n509 + 1;
 							}
 L42:
 							{
@@ -68315,97 +68256,97 @@ L42:
 					}
 L40:
 					{
-						uint8_t n541 = tp_session_Session_play_one(p21, p13, p20);
-						if ((n541 & 1) != 0) {
-							n542 = load64(p20 + 8);
+						uint8_t n543 = tp_session_Session_play_one(p21, p13, p20);
+						if ((n543 & 1) != 0) {
+							n544 = load64(p20 + 8);
 							goto L48;
 						}
 					}
 L47:
 					{
-						uint64_t n545, n548, n550;
-						bool b546;
-						uint8_t n547, n552, n553;
-						n543 = load64(p20 + 8);
-						uint64_t n544 = load64(p21 + 16);
+						uint64_t n547, n550, n552;
+						bool b548;
+						uint8_t n549, n554, n555, n556, n557;
+						n545 = load64(p20 + 8);
+						uint64_t n546 = load64(p21 + 16);
 						if (n73 == 1) {
-							if (n74 > n544) {
-								n545 = n543;
+							if (n74 > n546) {
+								n547 = n545;
 								goto L49;
 							}
 						}
 						if (n75 == 1) {
-							if (n544 > n76) {
-								n545 = n543;
+							if (n546 > n76) {
+								n547 = n545;
 								goto L49;
 							}
 						}
-						b546 = (n66 & 1) != 0;
+						b548 = (n66 & 1) != 0;
 						store64(p10, (uint64_t)n69);
 						store64(p10 + 8, n70);
 						store64(p10 + 16, (uint64_t)n71);
 						store64(p10 + 24, n72);
 						store64(p10 + 32, ((n68 & 1) != 0) ? n491 : 0);
-						n547 = tp_render_push_number(p20, (byte *)tp_static_283, 6, n544);
-						if ((n547 & 1) != 0)
+						n549 = tp_render_push_number(p20, (byte *)tp_static_283, 6, n546);
+						if ((n549 & 1) != 0)
 							goto L50;
-						n548 = load64(p20 + 8);
-						if (load64(p20 + 16) == n548) {
-							bool b549 = tp_std_alloc_vec_Vec_grow_amortized_6(p20, 1);
-							if (!b549)
+						n550 = load64(p20 + 8);
+						if (load64(p20 + 16) == n550) {
+							bool b551 = tp_std_alloc_vec_Vec_grow_amortized_6(p20, 1);
+							if (!b551)
 								goto L50;
-							n550 = load64(p20 + 8);
+							n552 = load64(p20 + 8);
 						} else {
-							n550 = n548;
+							n552 = n550;
 						}
-						store8(inside(loadptr(p20), n550), 10);
-						store64(p20 + 8, n550 + 1);
-						if (b546) {
-							uint8_t n551 = tp_render_push_work(p20, load64(p21 + 248), load64(p21 + 256), load64(p21 + 16) - load64(p21 + 264));
-							if ((n551 & 1) != 0)
+						store8(inside(loadptr(p20), n552), 10);
+						store64(p20 + 8, n552 + 1);
+						if (b548) {
+							uint8_t n553 = tp_render_push_work(p20, load64(p21 + 248), load64(p21 + 256), load64(p21 + 16) - load64(p21 + 264));
+							if ((n553 & 1) != 0)
 								goto L50;
 						}
-						switch (MOSTLY_0(load8(p21))) {
-						case 0: {
-							n552 = 1;
-							break;
-						}
+						n554 = load8(p21);
+						switch (n554) {
 						case 1: {
-							n552 = 4;
+							n555 = 3;
+							n556 = 0;
 							break;
 						}
+						case 0:
 						case 2: {
-							n552 = 2;
+							n555 = 1;
+							n556 = n554;
 							break;
 						}
 						default: {
 							UNREACHABLE();
 						}
 						}
-						n553 = tp_render_push_lists(p20, p21 + 40, n552, p10);
-						if ((n553 & 1) != 0)
+						n557 = tp_render_push_lists(p20, p21 + 40, n555, n556, p10);
+						if ((n557 & 1) != 0)
 							goto L51;
-						n545 = load64(p20 + 8);
+						n547 = load64(p20 + 8);
 L49:
 						{
-							byte *p554 = loadptr(p20);
-							uint64_t n555 = 0;
-							while (n555 < n545) {
-								uint64_t n556 = n545 - n555;
-								uint64_t n557 = os_write(1, at(p554, n555), n556);
-								if ((int64_t)n557 < (int64_t)0) {
+							byte *p558 = loadptr(p20);
+							uint64_t n559 = 0;
+							while (n559 < n547) {
+								uint64_t n560 = n547 - n559;
+								uint64_t n561 = os_write(1, at(p558, n559), n560);
+								if ((int64_t)n561 < (int64_t)0) {
 									tp_error_last_error(p8);
 									store8(p3 + 1, 1);
-									n558 = 3;
+									n562 = 3;
 									goto L52;
 								}
-								uint64_t n559 = umin64(n557, n556);
-								if (n559 == 0) {
+								uint64_t n563 = umin64(n561, n560);
+								if (n563 == 0) {
 									store8(p3 + 1, 1);
-									n558 = 3;
+									n562 = 3;
 									goto L52;
 								}
-								n555 = n555 + n559;
+								n559 = n559 + n563;
 							}
 							if (load64(p20 + 8) != 0)
 								store64(p20 + 8, 0);
@@ -68425,24 +68366,24 @@ L49:
 				rattle_dealloc(loadptru(p22 + 32));
 			if (load64u(p22 + 72) != 0)
 				rattle_dealloc(loadptru(p22 + 56));
-			p560 = loadptru(p21 + 80);
-			n561 = load64u(p21 + 96);
-			p562 = loadptru(p21 + 208);
-			n563 = load64u(p21 + 224);
-			p564 = loadptru(p21 + 1328);
-			n565 = load64u(p21 + 1344);
-			p566 = loadptru(p21 + 1360);
-			n567 = load64u(p21 + 1376);
+			p564 = loadptru(p21 + 80);
+			n565 = load64u(p21 + 96);
+			p566 = loadptru(p21 + 208);
+			n567 = load64u(p21 + 224);
+			p568 = loadptru(p21 + 1328);
+			n569 = load64u(p21 + 1344);
+			p570 = loadptru(p21 + 1360);
+			n571 = load64u(p21 + 1376);
 			if (load64u(p21 + 56) != 0)
 				rattle_dealloc(loadptru(p21 + 40));
-			if (n561 != 0)
-				rattle_dealloc(p560);
-			if (n563 != 0)
-				rattle_dealloc(p562);
 			if (n565 != 0)
 				rattle_dealloc(p564);
 			if (n567 != 0)
 				rattle_dealloc(p566);
+			if (n569 != 0)
+				rattle_dealloc(p568);
+			if (n571 != 0)
+				rattle_dealloc(p570);
 			if (load64u(p21 + 1400) != 0)
 				rattle_dealloc(loadptru(p21 + 1384));
 			if (load64u(p21 + 1424) != 0)
@@ -68458,44 +68399,44 @@ L41:
 			{
 				if (load64(p20 + 8) != 0)
 					store64(p20 + 8, 0);
-				n542 = 0;
+				n544 = 0;
 				goto L48;
 			}
 L50: ;
 L51:
 			{
-				uint64_t n568 = load64(p20 + 8);
-				if (n568 > n543) {
-					store64(p20 + 8, n543);
-					n542 = n543;
+				uint64_t n572 = load64(p20 + 8);
+				if (n572 > n545) {
+					store64(p20 + 8, n545);
+					n544 = n545;
 				} else {
-					n542 = n568;
+					n544 = n572;
 				}
 			}
 L48:
 			{
-				byte *p569 = loadptr(p20);
-				uint64_t n570 = 0;
+				byte *p573 = loadptr(p20);
+				uint64_t n574 = 0;
 				for (;;) {
-					if (n570 >= n542) {
-						n558 = 2;
+					if (n574 >= n544) {
+						n562 = 2;
 						break;
 					}
-					uint64_t n571 = n542 - n570;
-					uint64_t n572 = os_write(1, at(p569, n570), n571);
-					if ((int64_t)n572 < (int64_t)0) {
+					uint64_t n575 = n544 - n574;
+					uint64_t n576 = os_write(1, at(p573, n574), n575);
+					if ((int64_t)n576 < (int64_t)0) {
 						tp_error_last_error(p9);
 						store8(p3 + 1, 1);
-						n558 = 3;
+						n562 = 3;
 						break;
 					}
-					uint64_t n573 = umin64(n572, n571);
-					if (n573 == 0) {
+					uint64_t n577 = umin64(n576, n575);
+					if (n577 == 0) {
 						store8(p3 + 1, 1);
-						n558 = 3;
+						n562 = 3;
 						break;
 					}
-					n570 = n570 + n573;
+					n574 = n574 + n577;
 				}
 			}
 L52:
@@ -68506,24 +68447,24 @@ L52:
 					rattle_dealloc(loadptru(p22 + 32));
 				if (load64u(p22 + 72) != 0)
 					rattle_dealloc(loadptru(p22 + 56));
-				byte *p574 = loadptru(p21 + 80);
-				uint64_t n575 = load64u(p21 + 96);
-				byte *p576 = loadptru(p21 + 208);
-				uint64_t n577 = load64u(p21 + 224);
-				byte *p578 = loadptru(p21 + 1328);
-				uint64_t n579 = load64u(p21 + 1344);
-				byte *p580 = loadptru(p21 + 1360);
-				uint64_t n581 = load64u(p21 + 1376);
+				byte *p578 = loadptru(p21 + 80);
+				uint64_t n579 = load64u(p21 + 96);
+				byte *p580 = loadptru(p21 + 208);
+				uint64_t n581 = load64u(p21 + 224);
+				byte *p582 = loadptru(p21 + 1328);
+				uint64_t n583 = load64u(p21 + 1344);
+				byte *p584 = loadptru(p21 + 1360);
+				uint64_t n585 = load64u(p21 + 1376);
 				if (load64u(p21 + 56) != 0)
 					rattle_dealloc(loadptru(p21 + 40));
-				if (n575 != 0)
-					rattle_dealloc(p574);
-				if (n577 != 0)
-					rattle_dealloc(p576);
 				if (n579 != 0)
 					rattle_dealloc(p578);
 				if (n581 != 0)
 					rattle_dealloc(p580);
+				if (n583 != 0)
+					rattle_dealloc(p582);
+				if (n585 != 0)
+					rattle_dealloc(p584);
 				if (load64u(p21 + 1400) != 0)
 					rattle_dealloc(loadptru(p21 + 1384));
 				if (load64u(p21 + 1424) != 0)
@@ -68531,93 +68472,93 @@ L52:
 				if (load64u(p20 + 16) != 0)
 					rattle_dealloc(loadptru(p20));
 				rattle_dealloc(p479);
-				n477 = n558;
+				n477 = n562;
 				n478 = 0;
 				goto L55;
 			}
 L54:
 			{
-				uint64_t n582;
-				uint8_t n583, n584;
-				bool b585;
+				uint64_t n586;
+				uint8_t n587, n588;
+				bool b589;
 				memset(p7, 0, 24);
 				tp_Cutter_end(p7, p22, p4);
 				if (load8(p7) == 0) {
 					if (load8(p7 + 8) == 1) {
-						n582 = load64u(p7 + 16);
-						n583 = 1;
-						n584 = 1;
-						b585 = true;
+						n586 = load64u(p7 + 16);
+						n587 = 1;
+						n588 = 3;
+						b589 = true;
 					} else {
-						uint64_t n596;
+						uint64_t n600;
 						if (load64(p20 + 8) != 0)
 							store64(p20 + 8, 0);
-						uint64_t n586 = load64(p21 + 16);
-						uint64_t n587 = load64(p21 + 64);
-						uint64_t n588 = load64(p21 + 32);
-						byte *p589 = loadptr(p21 + 80);
-						uint64_t n590 = (uint64_t)load32(at(p589, n588 << 3) + 4);
-						bool b591 = n588 != n590;
-						uint64_t n592 = load64(p21 + 104);
-						uint64_t n593 = b591 ? (n590 - n592) : 0;
-						uint64_t n594 = 0;
-						bool b595 = b591;
+						uint64_t n590 = load64(p21 + 16);
+						uint64_t n591 = load64(p21 + 64);
+						uint64_t n592 = load64(p21 + 32);
+						byte *p593 = loadptr(p21 + 80);
+						uint64_t n594 = (uint64_t)load32(at(p593, n592 << 3) + 4);
+						bool b595 = n592 != n594;
+						uint64_t n596 = load64(p21 + 104);
+						uint64_t n597 = b595 ? (n594 - n596) : 0;
+						uint64_t n598 = 0;
+						bool b599 = b595;
 						for (;;) {
-							if (n594 == n587) {
-								n596 = n587;
+							if (n598 == n591) {
+								n600 = n591;
 								break;
 							}
-							if (!b595) {
-								n596 = n594;
+							if (!b599) {
+								n600 = n598;
 								break;
 							}
-							uint64_t n597 = (uint64_t)load32(at(p589, (n592 + n593) << 3) + 4);
-							n593 = usub_sat64(n597, n592);
-							n594 = n594 + 1;
-							b595 = n592 <= n597;
+							uint64_t n601 = (uint64_t)load32(at(p593, (n596 + n597) << 3) + 4);
+							n597 = usub_sat64(n601, n596);
+							n598 = n598 + 1;
+							b599 = n596 <= n601;
 						}
-						uint8_t n598 = tp_text_push_end(p20, n586, n587 - n596);
-						if ((n598 & 1) != 0) {
-							n582 = 0;
-							n583 = 2;
-							n584 = 1;
-							b585 = true;
+						uint8_t n602 = tp_text_push_end(p20, n590, n591 - n600);
+						if ((n602 & 1) != 0) {
+							n586 = 0;
+							n587 = 2;
+							n588 = 3;
+							b589 = true;
 						} else {
-							byte *p599 = loadptr(p20);
-							uint64_t n600 = load64(p20 + 8);
-							uint64_t n601 = 0;
-							while (n601 < n600) {
-								uint64_t n602 = n600 - n601;
-								uint64_t n603 = os_write(1, at(p599, n601), n602);
-								if ((int64_t)n603 < (int64_t)0) {
+							byte *p603 = loadptr(p20);
+							uint64_t n604 = load64(p20 + 8);
+							uint64_t n605 = 0;
+							while (n605 < n604) {
+								uint64_t n606 = n604 - n605;
+								uint64_t n607 = os_write(1, at(p603, n605), n606);
+								if ((int64_t)n607 < (int64_t)0) {
 									tp_error_last_error(p6);
 									goto L56;
 								}
-								uint64_t n604 = umin64(n603, n602);
-								if (n604 == 0)
+								uint64_t n608 = umin64(n607, n606);
+								if (n608 == 0)
 									goto L56;
-								n601 = n601 + n604;
+								n605 = n605 + n608;
 							}
-							n582 = 0;
-							n583 = 0;
-							n584 = (uint8_t)(load8(p22 + 88) ^ 1);
-							b585 = false;
+							n586 = 0;
+							n587 = 0;
+							n588 = (uint8_t)(((load8(p22 + 88) & 1) != 0) ? 0 : 3);
+							b589 = false;
 							goto L57;
 L56:
 							{
 								store8(p3 + 1, 1);
-								n582 = 0;
-								n583 = 3;
-								n584 = 1;
-								b585 = true;
+								n586 = 0;
+								n587 = 3;
+								n588 = 3;
+								b589 = true;
 							}
 						}
 					}
 				} else {
-					n582 = 0;
-					n583 = 2;
-					n584 = 1;
-					b585 = true;
+					n586 = 0;
+					n587 = 2;
+					n588 = 3;
+					b589 = true;
 				}
 L57:
 				{
@@ -68627,24 +68568,24 @@ L57:
 						rattle_dealloc(loadptru(p22 + 32));
 					if (load64u(p22 + 72) != 0)
 						rattle_dealloc(loadptru(p22 + 56));
-					byte *p605 = loadptru(p21 + 80);
-					uint64_t n606 = load64u(p21 + 96);
-					byte *p607 = loadptru(p21 + 208);
-					uint64_t n608 = load64u(p21 + 224);
-					byte *p609 = loadptru(p21 + 1328);
-					uint64_t n610 = load64u(p21 + 1344);
-					byte *p611 = loadptru(p21 + 1360);
-					uint64_t n612 = load64u(p21 + 1376);
+					byte *p609 = loadptru(p21 + 80);
+					uint64_t n610 = load64u(p21 + 96);
+					byte *p611 = loadptru(p21 + 208);
+					uint64_t n612 = load64u(p21 + 224);
+					byte *p613 = loadptru(p21 + 1328);
+					uint64_t n614 = load64u(p21 + 1344);
+					byte *p615 = loadptru(p21 + 1360);
+					uint64_t n616 = load64u(p21 + 1376);
 					if (load64u(p21 + 56) != 0)
 						rattle_dealloc(loadptru(p21 + 40));
-					if (n606 != 0)
-						rattle_dealloc(p605);
-					if (n608 != 0)
-						rattle_dealloc(p607);
 					if (n610 != 0)
 						rattle_dealloc(p609);
 					if (n612 != 0)
 						rattle_dealloc(p611);
+					if (n614 != 0)
+						rattle_dealloc(p613);
+					if (n616 != 0)
+						rattle_dealloc(p615);
 					if (load64u(p21 + 1400) != 0)
 						rattle_dealloc(loadptru(p21 + 1384));
 					if (load64u(p21 + 1424) != 0)
@@ -68652,10 +68593,10 @@ L57:
 					if (load64u(p20 + 16) != 0)
 						rattle_dealloc(loadptru(p20));
 					rattle_dealloc(p479);
-					if (!b585)
-						return n584;
-					n613 = n582;
-					n614 = n583;
+					if (!b589)
+						return n588;
+					n617 = n586;
+					n618 = n587;
 					goto L58;
 				}
 			}
@@ -68667,24 +68608,24 @@ L53:
 					rattle_dealloc(loadptru(p22 + 32));
 				if (load64u(p22 + 72) != 0)
 					rattle_dealloc(loadptru(p22 + 56));
-				byte *p615 = loadptru(p21 + 80);
-				uint64_t n616 = load64u(p21 + 96);
-				byte *p617 = loadptru(p21 + 208);
-				uint64_t n618 = load64u(p21 + 224);
-				byte *p619 = loadptru(p21 + 1328);
-				uint64_t n620 = load64u(p21 + 1344);
-				byte *p621 = loadptru(p21 + 1360);
-				uint64_t n622 = load64u(p21 + 1376);
+				byte *p619 = loadptru(p21 + 80);
+				uint64_t n620 = load64u(p21 + 96);
+				byte *p621 = loadptru(p21 + 208);
+				uint64_t n622 = load64u(p21 + 224);
+				byte *p623 = loadptru(p21 + 1328);
+				uint64_t n624 = load64u(p21 + 1344);
+				byte *p625 = loadptru(p21 + 1360);
+				uint64_t n626 = load64u(p21 + 1376);
 				if (load64u(p21 + 56) != 0)
 					rattle_dealloc(loadptru(p21 + 40));
-				if (n616 != 0)
-					rattle_dealloc(p615);
-				if (n618 != 0)
-					rattle_dealloc(p617);
 				if (n620 != 0)
 					rattle_dealloc(p619);
 				if (n622 != 0)
 					rattle_dealloc(p621);
+				if (n624 != 0)
+					rattle_dealloc(p623);
+				if (n626 != 0)
+					rattle_dealloc(p625);
 				if (load64u(p21 + 1400) != 0)
 					rattle_dealloc(loadptru(p21 + 1384));
 				if (load64u(p21 + 1424) != 0)
@@ -68706,24 +68647,24 @@ L39:
 					rattle_dealloc(loadptru(p22 + 32));
 				if (load64u(p22 + 72) != 0)
 					rattle_dealloc(loadptru(p22 + 56));
-				byte *p623 = loadptru(p21 + 80);
-				uint64_t n624 = load64u(p21 + 96);
-				byte *p625 = loadptru(p21 + 208);
-				uint64_t n626 = load64u(p21 + 224);
-				byte *p627 = loadptru(p21 + 1328);
-				uint64_t n628 = load64u(p21 + 1344);
-				byte *p629 = loadptru(p21 + 1360);
-				uint64_t n630 = load64u(p21 + 1376);
+				byte *p627 = loadptru(p21 + 80);
+				uint64_t n628 = load64u(p21 + 96);
+				byte *p629 = loadptru(p21 + 208);
+				uint64_t n630 = load64u(p21 + 224);
+				byte *p631 = loadptru(p21 + 1328);
+				uint64_t n632 = load64u(p21 + 1344);
+				byte *p633 = loadptru(p21 + 1360);
+				uint64_t n634 = load64u(p21 + 1376);
 				if (load64u(p21 + 56) != 0)
 					rattle_dealloc(loadptru(p21 + 40));
-				if (n624 != 0)
-					rattle_dealloc(p623);
-				if (n626 != 0)
-					rattle_dealloc(p625);
 				if (n628 != 0)
 					rattle_dealloc(p627);
 				if (n630 != 0)
 					rattle_dealloc(p629);
+				if (n632 != 0)
+					rattle_dealloc(p631);
+				if (n634 != 0)
+					rattle_dealloc(p633);
 				if (load64u(p21 + 1400) != 0)
 					rattle_dealloc(loadptru(p21 + 1384));
 				if (load64u(p21 + 1424) != 0)
@@ -68743,24 +68684,24 @@ L38:
 					rattle_dealloc(loadptru(p22 + 32));
 				if (load64u(p22 + 72) != 0)
 					rattle_dealloc(loadptru(p22 + 56));
-				byte *p631 = loadptru(p21 + 80);
-				uint64_t n632 = load64u(p21 + 96);
-				byte *p633 = loadptru(p21 + 208);
-				uint64_t n634 = load64u(p21 + 224);
-				byte *p635 = loadptru(p21 + 1328);
-				uint64_t n636 = load64u(p21 + 1344);
-				byte *p637 = loadptru(p21 + 1360);
-				uint64_t n638 = load64u(p21 + 1376);
+				byte *p635 = loadptru(p21 + 80);
+				uint64_t n636 = load64u(p21 + 96);
+				byte *p637 = loadptru(p21 + 208);
+				uint64_t n638 = load64u(p21 + 224);
+				byte *p639 = loadptru(p21 + 1328);
+				uint64_t n640 = load64u(p21 + 1344);
+				byte *p641 = loadptru(p21 + 1360);
+				uint64_t n642 = load64u(p21 + 1376);
 				if (load64u(p21 + 56) != 0)
 					rattle_dealloc(loadptru(p21 + 40));
-				if (n632 != 0)
-					rattle_dealloc(p631);
-				if (n634 != 0)
-					rattle_dealloc(p633);
 				if (n636 != 0)
 					rattle_dealloc(p635);
 				if (n638 != 0)
 					rattle_dealloc(p637);
+				if (n640 != 0)
+					rattle_dealloc(p639);
+				if (n642 != 0)
+					rattle_dealloc(p641);
 				if (load64u(p21 + 1400) != 0)
 					rattle_dealloc(loadptru(p21 + 1384));
 				if (load64u(p21 + 1424) != 0)
@@ -68774,12 +68715,12 @@ L38:
 		}
 L55:
 		{
-			n613 = n478;
-			n614 = n477;
+			n617 = n478;
+			n618 = n477;
 		}
 L58:
 		{
-			tp_timer_commands_error_report_report_2(n614, n613, p4);
+			tp_timer_commands_ending_report_5(n618, n617, p4);
 			return 1;
 		}
 	}
@@ -68986,7 +68927,7 @@ static uint64_t tp_turns_slot_of(uint8_t n1, uint64_t n2, uint64_t n3)
 		break;
 	}
 	case 2: {
-		return n3 >> ((n2 << 2) & 63);
+		return n3 >> (((n2 << 2) & UINT64_C(4294967292)) & 63);
 	}
 	default: {
 		UNREACHABLE();
@@ -69064,7 +69005,7 @@ static bool tp_turns_is_in_next(uint8_t n1, uint64_t n2, uint64_t n3, uint64_t n
 		break;
 	}
 	case 2: {
-		uint64_t n8 = n3 << 2;
+		uint64_t n8 = (n3 << 2) & UINT64_C(4294967292);
 		n6 = n4 >> (n8 & 63);
 		n7 = n2 >> (n8 & 63);
 		break;
@@ -69113,7 +69054,7 @@ static uint64_t tp_Bank_move_some(byte *p1, uint64_t n2, uint64_t n3)
 			break;
 		}
 		case 2: {
-			n7 = (n2 << 7) | (((n5 >> ((n2 << 2) & 63)) + 1) & 31);
+			n7 = (n2 << 7) | (((n5 >> (((n2 << 2) & UINT64_C(4294967292)) & 63)) + 1) & 31);
 			break;
 		}
 		default: {
@@ -69171,7 +69112,7 @@ static uint64_t tp_Bank_move_some(byte *p1, uint64_t n2, uint64_t n3)
 				break;
 			}
 			case 2: {
-				uint64_t n23 = n17 << 2;
+				uint64_t n23 = (n17 << 2) & UINT64_C(4294967292);
 				n21 = n15 >> (n23 & 63);
 				n22 = n5 >> (n23 & 63);
 				break;
@@ -69208,7 +69149,7 @@ static uint64_t tp_Bank_move_some(byte *p1, uint64_t n2, uint64_t n3)
 				break;
 			}
 			case 2: {
-				n24 = (n17 << 7) | (((n5 >> ((n17 << 2) & 63)) + 1) & 31);
+				n24 = (n17 << 7) | (((n5 >> (((n17 << 2) & UINT64_C(4294967292)) & 63)) + 1) & 31);
 				break;
 			}
 			default: {
@@ -69249,7 +69190,7 @@ static uint64_t tp_Bank_move_some(byte *p1, uint64_t n2, uint64_t n3)
 			break;
 		}
 		case 2: {
-			n25 = (n19 << 7) | ((n15 >> ((n19 << 2) & 63)) & 31);
+			n25 = (n19 << 7) | ((n15 >> (((n19 << 2) & UINT64_C(4294967292)) & 63)) & 31);
 			break;
 		}
 		default: {
@@ -69442,7 +69383,7 @@ static NOINLINE uint8_t tp_script_run_answer_start(byte *p1, uint64_t n2, uint64
 												break;
 											}
 											case 2: {
-												uint64_t n54 = n49 << 2;
+												uint64_t n54 = (n49 << 2) & UINT64_C(4294967292);
 												n52 = n35 >> (n54 & 63);
 												n53 = n21 >> (n54 & 63);
 												break;
@@ -69478,7 +69419,7 @@ static NOINLINE uint8_t tp_script_run_answer_start(byte *p1, uint64_t n2, uint64
 												break;
 											}
 											case 2: {
-												n55 = (n49 << 7) | (((n21 >> ((n49 << 2) & 63)) + 1) & 31);
+												n55 = (n49 << 7) | (((n21 >> (((n49 << 2) & UINT64_C(4294967292)) & 63)) + 1) & 31);
 												break;
 											}
 											default: {
@@ -70232,7 +70173,7 @@ L2:
 													break;
 												}
 												case 2: {
-													uint64_t n36 = n31 << 2;
+													uint64_t n36 = (n31 << 2) & UINT64_C(4294967292);
 													n34 = n14 >> (n36 & 63);
 													n35 = n12 >> (n36 & 63);
 													break;
@@ -70268,7 +70209,7 @@ L2:
 													break;
 												}
 												case 2: {
-													n37 = (n31 << 7) | (((n12 >> ((n31 << 2) & 63)) + 1) & 31);
+													n37 = (n31 << 7) | (((n12 >> (((n31 << 2) & UINT64_C(4294967292)) & 63)) + 1) & 31);
 													break;
 												}
 												default: {
@@ -70323,7 +70264,7 @@ L2:
 												break;
 											}
 											case 2: {
-												uint64_t n46 = n32 << 2;
+												uint64_t n46 = (n32 << 2) & UINT64_C(4294967292);
 												uint64_t n47 = n14 >> (n46 & 63);
 												n40 = (n32 << 7) | (n47 & 31);
 												n41 = n47;
@@ -71113,7 +71054,7 @@ static uint64_t tp_turns_next_list(uint8_t n1, uint64_t n2, uint64_t n3)
 		break;
 	}
 	case 2: {
-		return (n3 << 7) | (((n2 >> ((n3 << 2) & 63)) + 1) & 31);
+		return (n3 << 7) | (((n2 >> (((n3 << 2) & UINT64_C(4294967292)) & 63)) + 1) & 31);
 	}
 	default: {
 		UNREACHABLE();
@@ -71241,7 +71182,7 @@ static of_i8_i64 tp_Bank_first_slot(byte *p1, uint64_t n2)
 	}
 	case 2: {
 		n15 = 32;
-		n16 = load64(p1 + 16) >> ((n2 << 2) & 63);
+		n16 = load64(p1 + 16) >> (((n2 << 2) & UINT64_C(4294967292)) & 63);
 		break;
 	}
 	default: {
@@ -73018,7 +72959,7 @@ L1:
 			n28 = n30;
 			n29 = n29 + 16;
 		}
-		n32 = n29 >> 2;
+		n32 = (n29 >> 2) & UINT64_C(4294967292);
 		n21 = n4 >> (n32 & 63);
 		n22 = (uint64_t)1 << (n32 & 63);
 L3:
@@ -73908,7 +73849,7 @@ L14:
 		}
 L16:
 		{
-			tp_timer_commands_error_report_report(n243, n244, p4);
+			tp_timer_commands_ending_report_4(n243, n244, p4);
 			return 1;
 		}
 	}
@@ -74164,7 +74105,7 @@ L23:
 						if (load8(p37 + 8) == 1) {
 							n294 = load64u(p37 + 16);
 							n295 = 1;
-							n296 = 1;
+							n296 = 3;
 							b297 = true;
 						} else {
 							uint64_t n308;
@@ -74198,7 +74139,7 @@ L23:
 							if ((n310 & 1) != 0) {
 								n294 = 0;
 								n295 = 2;
-								n296 = 1;
+								n296 = 3;
 								b297 = true;
 							} else {
 								byte *p311 = loadptr(p46);
@@ -74218,7 +74159,7 @@ L23:
 								}
 								n294 = 0;
 								n295 = 0;
-								n296 = (uint8_t)(load8(p48 + 88) ^ 1);
+								n296 = (uint8_t)(((load8(p48 + 88) & 1) != 0) ? 0 : 3);
 								b297 = false;
 								goto L26;
 L25:
@@ -74226,7 +74167,7 @@ L25:
 									store8(p3 + 1, 1);
 									n294 = 0;
 									n295 = 3;
-									n296 = 1;
+									n296 = 3;
 									b297 = true;
 								}
 							}
@@ -74234,7 +74175,7 @@ L25:
 					} else {
 						n294 = 0;
 						n295 = 2;
-						n296 = 1;
+						n296 = 3;
 						b297 = true;
 					}
 L26:
@@ -74381,7 +74322,7 @@ L24:
 			}
 L27:
 			{
-				tp_timer_commands_error_report_report_2(n324, n323, p4);
+				tp_timer_commands_ending_report_5(n324, n323, p4);
 				return 1;
 			}
 		}
@@ -74580,7 +74521,7 @@ L33:
 					if (load8(p23 + 8) == 1) {
 						n381 = load64u(p23 + 16);
 						n382 = 1;
-						n383 = 1;
+						n383 = 3;
 						b384 = true;
 					} else {
 						uint64_t n395;
@@ -74614,7 +74555,7 @@ L33:
 						if ((n397 & 1) != 0) {
 							n381 = 0;
 							n382 = 2;
-							n383 = 1;
+							n383 = 3;
 							b384 = true;
 						} else {
 							byte *p398 = loadptr(p32);
@@ -74634,7 +74575,7 @@ L33:
 							}
 							n381 = 0;
 							n382 = 0;
-							n383 = (uint8_t)(load8(p34 + 88) ^ 1);
+							n383 = (uint8_t)(((load8(p34 + 88) & 1) != 0) ? 0 : 3);
 							b384 = false;
 							goto L36;
 L35:
@@ -74642,7 +74583,7 @@ L35:
 								store8(p3 + 1, 1);
 								n381 = 0;
 								n382 = 3;
-								n383 = 1;
+								n383 = 3;
 								b384 = true;
 							}
 						}
@@ -74650,7 +74591,7 @@ L35:
 				} else {
 					n381 = 0;
 					n382 = 2;
-					n383 = 1;
+					n383 = 3;
 					b384 = true;
 				}
 L36:
@@ -74830,7 +74771,7 @@ L34:
 		}
 L37:
 		{
-			tp_timer_commands_error_report_report_2(n411, n410, p4);
+			tp_timer_commands_ending_report_5(n411, n410, p4);
 			return 1;
 		}
 	}
@@ -75044,7 +74985,7 @@ L42:
 							store8(inside(loadptr(p18), n478), 10);
 							store64(p18 + 8, n478 + 1);
 						}
-						n479 = tp_render_push_lists(p18, p19 + 40, 3, p10);
+						n479 = tp_render_push_lists(p18, p19 + 40, 2, 0, p10);
 						if ((n479 & 1) != 0)
 							goto L46;
 						n467 = load64(p18 + 8);
@@ -75199,7 +75140,7 @@ L49:
 					if (load8(p7 + 8) == 1) {
 						n504 = load64u(p7 + 16);
 						n505 = 1;
-						n506 = 1;
+						n506 = 3;
 						b507 = true;
 					} else {
 						uint64_t n518;
@@ -75233,7 +75174,7 @@ L49:
 						if ((n520 & 1) != 0) {
 							n504 = 0;
 							n505 = 2;
-							n506 = 1;
+							n506 = 3;
 							b507 = true;
 						} else {
 							byte *p521 = loadptr(p18);
@@ -75253,7 +75194,7 @@ L49:
 							}
 							n504 = 0;
 							n505 = 0;
-							n506 = (uint8_t)(load8(p20 + 88) ^ 1);
+							n506 = (uint8_t)(((load8(p20 + 88) & 1) != 0) ? 0 : 3);
 							b507 = false;
 							goto L52;
 L51:
@@ -75261,7 +75202,7 @@ L51:
 								store8(p3 + 1, 1);
 								n504 = 0;
 								n505 = 3;
-								n506 = 1;
+								n506 = 3;
 								b507 = true;
 							}
 						}
@@ -75269,7 +75210,7 @@ L51:
 				} else {
 					n504 = 0;
 					n505 = 2;
-					n506 = 1;
+					n506 = 3;
 					b507 = true;
 				}
 L52:
@@ -75416,7 +75357,7 @@ L50:
 		}
 L53:
 		{
-			tp_timer_commands_error_report_report_2(n534, n533, p4);
+			tp_timer_commands_ending_report_5(n534, n533, p4);
 			return 1;
 		}
 	}
@@ -75426,65 +75367,55 @@ L53:
 	}
 }
 
-/* std::io::traits::Write::write_fmt */
-static void tp_traits_Write_write_fmt(byte *p1, byte *p2, byte *p3)
+/* timer_commands::ending::report: crates/timer_commands/src/ending.rt */
+static void tp_timer_commands_ending_report(byte *p1, byte *p2)
 {
-	ALIGN(8) byte p4[64];
-	ALIGN(1) byte p5[24];
-	ALIGN(8) byte p6[64];
-	ALIGN(8) byte p10[144];
-	uint8_t n12, n19;
-	byte *p7 = loadptru(p3);
-	byte *p8 = loadptru(p3 + 8);
-	uint64_t n9 = load64u(p3 + 16);
-	memset(p6, 0, 64);
-	store64u(p10, (uint64_t)(uintptr_t)p2);
-	memset(p10 + 8, 0, 96);
-	store32u(p10 + 104, 32);
-	memset(p10 + 108, 0, 12);
-	store64u(p10 + 120, UINT64_MAX);
-	memset(p10 + 128, 0, 16);
-	store32u(p10 + 104, 32);
-	memset(p10 + 108, 0, 12);
-	store64u(p10 + 120, UINT64_MAX);
-	memset(p10 + 108, 0, 12);
-	switch (MOSTLY_0(load8(p7))) {
+	ALIGN(1) byte p3[24];
+	ALIGN(8) byte p4[144];
+	uint8_t n9;
+	uint8_t n5 = load8(p1 + 1);
+	uint64_t n6 = load64u(p1 + 8);
+	uint8_t n7 = load8(p1);
+	store64u(p4, (uint64_t)(uintptr_t)p2);
+	memset(p4 + 8, 0, 96);
+	memset(p4 + 128, 0, 16);
+	switch (MOSTLY_0(n7)) {
 	case 0: {
-		store32u(p10 + 104, 32);
-		switch (MOSTLY_0(load8(p7 + 1))) {
+		store32u(p4 + 104, 32);
+		switch (MOSTLY_0(n5)) {
 		case 0: {
-			memset(p10 + 108, 0, 12);
-			store64u(p10 + 120, UINT64_MAX);
-			uint8_t n11 = tp_AdapterWrite_write_str(p10, (byte *)tp_static_300, 37);
-			n12 = n11;
+			memset(p4 + 108, 0, 12);
+			store64u(p4 + 120, UINT64_MAX);
+			uint8_t n8 = tp_AdapterWrite_write_str(p4, (byte *)tp_static_300, 37);
+			n9 = n8;
 			break;
 		}
 		case 1: {
-			memset(p10 + 108, 0, 12);
-			store64u(p10 + 120, UINT64_MAX);
-			uint8_t n13 = tp_AdapterWrite_write_str(p10, (byte *)tp_static_301, 28);
-			n12 = n13;
+			memset(p4 + 108, 0, 12);
+			store64u(p4 + 120, UINT64_MAX);
+			uint8_t n10 = tp_AdapterWrite_write_str(p4, (byte *)tp_static_301, 28);
+			n9 = n10;
 			break;
 		}
 		case 2: {
-			memset(p10 + 108, 0, 12);
-			store64u(p10 + 120, UINT64_MAX);
-			uint8_t n14 = tp_AdapterWrite_write_str(p10, (byte *)tp_static_286, 30);
-			n12 = n14;
+			memset(p4 + 108, 0, 12);
+			store64u(p4 + 120, UINT64_MAX);
+			uint8_t n11 = tp_AdapterWrite_write_str(p4, (byte *)tp_static_286, 30);
+			n9 = n11;
 			break;
 		}
 		case 3: {
-			memset(p10 + 108, 0, 12);
-			store64u(p10 + 120, UINT64_MAX);
-			uint8_t n15 = tp_AdapterWrite_write_str(p10, (byte *)tp_static_302, 32);
-			n12 = n15;
+			memset(p4 + 108, 0, 12);
+			store64u(p4 + 120, UINT64_MAX);
+			uint8_t n12 = tp_AdapterWrite_write_str(p4, (byte *)tp_static_302, 32);
+			n9 = n12;
 			break;
 		}
 		case 4: {
-			memset(p10 + 108, 0, 12);
-			store64u(p10 + 120, UINT64_MAX);
-			uint8_t n16 = tp_AdapterWrite_write_str(p10, (byte *)tp_static_303, 40);
-			n12 = n16;
+			memset(p4 + 108, 0, 12);
+			store64u(p4 + 120, UINT64_MAX);
+			uint8_t n13 = tp_AdapterWrite_write_str(p4, (byte *)tp_static_303, 40);
+			n9 = n13;
 			break;
 		}
 		default: {
@@ -75494,137 +75425,75 @@ static void tp_traits_Write_write_fmt(byte *p1, byte *p2, byte *p3)
 		break;
 	}
 	case 1: {
-		store32u(p10 + 104, 32);
-		memset(p10 + 108, 0, 12);
-		store64u(p10 + 120, UINT64_MAX);
-		uint8_t n17 = tp_AdapterWrite_write_str(p10, (byte *)tp_static_285, 35);
-		n12 = n17;
+		store32u(p4 + 104, 32);
+		memset(p4 + 108, 0, 12);
+		store64u(p4 + 120, UINT64_MAX);
+		uint8_t n14 = tp_AdapterWrite_write_str(p4, (byte *)tp_static_285, 35);
+		n9 = n14;
 		break;
 	}
 	case 2: {
-		uint64_t n27;
-		uint8_t n32;
-		store32u(p10 + 104, 32);
-		memset(p10 + 108, 0, 12);
-		store64u(p10 + 120, UINT64_MAX);
-		uint8_t n18 = tp_AdapterWrite_write_str(p10, (byte *)tp_static_299, 17);
-		if ((n18 & 1) != 0) {
-			n19 = 1;
-			goto L1;
+		uint64_t n22;
+		uint8_t n27;
+		store32u(p4 + 104, 32);
+		memset(p4 + 108, 0, 12);
+		store64u(p4 + 120, UINT64_MAX);
+		uint8_t n15 = tp_AdapterWrite_write_str(p4, (byte *)tp_static_299, 17);
+		if ((n15 & 1) != 0)
+			return;
+		store32u(p4 + 104, 32);
+		memset(p4 + 108, 0, 12);
+		store64u(p4 + 120, UINT64_MAX);
+		memset(p3, 0, 24);
+		uint64_t n16 = n6;
+		uint64_t n17 = 24;
+		while (n16 > 99) {
+			uint8_t n18 = (uint8_t)(n16 % 100);
+			store8(at(at(p3, n17), UINT64_MAX), (uint8_t)((uint8_t)(n18 % 10) | 48));
+			uint64_t n19 = n17 - 2;
+			store8(inside(p3, n19), (uint8_t)((uint8_t)(n18 / 10) | 48));
+			n16 = n16 / 100;
+			n17 = n19;
 		}
-		store32u(p10 + 104, 32);
-		memset(p10 + 108, 0, 12);
-		store64u(p10 + 120, UINT64_MAX);
-		uint64_t n20 = load64(p7 + 8);
-		memset(p5, 0, 24);
-		uint64_t n21 = n20;
-		uint64_t n22 = 24;
-		while (n21 > 99) {
-			uint8_t n23 = (uint8_t)(n21 % 100);
-			store8(at(at(p5, n22), UINT64_MAX), (uint8_t)((uint8_t)(n23 % 10) | 48));
-			uint64_t n24 = n22 - 2;
-			store8(inside(p5, n24), (uint8_t)((uint8_t)(n23 / 10) | 48));
-			n21 = n21 / 100;
-			n22 = n24;
+		if (n16 > 9) {
+			uint8_t n20 = (uint8_t)n16;
+			store8(at(at(p3, n17), UINT64_MAX), (uint8_t)((uint8_t)(n20 % 10) | 48));
+			uint64_t n21 = n17 - 2;
+			store8(inside(p3, n21), (uint8_t)((uint8_t)(n20 / 10) | 48));
+			n22 = n21;
+		} else {
+			uint64_t n23 = n17 - 1;
+			store8(inside(p3, n23), (uint8_t)((uint8_t)n16 | 48));
+			n22 = n23;
 		}
-		if (n21 > 9) {
-			uint8_t n25 = (uint8_t)n21;
-			store8(at(at(p5, n22), UINT64_MAX), (uint8_t)((uint8_t)(n25 % 10) | 48));
-			uint64_t n26 = n22 - 2;
-			store8(inside(p5, n26), (uint8_t)((uint8_t)(n25 / 10) | 48));
+		byte *p24 = at(p3, n22);
+		store8(at(p24, UINT64_MAX), 45);
+		uint64_t n25 = 24 - n22;
+		if (load64(p4 + 128) == 0) {
+			uint8_t n26 = tp_AdapterWrite_write_str(p4, p24, n25);
 			n27 = n26;
 		} else {
-			uint64_t n28 = n22 - 1;
-			store8(inside(p5, n28), (uint8_t)((uint8_t)n21 | 48));
+			uint8_t n28 = tp_Formatter_write_indented(p4, p24, n25);
 			n27 = n28;
 		}
-		byte *p29 = at(p5, n27);
-		store8(at(p29, UINT64_MAX), 45);
-		uint64_t n30 = 24 - n27;
-		if (load64(p10 + 128) == 0) {
-			uint8_t n31 = tp_AdapterWrite_write_str(p10, p29, n30);
-			n32 = n31;
-		} else {
-			uint8_t n33 = tp_Formatter_write_indented(p10, p29, n30);
-			n32 = n33;
-		}
-		n12 = n32;
+		n9 = n27;
 		break;
 	}
 	default: {
 		UNREACHABLE();
 	}
 	}
-	if (n12 == 0) {
-		store32u(p10 + 104, 32);
-		memset(p10 + 108, 0, 12);
-		store64u(p10 + 120, UINT64_MAX);
-		if (load64(p10 + 128) == 0) {
-			uint8_t n34 = tp_AdapterWrite_write_str(p10, p8, n9);
-			n19 = n34;
-		} else {
-			uint8_t n35 = tp_Formatter_write_indented(p10, p8, n9);
-			n19 = n35;
-		}
-	} else {
-		n19 = 1;
-	}
-L1:
-	{
-		uint8_t n44, n45, n46, n47, n48;
-		uint32_t n49;
-		uint64_t n50, n51;
-		uint8_t n36 = load8(p10 + 16);
-		uint8_t n37 = load8(p10 + 17);
-		uint8_t n38 = load8(p10 + 18);
-		uint8_t n39 = load8(p10 + 19);
-		uint32_t n40 = load32u(p10 + 20);
-		uint64_t n41 = load64u(p10 + 24);
-		uint64_t n42 = load64u(p10 + 32);
-		uint8_t n43 = (uint8_t)load64u(p10 + 8);
-		memset(p4, 0, 64);
-		if (n43 == 1) {
-			memcpy(p4, p10 + 40, 64);
-			n44 = 1;
-			n45 = n36;
-			n46 = n37;
-			n47 = n38;
-			n48 = n39;
-			n49 = n40;
-			n50 = n41;
-			n51 = n42;
-		} else if ((n19 & 1) != 0) {
-			memset(p4, 46, 64);
-			n44 = 1;
-			n45 = 2;
-			n46 = 41;
-			n47 = 15;
-			n48 = 0;
-			n49 = 0;
-			n50 = UINT64_C(7310596056926023526);
-			n51 = UINT64_C(3346860010425884786);
-		} else {
-			n44 = 0;
-			n45 = 0;
-			n46 = 0;
-			n47 = 0;
-			n48 = 0;
-			n49 = 0;
-			n50 = 0;
-			n51 = 0;
-		}
-		memcpy(p6, p4, 64);
-		store8(p1, n44);
-		store8(p1 + 8, n45);
-		store8(p1 + 9, n46);
-		store8(p1 + 10, n47);
-		store8(p1 + 11, n48);
-		store32u(p1 + 12, n49);
-		store64u(p1 + 16, n50);
-		store64u(p1 + 24, n51);
-		memcpy(p1 + 32, p6, 64);
+	if (n9 != 0)
+		return;
+	store32u(p4 + 104, 32);
+	memset(p4 + 108, 0, 12);
+	store64u(p4 + 120, UINT64_MAX);
+	if (load64(p4 + 128) == 0) {
+		(void)tp_AdapterWrite_write_str(p4, (byte *)tp_static_110, 1);
 		return;
 	}
+	(void)tp_Formatter_write_indented(p4, (byte *)tp_static_110, 1);
+	return;
 }
 
 /* rtrb::release::drop_slow */
@@ -81235,8 +81104,8 @@ L1:
 	}
 }
 
-/* timer_commands::error_report::report_failure: crates/timer_commands/src/error_report.rt */
-static void tp_error_report_report_failure(uint8_t n1, byte *p2)
+/* timer_commands::ending::report: crates/timer_commands/src/ending.rt */
+static void tp_timer_commands_ending_report_3(uint8_t n1, byte *p2)
 {
 	ALIGN(8) byte p3[144];
 	uint8_t n5;
@@ -81324,8 +81193,8 @@ static COLD bool tp_vec_Vec_grow_amortized(byte *p1)
 	return true;
 }
 
-/* timer_commands::error_report::report: crates/timer_commands/src/error_report.rt */
-static void tp_error_report_report(byte *p1)
+/* timer_commands::ending::report: crates/timer_commands/src/ending.rt */
+static void tp_ending_report(byte *p1)
 {
 	ALIGN(8) byte p2[144];
 	store64u(p2, (uint64_t)(uintptr_t)p1);
@@ -81360,165 +81229,146 @@ static uint8_t tp_command_run_subcommand(byte *p1, byte *p2, byte *p3)
 	ALIGN(8) byte p10[24];
 	ALIGN(8) byte p11[64];
 	ALIGN(8) byte p12[144];
-	ALIGN(8) byte p13[16];
-	ALIGN(8) byte p14[96];
-	ALIGN(8) byte p15[24];
-	ALIGN(1) byte p16[1];
-	ALIGN(8) byte p17[96];
+	ALIGN(8) byte p13[88];
+	ALIGN(8) byte p14[48];
+	ALIGN(8) byte p15[1384];
+	ALIGN(8) byte p16[24];
+	ALIGN(8) byte p17[24];
 	ALIGN(8) byte p18[24];
-	ALIGN(8) byte p19[88];
-	ALIGN(8) byte p20[48];
-	ALIGN(8) byte p21[1384];
-	ALIGN(8) byte p22[24];
-	ALIGN(8) byte p23[24];
-	ALIGN(8) byte p24[24];
-	ALIGN(8) byte p25[72];
-	ALIGN(8) byte p26[24];
+	ALIGN(8) byte p19[72];
+	ALIGN(8) byte p20[24];
+	ALIGN(8) byte p21[40];
+	ALIGN(8) byte p22[16];
+	ALIGN(8) byte p23[104];
+	ALIGN(8) byte p24[40];
+	ALIGN(8) byte p25[512];
+	ALIGN(8) byte p26[512];
 	ALIGN(8) byte p27[40];
-	ALIGN(8) byte p28[16];
-	ALIGN(8) byte p29[104];
-	ALIGN(8) byte p30[40];
+	ALIGN(8) byte p28[32];
+	ALIGN(8) byte p29[512];
+	ALIGN(8) byte p30[280];
 	ALIGN(8) byte p31[512];
-	ALIGN(8) byte p32[512];
-	ALIGN(8) byte p33[40];
+	ALIGN(8) byte p32[16];
+	ALIGN(8) byte p33[88];
 	ALIGN(8) byte p34[32];
-	ALIGN(8) byte p35[512];
-	ALIGN(8) byte p36[280];
-	ALIGN(8) byte p37[512];
+	ALIGN(8) byte p35[40];
+	ALIGN(8) byte p36[88];
+	ALIGN(8) byte p37[88];
 	ALIGN(8) byte p38[88];
-	ALIGN(8) byte p39[32];
-	ALIGN(8) byte p40[40];
+	ALIGN(8) byte p39[88];
+	ALIGN(1) byte p40[40];
 	ALIGN(8) byte p41[88];
-	ALIGN(8) byte p42[88];
-	ALIGN(8) byte p43[88];
-	ALIGN(8) byte p44[88];
-	ALIGN(1) byte p45[40];
-	ALIGN(8) byte p46[88];
-	ALIGN(8) byte p47[8];
-	ALIGN(8) byte p48[96];
-	ALIGN(8) byte p49[24];
-	ALIGN(8) byte p50[88];
-	ALIGN(8) byte p51[64];
-	ALIGN(8) byte p52[16];
-	ALIGN(8) byte p53[16];
-	ALIGN(2) byte p54[6];
+	ALIGN(8) byte p42[8];
+	ALIGN(8) byte p43[96];
+	ALIGN(8) byte p44[24];
+	ALIGN(8) byte p45[88];
+	ALIGN(8) byte p46[64];
+	ALIGN(8) byte p47[16];
+	ALIGN(8) byte p48[16];
+	ALIGN(2) byte p49[6];
+	ALIGN(8) byte p50[24];
+	ALIGN(8) byte p51[16];
+	ALIGN(8) byte p52[24];
+	ALIGN(8) byte p53[80];
+	ALIGN(8) byte p54[16];
 	ALIGN(8) byte p55[24];
-	ALIGN(8) byte p56[16];
-	ALIGN(8) byte p57[24];
-	ALIGN(8) byte p58[80];
+	ALIGN(8) byte p56[512];
+	ALIGN(8) byte p57[520];
+	ALIGN(8) byte p58[24];
 	ALIGN(8) byte p59[16];
 	ALIGN(8) byte p60[24];
-	ALIGN(8) byte p61[512];
-	ALIGN(8) byte p62[520];
+	ALIGN(8) byte p61[80];
+	ALIGN(8) byte p62[16];
 	ALIGN(8) byte p63[24];
-	ALIGN(8) byte p64[16];
-	ALIGN(8) byte p65[24];
-	ALIGN(8) byte p66[80];
-	ALIGN(8) byte p67[16];
-	ALIGN(8) byte p68[24];
-	ALIGN(8) byte p69[512];
-	ALIGN(8) byte p70[520];
-	ALIGN(8) byte p71[512];
-	ALIGN(8) byte p72[280];
+	ALIGN(8) byte p64[512];
+	ALIGN(8) byte p65[520];
+	ALIGN(8) byte p66[512];
+	ALIGN(8) byte p67[280];
+	ALIGN(2) byte p68[24];
+	ALIGN(2) byte p69[16];
+	ALIGN(2) byte p70[24];
+	ALIGN(2) byte p71[80];
+	ALIGN(2) byte p72[16];
 	ALIGN(2) byte p73[24];
-	ALIGN(2) byte p74[16];
-	ALIGN(2) byte p75[24];
-	ALIGN(2) byte p76[80];
-	ALIGN(2) byte p77[16];
-	ALIGN(2) byte p78[24];
-	ALIGN(8) byte p79[32];
+	ALIGN(8) byte p74[32];
+	ALIGN(8) byte p75[24];
+	ALIGN(8) byte p76[16];
+	ALIGN(8) byte p77[24];
+	ALIGN(8) byte p78[80];
+	ALIGN(8) byte p79[16];
 	ALIGN(8) byte p80[24];
-	ALIGN(8) byte p81[16];
-	ALIGN(8) byte p82[24];
-	ALIGN(8) byte p83[80];
+	ALIGN(8) byte p81[512];
+	ALIGN(8) byte p82[520];
+	ALIGN(8) byte p83[24];
 	ALIGN(8) byte p84[16];
 	ALIGN(8) byte p85[24];
-	ALIGN(8) byte p86[512];
-	ALIGN(8) byte p87[520];
+	ALIGN(8) byte p86[80];
+	ALIGN(8) byte p87[16];
 	ALIGN(8) byte p88[24];
-	ALIGN(8) byte p89[16];
-	ALIGN(8) byte p90[24];
-	ALIGN(8) byte p91[80];
+	ALIGN(8) byte p89[512];
+	ALIGN(8) byte p90[520];
+	ALIGN(8) byte p91[24];
 	ALIGN(8) byte p92[16];
 	ALIGN(8) byte p93[24];
-	ALIGN(8) byte p94[512];
-	ALIGN(8) byte p95[520];
+	ALIGN(8) byte p94[80];
+	ALIGN(8) byte p95[16];
 	ALIGN(8) byte p96[24];
-	ALIGN(8) byte p97[16];
-	ALIGN(8) byte p98[24];
-	ALIGN(8) byte p99[80];
+	ALIGN(8) byte p97[512];
+	ALIGN(8) byte p98[520];
+	ALIGN(8) byte p99[24];
 	ALIGN(8) byte p100[16];
 	ALIGN(8) byte p101[24];
-	ALIGN(8) byte p102[512];
-	ALIGN(8) byte p103[520];
+	ALIGN(8) byte p102[80];
+	ALIGN(8) byte p103[16];
 	ALIGN(8) byte p104[24];
-	ALIGN(8) byte p105[16];
-	ALIGN(8) byte p106[24];
-	ALIGN(8) byte p107[80];
-	ALIGN(8) byte p108[16];
-	ALIGN(8) byte p109[24];
-	ALIGN(8) byte p110[512];
-	ALIGN(8) byte p111[520];
-	ALIGN(8) byte p112[24];
-	ALIGN(8) byte p113[48];
-	ALIGN(8) byte p114[1360];
-	ALIGN(8) byte p115[24];
-	ALIGN(8) byte p116[48];
-	ALIGN(8) byte p117[88];
-	ALIGN(1) byte p118[1];
-	ALIGN(8) byte p119[96];
-	ALIGN(8) byte p120[24];
+	ALIGN(8) byte p105[512];
+	ALIGN(8) byte p106[520];
+	ALIGN(8) byte p107[24];
+	ALIGN(8) byte p108[48];
+	ALIGN(8) byte p109[1360];
+	ALIGN(8) byte p110[24];
+	ALIGN(8) byte p111[48];
+	ALIGN(8) byte p112[88];
+	ALIGN(8) byte p113[512];
+	ALIGN(8) byte p114[80];
+	ALIGN(8) byte p115[1480];
+	ALIGN(8) byte p116[128];
+	ALIGN(1) byte p117[127];
+	ALIGN(8) byte p118[512];
+	ALIGN(8) byte p119[80];
+	ALIGN(8) byte p120[1360];
 	ALIGN(8) byte p121[512];
 	ALIGN(8) byte p122[80];
-	ALIGN(8) byte p123[1480];
-	ALIGN(8) byte p124[128];
-	ALIGN(1) byte p125[127];
-	ALIGN(1) byte p126[1];
-	ALIGN(8) byte p127[96];
-	ALIGN(8) byte p128[24];
-	ALIGN(8) byte p129[512];
-	ALIGN(8) byte p130[80];
-	ALIGN(8) byte p131[1360];
-	ALIGN(1) byte p132[1];
-	ALIGN(8) byte p133[96];
-	ALIGN(8) byte p134[24];
-	ALIGN(8) byte p135[512];
-	ALIGN(8) byte p136[80];
-	ALIGN(8) byte p137[1360];
-	ALIGN(1) byte p138[1];
-	ALIGN(8) byte p139[96];
-	ALIGN(8) byte p140[24];
-	ALIGN(8) byte p141[512];
-	ALIGN(8) byte p142[80];
-	ALIGN(8) byte p143[1216];
-	ALIGN(8) byte p144[24];
-	ALIGN(8) byte p145[512];
-	ALIGN(8) byte p146[80];
-	ALIGN(8) byte p147[1144];
-	ALIGN(1) byte p148[48];
-	ALIGN(8) byte p149[24];
-	ALIGN(8) byte p150[280];
-	ALIGN(8) byte p151[280];
-	ALIGN(1) byte p152[127];
-	ALIGN(8) byte p153[16];
-	ALIGN(8) byte p154[96];
-	ALIGN(8) byte p155[24];
-	uint8_t n156 = load8(p1 + 8);
-	uint64_t n157 = load64u(p1 + 16);
-	uint8_t n158 = (uint8_t)n157;
-	uint8_t n159 = (uint8_t)(n157 >> 8);
-	uint8_t n160 = (uint8_t)(n157 >> 16);
-	uint64_t n161 = load64u(p1 + 24);
-	uint64_t n162 = load64u(p1 + 32);
-	uint64_t n163 = load64u(p1 + 40);
-	uint8_t n164 = load8(p1 + 96);
-	uint64_t n165 = load64u(p1 + 104);
-	uint64_t n166 = load64u(p1 + 112);
-	uint64_t n167 = load64u(p1 + 120);
-	uint64_t n168 = load64u(p1 + 128);
+	ALIGN(8) byte p123[1360];
+	ALIGN(8) byte p124[512];
+	ALIGN(8) byte p125[80];
+	ALIGN(8) byte p126[1216];
+	ALIGN(8) byte p127[24];
+	ALIGN(8) byte p128[512];
+	ALIGN(8) byte p129[80];
+	ALIGN(8) byte p130[1144];
+	ALIGN(1) byte p131[48];
+	ALIGN(8) byte p132[24];
+	ALIGN(8) byte p133[280];
+	ALIGN(8) byte p134[280];
+	ALIGN(1) byte p135[127];
+	ALIGN(8) byte p136[16];
+	uint8_t n137 = load8(p1 + 8);
+	uint64_t n138 = load64u(p1 + 16);
+	uint8_t n139 = (uint8_t)n138;
+	uint8_t n140 = (uint8_t)(n138 >> 8);
+	uint8_t n141 = (uint8_t)(n138 >> 16);
+	uint64_t n142 = load64u(p1 + 24);
+	uint64_t n143 = load64u(p1 + 32);
+	uint64_t n144 = load64u(p1 + 40);
+	uint8_t n145 = load8(p1 + 96);
+	uint64_t n146 = load64u(p1 + 104);
+	uint64_t n147 = load64u(p1 + 112);
+	uint64_t n148 = load64u(p1 + 120);
+	uint64_t n149 = load64u(p1 + 128);
 	if (load8(p1) != 0) {
-		uint8_t n694;
-		switch (n156) {
+		uint8_t n681;
+		switch (n137) {
 		case 16: {
 			store64u(p5, (uint64_t)(uintptr_t)p3);
 			memset(p5 + 8, 0, 96);
@@ -81526,8 +81376,8 @@ static uint8_t tp_command_run_subcommand(byte *p1, byte *p2, byte *p3)
 			store32u(p5 + 104, 32);
 			memset(p5 + 108, 0, 12);
 			store64u(p5 + 120, UINT64_MAX);
-			uint8_t n693 = tp_AdapterWrite_write_str(p5, (byte *)tp_static_247, 13);
-			if ((n693 & 1) == 0) {
+			uint8_t n680 = tp_AdapterWrite_write_str(p5, (byte *)tp_static_247, 13);
+			if ((n680 & 1) == 0) {
 				store32u(p5 + 104, 32);
 				memset(p5 + 108, 0, 12);
 				store64u(p5 + 120, UINT64_MAX);
@@ -81537,14 +81387,14 @@ static uint8_t tp_command_run_subcommand(byte *p1, byte *p2, byte *p3)
 					(void)tp_Formatter_write_indented(p5, (byte *)tp_static_110, 1);
 				}
 			}
-			n694 = 1;
+			n681 = 1;
 			break;
 		}
 		case 11:
 		case 13: {
-			uint64_t n702, n703;
-			byte *p704;
-			bool b705;
+			uint64_t n689, n690;
+			byte *p691;
+			bool b692;
 			memset(p11 + 8, 0, 16);
 			memset(p11 + 57, 0, 7);
 			storeptru(p11, p4);
@@ -81557,62 +81407,62 @@ static uint8_t tp_command_run_subcommand(byte *p1, byte *p2, byte *p3)
 			store32u(p11 + 24, 32);
 			memset(p11 + 28, 0, 12);
 			store64u(p11 + 40, UINT64_MAX);
-			if (n158 == 1) {
-				byte *p696;
-				uint64_t n697, n698, n701;
-				byte *p695 = (byte *)(uintptr_t)n161;
-				if (n162 == 0) {
-					p696 = p4;
-					n697 = 0;
-					n698 = 0;
+			if (n139 == 1) {
+				byte *p683;
+				uint64_t n684, n685, n688;
+				byte *p682 = (byte *)(uintptr_t)n142;
+				if (n143 == 0) {
+					p683 = p4;
+					n684 = 0;
+					n685 = 0;
 				} else {
-					bool b699 = tp_Vec_grow_amortized(p11, n162);
-					if (!b699)
+					bool b686 = tp_Vec_grow_amortized(p11, n143);
+					if (!b686)
 						goto L1;
-					p696 = loadptr(p11);
-					n697 = load64(p11 + 16);
-					n698 = load64(p11 + 8);
+					p683 = loadptr(p11);
+					n684 = load64(p11 + 16);
+					n685 = load64(p11 + 8);
 				}
 				memset(p11 + 8, 0, 16);
-				byte *p700 = at(p696, n698);
-				if (((uint64_t)(uintptr_t)p700 - n161) >= n162) {
-					memmove(p700, p695, (size_t)n162);
+				byte *p687 = at(p683, n685);
+				if (((uint64_t)(uintptr_t)p687 - n142) >= n143) {
+					memmove(p687, p682, (size_t)n143);
 					goto L2;
 				}
-				n701 = 0;
-				while (n701 != n162) {
-					store8(inside(p700, n701), load8(inside(p695, n701)));
-					n701 = n701 + 1;
+				n688 = 0;
+				while (n688 != n143) {
+					store8(inside(p687, n688), load8(inside(p682, n688)));
+					n688 = n688 + 1;
 				}
 L2:
 				{
-					n702 = n697;
-					n703 = n698 + n162;
-					p704 = p696;
+					n689 = n684;
+					n690 = n685 + n143;
+					p691 = p683;
 					goto L3;
 				}
 			}
-			b705 = tp_Vec_grow_amortized(p11, 21);
-			if (b705) {
-				uint64_t n710;
-				uint64_t n706 = load64(p11 + 8);
-				uint64_t n707 = load64(p11 + 16);
-				byte *p708 = loadptr(p11);
-				byte *p709 = at(p708, n706);
-				if (((uint64_t)(uintptr_t)p709 - (uint64_t)(uintptr_t)(byte *)tp_static_319) >= 21) {
-					memcpy(p709, (byte *)tp_static_319, 21);
+			b692 = tp_Vec_grow_amortized(p11, 21);
+			if (b692) {
+				uint64_t n697;
+				uint64_t n693 = load64(p11 + 8);
+				uint64_t n694 = load64(p11 + 16);
+				byte *p695 = loadptr(p11);
+				byte *p696 = at(p695, n693);
+				if (((uint64_t)(uintptr_t)p696 - (uint64_t)(uintptr_t)(byte *)tp_static_319) >= 21) {
+					memcpy(p696, (byte *)tp_static_319, 21);
 					goto L4;
 				}
-				n710 = 0;
-				while (n710 != 21) {
-					store8(inside(p709, n710), load8(inside((byte *)tp_static_319, n710)));
-					n710 = n710 + 1;
+				n697 = 0;
+				while (n697 != 21) {
+					store8(inside(p696, n697), load8(inside((byte *)tp_static_319, n697)));
+					n697 = n697 + 1;
 				}
 L4:
 				{
-					n702 = n707;
-					n703 = n706 + 21;
-					p704 = p708;
+					n689 = n694;
+					n690 = n693 + 21;
+					p691 = p695;
 					goto L3;
 				}
 			}
@@ -81621,46 +81471,46 @@ L1:
 				memcpy(p11 + 24, p10, 24);
 				if (load64u(p11 + 16) != 0)
 					rattle_dealloc(loadptru(p11));
-				tp_error_report_report(p3);
-				n694 = 1;
+				tp_ending_report(p3);
+				n681 = 1;
 				goto L5;
 			}
 L3:
 			{
-				bool b711 = n702 == 0;
-				uint64_t n712 = 0;
-				while (n712 < n703) {
-					uint64_t n713 = n703 - n712;
-					uint64_t n714 = os_write(1, at(p704, n712), n713);
-					if ((int64_t)n714 < (int64_t)0) {
+				bool b698 = n689 == 0;
+				uint64_t n699 = 0;
+				while (n699 < n690) {
+					uint64_t n700 = n690 - n699;
+					uint64_t n701 = os_write(1, at(p691, n699), n700);
+					if ((int64_t)n701 < (int64_t)0) {
 						tp_error_last_error(p9);
 						goto L6;
 					}
-					uint64_t n715 = umin64(n714, n713);
-					if (n715 == 0)
+					uint64_t n702 = umin64(n701, n700);
+					if (n702 == 0)
 						goto L6;
-					n712 = n712 + n715;
+					n699 = n699 + n702;
 				}
-				if (b711) {
-					n694 = 0;
+				if (b698) {
+					n681 = 0;
 					goto L5;
 				}
-				rattle_dealloc(p704);
-				n694 = 0;
+				rattle_dealloc(p691);
+				n681 = 0;
 				goto L5;
 L6:
 				{
 					store8(p2 + 1, 1);
-					store64u(p6, n712);
+					store64u(p6, n699);
 					storeptru(p8, p6);
 					storeptru(p8 + 8, (byte *)tp_static_110);
 					store64u(p8 + 16, 1);
 					tp_Write_write_fmt(p7, p3, p8);
-					if (b711) {
-						n694 = 1;
+					if (b698) {
+						n681 = 1;
 					} else {
-						rattle_dealloc(p704);
-						n694 = 1;
+						rattle_dealloc(p691);
+						n681 = 1;
 					}
 				}
 			}
@@ -81686,12 +81536,12 @@ L6:
 			store32u(p12 + 104, 32);
 			memset(p12 + 108, 0, 12);
 			store64u(p12 + 120, UINT64_MAX);
-			if (n158 == 1) {
-				(void)tp_AdapterWrite_write_str(p12, (byte *)(uintptr_t)n161, n162);
+			if (n139 == 1) {
+				(void)tp_AdapterWrite_write_str(p12, (byte *)(uintptr_t)n142, n143);
 			} else {
 				(void)tp_AdapterWrite_write_str(p12, (byte *)tp_static_319, 21);
 			}
-			n694 = 2;
+			n681 = 5;
 			break;
 		}
 		default: {
@@ -81700,487 +81550,523 @@ L6:
 		}
 L5:
 		{
-			byte *p716 = (byte *)(uintptr_t)n161;
-			if (n158 != 1)
-				return n694;
-			if (n163 == 0)
-				return n694;
-			rattle_dealloc(p716);
-			return n694;
+			byte *p703 = (byte *)(uintptr_t)n142;
+			if (n139 != 1)
+				return n681;
+			if (n144 == 0)
+				return n681;
+			rattle_dealloc(p703);
+			return n681;
 		}
 	}
-	switch (MOSTLY_0(n156)) {
+	switch (MOSTLY_0(n137)) {
 	case 0: {
-		uint64_t n169, n170;
-		uint8_t n207;
-		memset(p153, 0, 16);
-		memset(p154, 0, 96);
-		memset(p155, 0, 24);
-		if ((n166 - 65) < UINT64_C(18446744073709551552)) {
-			n169 = 0;
-			n170 = 0;
-		} else if ((n167 - 1048577) < UINT64_C(18446744073708503040)) {
-			n169 = 0;
-			n170 = 256;
-		} else if (n168 > UINT64_C(1152921504606846975)) {
-			n169 = 0;
-			n170 = 512;
-		} else if ((n165 - 65537) < UINT64_C(18446744073709486080)) {
-			n169 = 0;
-			n170 = 1;
+		uint64_t n150, n151;
+		uint8_t n192;
+		memset(p136, 0, 16);
+		if ((n147 - 65) < UINT64_C(18446744073709551552)) {
+			n150 = 0;
+			n151 = 0;
+		} else if ((n148 - 1048577) < UINT64_C(18446744073708503040)) {
+			n150 = 0;
+			n151 = 256;
+		} else if (n149 > UINT64_C(1152921504606846975)) {
+			n150 = 0;
+			n151 = 512;
+		} else if ((n146 - 65537) < UINT64_C(18446744073709486080)) {
+			n150 = 0;
+			n151 = 1;
 		} else {
-			uint64_t n171;
-			switch (MOSTLY_0(n164)) {
+			uint64_t n152;
+			switch (MOSTLY_0(n145)) {
 			case 0:
 			case 1:
 			case 2:
 			case 4: {
-				n171 = UINT64_C(1152921504606846975);
+				n152 = UINT64_C(1152921504606846975);
 				break;
 			}
 			case 3: {
-				n171 = 8639999;
+				n152 = 8639999;
 				break;
 			}
 			default: {
 				UNREACHABLE();
 			}
 			}
-			bool b172 = n171 < n168;
-			uint64_t n173 = b172 ? 2 : n166;
-			uint64_t n174 = b172 ? n171 : n167;
-			uint64_t n175 = (uint64_t)!b172;
-			if (!b172) {
-				uint8_t n179;
-				memcpy(p148, p1 + 48, 48);
-				memset(p149, 0, 24);
-				memset(p150, 0, 280);
-				memset(p151, 0, 280);
-				memset(p152, 0, 127);
-				switch (MOSTLY_0(n164)) {
+			bool b153 = n152 < n149;
+			uint64_t n154 = b153 ? 2 : n147;
+			uint64_t n155 = b153 ? n152 : n148;
+			uint64_t n156 = (uint64_t)!b153;
+			if (!b153) {
+				uint8_t n160;
+				memcpy(p131, p1 + 48, 48);
+				memset(p132, 0, 24);
+				memset(p133, 0, 280);
+				memset(p134, 0, 280);
+				memset(p135, 0, 127);
+				switch (MOSTLY_0(n145)) {
 				case 0: {
-					store64(p146, 0);
-					store8(p146, n158);
-					store8(p146 + 1, n159);
-					store8(p146 + 2, n160);
-					store64(p146 + 8, n161);
-					store64(p146 + 16, n162);
-					store64(p146 + 24, n163);
-					memcpy(p146 + 32, p1 + 48, 48);
-					memset(p145, 0, 512);
-					uint64_t n176 = 0;
+					store64(p129, 0);
+					store8(p129, n139);
+					store8(p129 + 1, n140);
+					store8(p129 + 2, n141);
+					store64(p129 + 8, n142);
+					store64(p129 + 16, n143);
+					store64(p129 + 24, n144);
+					memcpy(p129 + 32, p1 + 48, 48);
+					memset(p128, 0, 512);
+					uint64_t n157 = 0;
 					for (;;) {
-						store64(at(p145, n176), n175);
-						uint64_t n177 = n176 + 8;
-						if (n177 == 512)
+						store64(at(p128, n157), n156);
+						uint64_t n158 = n157 + 8;
+						if (n158 == 512)
 							break;
-						n176 = n177;
+						n157 = n158;
 					}
-					store64(p147, n168);
-					store64(p147 + 8, 0);
-					storeptr(p147 + 16, p4);
-					memset(p147 + 24, 0, 32);
-					store64u(p147 + 56, n166);
-					store64u(p147 + 64, n167);
-					store64u(p147 + 72, n175);
-					memcpy(p147 + 80, p145, 512);
-					memset(p147 + 592, 0, 520);
-					storeptru(p147 + 1112, p4);
-					memset(p147 + 1120, 0, 24);
-					uint8_t n178 = tp_timer_commands_verbs_do_verb_3(p146, p147, p2, p3);
-					n179 = n178;
+					store64(p130, n149);
+					store64(p130 + 8, 0);
+					storeptr(p130 + 16, p4);
+					memset(p130 + 24, 0, 32);
+					store64u(p130 + 56, n147);
+					store64u(p130 + 64, n148);
+					store64u(p130 + 72, n156);
+					memcpy(p130 + 80, p128, 512);
+					memset(p130 + 592, 0, 520);
+					storeptru(p130 + 1112, p4);
+					memset(p130 + 1120, 0, 24);
+					uint8_t n159 = tp_timer_commands_verbs_do_verb_3(p129, p130, p2, p3);
+					n160 = n159;
 					break;
 				}
 				case 1: {
-					uint8_t n190;
-					uint64_t n180 = n165 + 1;
-					of_i64_i64 s181 = rattle_alloc(n180 << 3, 4);
-					if ((s181.f0 & 1) != 0) {
-						storeptru(p144, (byte *)(uintptr_t)s181.f1);
-						store64u(p144 + 8, 0);
-						store64u(p144 + 16, n180);
-						uint64_t n182 = 0;
-						uint64_t n183 = 0;
+					uint8_t n171;
+					uint64_t n161 = n146 + 1;
+					of_i64_i64 s162 = rattle_alloc(n161 << 3, 4);
+					if ((s162.f0 & 1) != 0) {
+						storeptru(p127, (byte *)(uintptr_t)s162.f1);
+						store64u(p127 + 8, 0);
+						store64u(p127 + 16, n161);
+						uint64_t n163 = 0;
+						uint64_t n164 = 0;
 						for (;;) {
-							uint64_t n185;
-							if (n183 == n180)
+							uint64_t n166;
+							if (n164 == n161)
 								goto L7;
-							if (load64(p144 + 16) == n182) {
-								bool b184 = tp_std_alloc_vec_Vec_grow_amortized_2(p144, 1);
-								if (!b184)
+							if (load64(p127 + 16) == n163) {
+								bool b165 = tp_std_alloc_vec_Vec_grow_amortized_2(p127, 1);
+								if (!b165)
 									break;
-								n185 = load64(p144 + 8);
+								n166 = load64(p127 + 8);
 							} else {
-								n185 = n182;
+								n166 = n163;
 							}
-							store64u(inside(loadptr(p144), n185 << 3), (n183 << 32) | n183);
-							uint64_t n186 = n185 + 1;
-							store64(p144 + 8, n186);
-							n182 = n186;
-							n183 = n183 + 1;
+							store64u(inside(loadptr(p127), n166 << 3), (n164 << 32) | n164);
+							uint64_t n167 = n166 + 1;
+							store64(p127 + 8, n167);
+							n163 = n167;
+							n164 = n164 + 1;
 						}
-						if (load64u(p144 + 16) == 0)
+						if (load64u(p127 + 16) == 0)
 							goto L8;
-						rattle_dealloc(loadptru(p144));
+						rattle_dealloc(loadptru(p127));
 						goto L8;
 L7:
 						{
-							memcpy(p149, p144, 24);
-							store64(p142, 0);
-							store8(p142, n158);
-							store8(p142 + 1, n159);
-							store8(p142 + 2, n160);
-							store64(p142 + 8, n161);
-							store64(p142 + 16, n162);
-							store64(p142 + 24, n163);
-							memcpy(p142 + 32, p148, 48);
-							memset(p141, 0, 512);
-							uint64_t n187 = 0;
+							memcpy(p132, p127, 24);
+							store64(p125, 0);
+							store8(p125, n139);
+							store8(p125 + 1, n140);
+							store8(p125 + 2, n141);
+							store64(p125 + 8, n142);
+							store64(p125 + 16, n143);
+							store64(p125 + 24, n144);
+							memcpy(p125 + 32, p131, 48);
+							memset(p124, 0, 512);
+							uint64_t n168 = 0;
 							for (;;) {
-								store64(at(p141, n187), n175);
-								uint64_t n188 = n187 + 8;
-								if (n188 == 512)
+								store64(at(p124, n168), n156);
+								uint64_t n169 = n168 + 8;
+								if (n169 == 512)
 									break;
-								n187 = n188;
+								n168 = n169;
 							}
-							store64(p143, UINT64_C(1152921504606846975));
-							store64(p143 + 8, n168);
-							store64(p143 + 16, 0);
-							store64(p143 + 24, n165);
-							storeptr(p143 + 32, p4);
-							memset(p143 + 40, 0, 32);
-							memcpy(p143 + 72, p149, 24);
-							store64(p143 + 96, n180);
-							memset(p143 + 104, 0, 16);
-							store64(p143 + 120, n168 % n165);
-							store64u(p143 + 128, n173);
-							store64u(p143 + 136, n174);
-							store64u(p143 + 144, n175);
-							memcpy(p143 + 152, p141, 512);
-							memset(p143 + 664, 0, 520);
-							storeptru(p143 + 1184, p4);
-							memset(p143 + 1192, 0, 24);
-							uint8_t n189 = tp_timer_commands_verbs_do_verb_2(p142, p143, p2, p3);
-							n190 = n189;
+							store64(p126, UINT64_C(1152921504606846975));
+							store64(p126 + 8, n149);
+							store64(p126 + 16, 0);
+							store64(p126 + 24, n146);
+							storeptr(p126 + 32, p4);
+							memset(p126 + 40, 0, 32);
+							memcpy(p126 + 72, p132, 24);
+							store64(p126 + 96, n161);
+							memset(p126 + 104, 0, 16);
+							store64(p126 + 120, n149 % n146);
+							store64u(p126 + 128, n154);
+							store64u(p126 + 136, n155);
+							store64u(p126 + 144, n156);
+							memcpy(p126 + 152, p124, 512);
+							memset(p126 + 664, 0, 520);
+							storeptru(p126 + 1184, p4);
+							memset(p126 + 1192, 0, 24);
+							uint8_t n170 = tp_timer_commands_verbs_do_verb_2(p125, p126, p2, p3);
+							n171 = n170;
 							goto L9;
 						}
 					}
 L8:
 					{
-						store8(p138, 2);
-						storeptru(p140, p138);
-						storeptru(p140 + 8, (byte *)tp_static_110);
-						store64u(p140 + 16, 1);
-						tp_io_traits_Write_write_fmt(p139, p3, p140);
-						n190 = 1;
+						uint8_t n172 = tp_timer_commands_ending_report_2(2, 1, p3);
+						n171 = n172;
 					}
 L9:
 					{
-						n179 = n190;
+						n160 = n171;
 					}
 					break;
 				}
 				case 2: {
-					uint8_t n196;
-					tp_HierWheel_with_table(p150, 0, n168);
-					uint8_t n191 = load8(p150 + 1);
-					uint8_t n192 = load8(p150);
-					store64(p136, 0);
-					store8(p136, n158);
-					store8(p136 + 1, n159);
-					store8(p136 + 2, n160);
-					store64(p136 + 8, n161);
-					store64(p136 + 16, n162);
-					store64(p136 + 24, n163);
-					memcpy(p136 + 32, p148, 48);
-					if (n192 == 0) {
-						memset(p135, 0, 512);
-						uint64_t n193 = 0;
+					uint8_t n178;
+					tp_HierWheel_with_table(p133, 0, n149);
+					uint8_t n173 = load8(p133 + 1);
+					uint8_t n174 = load8(p133);
+					store64(p122, 0);
+					store8(p122, n139);
+					store8(p122 + 1, n140);
+					store8(p122 + 2, n141);
+					store64(p122 + 8, n142);
+					store64(p122 + 16, n143);
+					store64(p122 + 24, n144);
+					memcpy(p122 + 32, p131, 48);
+					if (n174 == 0) {
+						memset(p121, 0, 512);
+						uint64_t n175 = 0;
 						for (;;) {
-							store64(at(p135, n193), n175);
-							uint64_t n194 = n193 + 8;
-							if (n194 == 512)
+							store64(at(p121, n175), n156);
+							uint64_t n176 = n175 + 8;
+							if (n176 == 512)
 								break;
-							n193 = n194;
+							n175 = n176;
 						}
-						memcpy(p137, p150 + 8, 272);
-						store64u(p137 + 272, n166);
-						store64u(p137 + 280, n167);
-						store64u(p137 + 288, n175);
-						memcpy(p137 + 296, p135, 512);
-						memset(p137 + 808, 0, 520);
-						storeptru(p137 + 1328, p4);
-						memset(p137 + 1336, 0, 24);
-						uint8_t n195 = tp_timer_commands_verbs_do_verb(p136, p137, p2, p3);
-						n196 = n195;
+						memcpy(p123, p133 + 8, 272);
+						store64u(p123 + 272, n147);
+						store64u(p123 + 280, n148);
+						store64u(p123 + 288, n156);
+						memcpy(p123 + 296, p121, 512);
+						memset(p123 + 808, 0, 520);
+						storeptru(p123 + 1328, p4);
+						memset(p123 + 1336, 0, 24);
+						uint8_t n177 = tp_timer_commands_verbs_do_verb(p122, p123, p2, p3);
+						n178 = n177;
 					} else {
-						store8(p132, n191);
-						storeptru(p134, p132);
-						storeptru(p134 + 8, (byte *)tp_static_110);
-						store64u(p134 + 16, 1);
-						tp_io_traits_Write_write_fmt(p133, p3, p134);
-						n196 = 1;
+						uint8_t n179 = tp_timer_commands_ending_report_2(n173, 1, p3);
+						n178 = n179;
 					}
-					n179 = n196;
+					n160 = n178;
 					break;
 				}
 				case 3: {
-					uint8_t n202;
-					tp_HierWheel_with_table(p151, 1, n168);
-					uint8_t n197 = load8(p151 + 1);
-					uint8_t n198 = load8(p151);
-					store64(p130, 0);
-					store8(p130, n158);
-					store8(p130 + 1, n159);
-					store8(p130 + 2, n160);
-					store64(p130 + 8, n161);
-					store64(p130 + 16, n162);
-					store64(p130 + 24, n163);
-					memcpy(p130 + 32, p148, 48);
-					if (n198 == 0) {
-						memset(p129, 0, 512);
-						uint64_t n199 = 0;
+					uint8_t n185;
+					tp_HierWheel_with_table(p134, 1, n149);
+					uint8_t n180 = load8(p134 + 1);
+					uint8_t n181 = load8(p134);
+					store64(p119, 0);
+					store8(p119, n139);
+					store8(p119 + 1, n140);
+					store8(p119 + 2, n141);
+					store64(p119 + 8, n142);
+					store64(p119 + 16, n143);
+					store64(p119 + 24, n144);
+					memcpy(p119 + 32, p131, 48);
+					if (n181 == 0) {
+						memset(p118, 0, 512);
+						uint64_t n182 = 0;
 						for (;;) {
-							store64(at(p129, n199), n175);
-							uint64_t n200 = n199 + 8;
-							if (n200 == 512)
+							store64(at(p118, n182), n156);
+							uint64_t n183 = n182 + 8;
+							if (n183 == 512)
 								break;
-							n199 = n200;
+							n182 = n183;
 						}
-						memcpy(p131, p151 + 8, 272);
-						store64u(p131 + 272, n166);
-						store64u(p131 + 280, n167);
-						store64u(p131 + 288, n175);
-						memcpy(p131 + 296, p129, 512);
-						memset(p131 + 808, 0, 520);
-						storeptru(p131 + 1328, p4);
-						memset(p131 + 1336, 0, 24);
-						uint8_t n201 = tp_timer_commands_verbs_do_verb(p130, p131, p2, p3);
-						n202 = n201;
+						memcpy(p120, p134 + 8, 272);
+						store64u(p120 + 272, n147);
+						store64u(p120 + 280, n148);
+						store64u(p120 + 288, n156);
+						memcpy(p120 + 296, p118, 512);
+						memset(p120 + 808, 0, 520);
+						storeptru(p120 + 1328, p4);
+						memset(p120 + 1336, 0, 24);
+						uint8_t n184 = tp_timer_commands_verbs_do_verb(p119, p120, p2, p3);
+						n185 = n184;
 					} else {
-						store8(p126, n197);
-						storeptru(p128, p126);
-						storeptru(p128 + 8, (byte *)tp_static_110);
-						store64u(p128 + 16, 1);
-						tp_io_traits_Write_write_fmt(p127, p3, p128);
-						n202 = 1;
+						uint8_t n186 = tp_timer_commands_ending_report_2(n180, 1, p3);
+						n185 = n186;
 					}
-					n179 = n202;
+					n160 = n185;
 					break;
 				}
 				case 4: {
-					uint8_t n206;
-					memset(p124, 0, 128);
-					memset(p125, 0, 7);
-					tp_Buckets_new(p124, 1280, UINT64_C(1152921504606846975), n168);
-					if (load8(p124) == 0) {
-						memcpy(p125 + 7, p124 + 8, 120);
-						memcpy(p152, p125, 127);
-						store64(p122, 0);
-						store8(p122, n158);
-						store8(p122 + 1, n159);
-						store8(p122 + 2, n160);
-						store64(p122 + 8, n161);
-						store64(p122 + 16, n162);
-						store64(p122 + 24, n163);
-						memcpy(p122 + 32, p148, 48);
-						memset(p121, 0, 512);
-						uint64_t n203 = 0;
+					uint8_t n190;
+					memset(p116, 0, 128);
+					memset(p117, 0, 7);
+					tp_Buckets_new(p116, 1280, UINT64_C(1152921504606846975), n149);
+					if (load8(p116) == 0) {
+						memcpy(p117 + 7, p116 + 8, 120);
+						memcpy(p135, p117, 127);
+						store64(p114, 0);
+						store8(p114, n139);
+						store8(p114 + 1, n140);
+						store8(p114 + 2, n141);
+						store64(p114 + 8, n142);
+						store64(p114 + 16, n143);
+						store64(p114 + 24, n144);
+						memcpy(p114 + 32, p131, 48);
+						memset(p113, 0, 512);
+						uint64_t n187 = 0;
 						for (;;) {
-							store64(at(p121, n203), n175);
-							uint64_t n204 = n203 + 8;
-							if (n204 == 512)
+							store64(at(p113, n187), n156);
+							uint64_t n188 = n187 + 8;
+							if (n188 == 512)
 								break;
-							n203 = n204;
+							n187 = n188;
 						}
-						store8(p123, 0);
-						memcpy(p123 + 1, p152, 127);
-						memset(p123 + 128, 0, 264);
-						store64u(p123 + 392, n166);
-						store64u(p123 + 400, n167);
-						store64u(p123 + 408, n175);
-						memcpy(p123 + 416, p121, 512);
-						memset(p123 + 928, 0, 520);
-						storeptru(p123 + 1448, p4);
-						memset(p123 + 1456, 0, 24);
-						uint8_t n205 = tp_verbs_do_verb(p122, p123, p2, p3);
-						n206 = n205;
+						store8(p115, 0);
+						memcpy(p115 + 1, p135, 127);
+						memset(p115 + 128, 0, 264);
+						store64u(p115 + 392, n147);
+						store64u(p115 + 400, n148);
+						store64u(p115 + 408, n156);
+						memcpy(p115 + 416, p113, 512);
+						memset(p115 + 928, 0, 520);
+						storeptru(p115 + 1448, p4);
+						memset(p115 + 1456, 0, 24);
+						uint8_t n189 = tp_verbs_do_verb(p114, p115, p2, p3);
+						n190 = n189;
 					} else {
-						store8(p118, 2);
-						storeptru(p120, p118);
-						storeptru(p120 + 8, (byte *)tp_static_110);
-						store64u(p120 + 16, 1);
-						tp_io_traits_Write_write_fmt(p119, p3, p120);
-						n206 = 1;
+						uint8_t n191 = tp_timer_commands_ending_report_2(2, 1, p3);
+						n190 = n191;
 					}
-					n179 = n206;
+					n160 = n190;
 					break;
 				}
 				default: {
 					UNREACHABLE();
 				}
 				}
-				n207 = n179;
+				n192 = n160;
 				goto L10;
 			}
-			n169 = n171;
-			n170 = 2;
+			n150 = n152;
+			n151 = 2;
 		}
-		store8(p153, (uint8_t)n170);
-		store8(p153 + 1, (uint8_t)(n170 >> 8));
-		store64u(p153 + 8, n169);
-		storeptru(p155, p153);
-		storeptru(p155 + 8, (byte *)tp_static_110);
-		store64u(p155 + 16, 1);
-		tp_traits_Write_write_fmt(p154, p3, p155);
-		n207 = 2;
+		store8(p136, (uint8_t)n151);
+		store8(p136 + 1, (uint8_t)(n151 >> 8));
+		store64u(p136 + 8, n150);
+		tp_timer_commands_ending_report(p136, p3);
+		n192 = 5;
 L10:
 		{
-			return n207;
+			return n192;
 		}
 	}
 	case 1: {
-		uint64_t n208;
-		uint8_t n363;
-		if ((int)((n157 - 65) < UINT64_C(18446744073709551552)) | (int)((n161 - 10001) < UINT64_C(18446744073709541616))) {
-			n208 = 0;
+		uint64_t n193;
+		uint8_t n348;
+		if ((int)((n138 - 65) < UINT64_C(18446744073709551552)) | (int)((n142 - 10001) < UINT64_C(18446744073709541616))) {
+			n193 = 0;
 		} else {
-			uint8_t n210;
-			uint64_t n211, n212, n213, n364, n400;
-			of_i64_i64 s209 = rattle_alloc(0, 1);
-			if ((s209.f0 & 1) == 0) {
-				n210 = 1;
-				n211 = 0;
-				n212 = 0;
-				n213 = 0;
+			uint8_t n195;
+			uint64_t n196, n197, n198, n349, n385;
+			of_i64_i64 s194 = rattle_alloc(0, 1);
+			if ((s194.f0 & 1) == 0) {
+				n195 = 1;
+				n196 = 0;
+				n197 = 0;
+				n198 = 0;
 			} else {
-				byte *p229, *p232, *p235, *p244, *p245, *p248, *p251, *p257, *p260, *p263, *p266, *p272;
-				uint64_t n230, n231, n233, n234, n236, n237, n239, n240, n241, n242, n243, n246, n247, n249, n250, n252, n253, n254, n255, n256, n258, n259, n261, n262, n264, n265, n267, n268, n269, n270, n271, n273, n275, n276, n277;
-				bool b238;
-				uint8_t n274;
-				byte *p214 = (byte *)(uintptr_t)s209.f1;
-				memset(p79, 0, 32);
+				byte *p214, *p217, *p220, *p229, *p230, *p233, *p236, *p242, *p245, *p248, *p251, *p257;
+				uint64_t n215, n216, n218, n219, n221, n222, n224, n225, n226, n227, n228, n231, n232, n234, n235, n237, n238, n239, n240, n241, n243, n244, n246, n247, n249, n250, n252, n253, n254, n255, n256, n258, n260, n261, n262;
+				bool b223;
+				uint8_t n259;
+				byte *p199 = (byte *)(uintptr_t)s194.f1;
+				memset(p74, 0, 32);
+				memset(p75, 0, 24);
+				memset(p76, 0, 16);
+				memset(p77, 0, 24);
+				memset(p78, 0, 80);
+				memset(p79, 0, 16);
 				memset(p80, 0, 24);
-				memset(p81, 0, 16);
-				memset(p82, 0, 24);
-				memset(p83, 0, 80);
+				memset(p81, 0, 512);
+				memset(p82, 0, 520);
+				memset(p83, 0, 24);
 				memset(p84, 0, 16);
 				memset(p85, 0, 24);
-				memset(p86, 0, 512);
-				memset(p87, 0, 520);
+				memset(p86, 0, 80);
+				memset(p87, 0, 16);
 				memset(p88, 0, 24);
-				memset(p89, 0, 16);
-				memset(p90, 0, 24);
-				memset(p91, 0, 80);
+				memset(p89, 0, 512);
+				memset(p90, 0, 520);
+				memset(p91, 0, 24);
 				memset(p92, 0, 16);
 				memset(p93, 0, 24);
-				memset(p94, 0, 512);
-				memset(p95, 0, 520);
+				memset(p94, 0, 80);
+				memset(p95, 0, 16);
 				memset(p96, 0, 24);
-				memset(p97, 0, 16);
-				memset(p98, 0, 24);
-				memset(p99, 0, 80);
+				memset(p97, 0, 512);
+				memset(p98, 0, 520);
+				memset(p99, 0, 24);
 				memset(p100, 0, 16);
 				memset(p101, 0, 24);
-				memset(p102, 0, 512);
-				memset(p103, 0, 520);
-				memset(p104, 0, 24);
-				memset(p105, 0, 16);
-				memset(p106, 0, 24);
-				memset(p112, 0, 24);
-				memset(p113, 0, 48);
-				memset(p114, 0, 1360);
-				memset(p115, 0, 24);
-				memset(p116, 0, 48);
-				memset(p72, 0, 280);
-				tp_HierWheel_with_table(p72, 0, 0);
-				uint64_t n215 = load64(p72 + 8);
-				uint64_t n216 = load64(p72 + 16);
-				uint8_t n217 = load8(p72);
-				memcpy(p73, p72 + 24, 24);
-				byte *p218 = loadptr(p72 + 48);
-				uint64_t n219 = load64(p72 + 56);
-				uint64_t n220 = load64(p72 + 64);
-				memcpy(p74, p72 + 72, 16);
-				byte *p221 = loadptr(p72 + 88);
-				uint64_t n222 = load64(p72 + 96);
-				uint64_t n223 = load64(p72 + 104);
-				memcpy(p75, p72 + 112, 24);
-				memcpy(p76, p72 + 136, 80);
-				byte *p224 = loadptr(p72 + 216);
-				uint64_t n225 = load64(p72 + 224);
-				uint64_t n226 = load64(p72 + 232);
-				memcpy(p77, p72 + 240, 16);
-				memcpy(p78, p72 + 256, 24);
-				if (n217 == 0) {
-					memset(p71, 0, 512);
-					uint64_t n227 = 0;
+				memset(p107, 0, 24);
+				memset(p108, 0, 48);
+				memset(p109, 0, 1360);
+				memset(p110, 0, 24);
+				memset(p111, 0, 48);
+				memset(p67, 0, 280);
+				tp_HierWheel_with_table(p67, 0, 0);
+				uint64_t n200 = load64(p67 + 8);
+				uint64_t n201 = load64(p67 + 16);
+				uint8_t n202 = load8(p67);
+				memcpy(p68, p67 + 24, 24);
+				byte *p203 = loadptr(p67 + 48);
+				uint64_t n204 = load64(p67 + 56);
+				uint64_t n205 = load64(p67 + 64);
+				memcpy(p69, p67 + 72, 16);
+				byte *p206 = loadptr(p67 + 88);
+				uint64_t n207 = load64(p67 + 96);
+				uint64_t n208 = load64(p67 + 104);
+				memcpy(p70, p67 + 112, 24);
+				memcpy(p71, p67 + 136, 80);
+				byte *p209 = loadptr(p67 + 216);
+				uint64_t n210 = load64(p67 + 224);
+				uint64_t n211 = load64(p67 + 232);
+				memcpy(p72, p67 + 240, 16);
+				memcpy(p73, p67 + 256, 24);
+				if (n202 == 0) {
+					memset(p66, 0, 512);
+					uint64_t n212 = 0;
 					for (;;) {
-						store64(at(p71, n227), 1);
-						uint64_t n228 = n227 + 8;
-						if (n228 == 512)
+						store64(at(p66, n212), 1);
+						uint64_t n213 = n212 + 8;
+						if (n213 == 512)
 							break;
-						n227 = n228;
+						n212 = n213;
 					}
-					memcpy(p110, p71, 512);
+					memcpy(p105, p66, 512);
+					memcpy(p99, p68, 24);
+					memcpy(p100, p69, 16);
+					memcpy(p101, p70, 24);
+					memcpy(p102, p71, 80);
+					memcpy(p103, p72, 16);
 					memcpy(p104, p73, 24);
-					memcpy(p105, p74, 16);
-					memcpy(p106, p75, 24);
-					memcpy(p107, p76, 80);
-					memcpy(p108, p77, 16);
-					memcpy(p109, p78, 24);
-					memset(p111, 0, 520);
-					p229 = p218;
-					n230 = n219;
-					n231 = n220;
-					p232 = p221;
-					n233 = n222;
-					n234 = n223;
-					p235 = p224;
-					n236 = n225;
-					n237 = n226;
-					b238 = false;
-					n239 = n215;
-					n240 = n216;
-					n241 = n157;
-					n242 = 65536;
-					n243 = 1;
-					p244 = p4;
+					memset(p106, 0, 520);
+					p214 = p203;
+					n215 = n204;
+					n216 = n205;
+					p217 = p206;
+					n218 = n207;
+					n219 = n208;
+					p220 = p209;
+					n221 = n210;
+					n222 = n211;
+					b223 = false;
+					n224 = n200;
+					n225 = n201;
+					n226 = n138;
+					n227 = 65536;
+					n228 = 1;
+					p229 = p4;
 				} else {
+					memset(p99, 0, 24);
+					memset(p100, 0, 16);
+					memset(p101, 0, 24);
+					memset(p102, 0, 80);
+					memset(p103, 0, 16);
 					memset(p104, 0, 24);
-					memset(p105, 0, 16);
-					memset(p106, 0, 24);
-					memset(p107, 0, 80);
-					memset(p108, 0, 16);
-					memset(p109, 0, 24);
-					memset(p110, 0, 512);
-					memset(p111, 0, 520);
+					memset(p105, 0, 512);
+					memset(p106, 0, 520);
+					p214 = NULL;
+					n215 = 0;
+					n216 = 0;
+					p217 = NULL;
+					n218 = 0;
+					n219 = 0;
+					p220 = NULL;
+					n221 = 0;
+					n222 = 0;
+					b223 = true;
+					n224 = 0;
+					n225 = 0;
+					n226 = 0;
+					n227 = 0;
+					n228 = 0;
 					p229 = NULL;
-					n230 = 0;
+				}
+				memset(p58, 0, 24);
+				memset(p59, 0, 16);
+				memset(p60, 0, 24);
+				memset(p61, 0, 80);
+				memset(p62, 0, 16);
+				memset(p63, 0, 24);
+				memset(p64, 0, 512);
+				memset(p65, 0, 520);
+				if (b223) {
+					p230 = NULL;
 					n231 = 0;
-					p232 = NULL;
-					n233 = 0;
+					n232 = 0;
+					p233 = NULL;
 					n234 = 0;
-					p235 = NULL;
-					n236 = 0;
+					n235 = 0;
+					p236 = NULL;
 					n237 = 0;
-					b238 = true;
+					n238 = 0;
 					n239 = 0;
 					n240 = 0;
 					n241 = 0;
-					n242 = 0;
+					p242 = NULL;
 					n243 = 0;
-					p244 = NULL;
+					n244 = 0;
+				} else {
+					memcpy(p58, p99, 24);
+					memcpy(p59, p100, 16);
+					memcpy(p60, p101, 24);
+					memcpy(p61, p102, 80);
+					memcpy(p62, p103, 16);
+					memcpy(p63, p104, 24);
+					memcpy(p64, p105, 512);
+					memcpy(p65, p106, 520);
+					p230 = p214;
+					n231 = n215;
+					n232 = n216;
+					p233 = p217;
+					n234 = n218;
+					n235 = n219;
+					p236 = p220;
+					n237 = n221;
+					n238 = n222;
+					n239 = n226;
+					n240 = n227;
+					n241 = n228;
+					p242 = p229;
+					n243 = n224;
+					n244 = n225;
 				}
-				memset(p63, 0, 24);
-				memset(p64, 0, 16);
-				memset(p65, 0, 24);
-				memset(p66, 0, 80);
-				memset(p67, 0, 16);
-				memset(p68, 0, 24);
-				memset(p69, 0, 512);
-				memset(p70, 0, 520);
-				if (b238) {
+				memcpy(p91, p58, 24);
+				memcpy(p92, p59, 16);
+				memcpy(p93, p60, 24);
+				memcpy(p94, p61, 80);
+				memcpy(p95, p62, 16);
+				memcpy(p96, p63, 24);
+				memcpy(p97, p64, 512);
+				memcpy(p98, p65, 520);
+				memset(p50, 0, 24);
+				memset(p51, 0, 16);
+				memset(p52, 0, 24);
+				memset(p53, 0, 80);
+				memset(p54, 0, 16);
+				memset(p55, 0, 24);
+				memset(p56, 0, 512);
+				memset(p57, 0, 520);
+				if (b223) {
 					p245 = NULL;
 					n246 = 0;
 					n247 = 0;
@@ -82194,693 +82080,636 @@ L10:
 					n255 = 0;
 					n256 = 0;
 					p257 = NULL;
-					n258 = 0;
-					n259 = 0;
+					n258 = n243 & 255;
 				} else {
-					memcpy(p63, p104, 24);
-					memcpy(p64, p105, 16);
-					memcpy(p65, p106, 24);
-					memcpy(p66, p107, 80);
-					memcpy(p67, p108, 16);
-					memcpy(p68, p109, 24);
-					memcpy(p69, p110, 512);
-					memcpy(p70, p111, 520);
-					p245 = p229;
-					n246 = n230;
-					n247 = n231;
-					p248 = p232;
-					n249 = n233;
-					n250 = n234;
-					p251 = p235;
-					n252 = n236;
-					n253 = n237;
-					n254 = n241;
-					n255 = n242;
-					n256 = n243;
-					p257 = p244;
-					n258 = n239;
-					n259 = n240;
-				}
-				memcpy(p96, p63, 24);
-				memcpy(p97, p64, 16);
-				memcpy(p98, p65, 24);
-				memcpy(p99, p66, 80);
-				memcpy(p100, p67, 16);
-				memcpy(p101, p68, 24);
-				memcpy(p102, p69, 512);
-				memcpy(p103, p70, 520);
-				memset(p55, 0, 24);
-				memset(p56, 0, 16);
-				memset(p57, 0, 24);
-				memset(p58, 0, 80);
-				memset(p59, 0, 16);
-				memset(p60, 0, 24);
-				memset(p61, 0, 512);
-				memset(p62, 0, 520);
-				if (b238) {
-					p260 = NULL;
-					n261 = 0;
-					n262 = 0;
-					p263 = NULL;
-					n264 = 0;
-					n265 = 0;
-					p266 = NULL;
-					n267 = 0;
-					n268 = 0;
-					n269 = 0;
-					n270 = 0;
-					n271 = 0;
-					p272 = NULL;
-					n273 = n258 & 255;
-				} else {
+					memcpy(p50, p91, 24);
+					memcpy(p51, p92, 16);
+					memcpy(p52, p93, 24);
+					memcpy(p53, p94, 80);
+					memcpy(p54, p95, 16);
 					memcpy(p55, p96, 24);
-					memcpy(p56, p97, 16);
-					memcpy(p57, p98, 24);
-					memcpy(p58, p99, 80);
-					memcpy(p59, p100, 16);
-					memcpy(p60, p101, 24);
-					memcpy(p61, p102, 512);
-					memcpy(p62, p103, 520);
-					p260 = p245;
-					n261 = n246;
-					n262 = n247;
-					p263 = p248;
-					n264 = n249;
-					n265 = n250;
-					p266 = p251;
-					n267 = n252;
-					n268 = n253;
-					n269 = n254;
-					n270 = n255;
-					n271 = n256;
-					p272 = p257;
-					n273 = n258;
+					memcpy(p56, p97, 512);
+					memcpy(p57, p98, 520);
+					p245 = p230;
+					n246 = n231;
+					n247 = n232;
+					p248 = p233;
+					n249 = n234;
+					n250 = n235;
+					p251 = p236;
+					n252 = n237;
+					n253 = n238;
+					n254 = n239;
+					n255 = n240;
+					n256 = n241;
+					p257 = p242;
+					n258 = n243;
 				}
+				memcpy(p83, p50, 24);
+				memcpy(p84, p51, 16);
+				memcpy(p85, p52, 24);
+				memcpy(p86, p53, 80);
+				memcpy(p87, p54, 16);
 				memcpy(p88, p55, 24);
-				memcpy(p89, p56, 16);
-				memcpy(p90, p57, 24);
-				memcpy(p91, p58, 80);
-				memcpy(p92, p59, 16);
-				memcpy(p93, p60, 24);
-				memcpy(p94, p61, 512);
-				memcpy(p95, p62, 520);
-				if (b238) {
-					rattle_dealloc(p214);
-					n274 = 1;
-					n275 = n273 & 255;
-					n276 = n259;
-					n277 = 0;
+				memcpy(p89, p56, 512);
+				memcpy(p90, p57, 520);
+				if (b223) {
+					rattle_dealloc(p199);
+					n259 = 1;
+					n260 = n258 & 255;
+					n261 = n244;
+					n262 = 0;
 				} else {
-					bool b279, b285;
-					uint64_t n280, n281, n282;
-					byte *p283, *p284;
+					bool b264, b270;
+					uint64_t n265, n266, n267;
+					byte *p268, *p269;
+					memcpy(p75, p83, 24);
+					memcpy(p76, p84, 16);
+					memcpy(p77, p85, 24);
+					memcpy(p78, p86, 80);
+					memcpy(p79, p87, 16);
 					memcpy(p80, p88, 24);
-					memcpy(p81, p89, 16);
-					memcpy(p82, p90, 24);
-					memcpy(p83, p91, 80);
-					memcpy(p84, p92, 16);
-					memcpy(p85, p93, 24);
-					memcpy(p86, p94, 512);
-					memcpy(p87, p95, 520);
-					memset(p52, 0, 16);
-					memset(p53, 0, 16);
-					memset(p54, 0, 6);
-					of_i64_i64 s278 = rattle_alloc(n157 * 88, 8);
-					if ((s278.f0 & 1) == 0) {
-						rattle_dealloc(p214);
-						b279 = true;
-						n280 = 0;
-						n281 = 0;
-						n282 = 0;
-						p283 = NULL;
-						p284 = NULL;
-						b285 = true;
+					memcpy(p81, p89, 512);
+					memcpy(p82, p90, 520);
+					memset(p47, 0, 16);
+					memset(p48, 0, 16);
+					memset(p49, 0, 6);
+					of_i64_i64 s263 = rattle_alloc(n138 * 88, 8);
+					if ((s263.f0 & 1) == 0) {
+						rattle_dealloc(p199);
+						b264 = true;
+						n265 = 0;
+						n266 = 0;
+						n267 = 0;
+						p268 = NULL;
+						p269 = NULL;
+						b270 = true;
 					} else {
-						byte *p286 = (byte *)(uintptr_t)s278.f1;
-						of_i64_i64 s287 = rattle_alloc(n157 * 112, 8);
-						if ((s287.f0 & 1) != 0) {
-							byte *p288 = (byte *)(uintptr_t)s287.f1;
-							of_i64_i64 s289 = rattle_alloc(n157 << 3, 8);
-							if ((s289.f0 & 1) != 0) {
-								byte *p297, *p299, *p303, *p305;
-								uint64_t n328, n329;
-								byte *p290 = (byte *)(uintptr_t)s289.f1;
-								uint64_t n291 = 0;
-								uint64_t n292 = n157;
+						byte *p271 = (byte *)(uintptr_t)s263.f1;
+						of_i64_i64 s272 = rattle_alloc(n138 * 112, 8);
+						if ((s272.f0 & 1) != 0) {
+							byte *p273 = (byte *)(uintptr_t)s272.f1;
+							of_i64_i64 s274 = rattle_alloc(n138 << 3, 8);
+							if ((s274.f0 & 1) != 0) {
+								byte *p282, *p284, *p288, *p290;
+								uint64_t n313, n314;
+								byte *p275 = (byte *)(uintptr_t)s274.f1;
+								uint64_t n276 = 0;
+								uint64_t n277 = n138;
 								for (;;) {
-									byte *p307, *p309, *p310, *p311;
-									uint64_t n308;
-									bool b312;
-									if (n292 == 0)
+									byte *p292, *p294, *p295, *p296;
+									uint64_t n293;
+									bool b297;
+									if (n277 == 0)
 										goto L11;
-									uint64_t n293 = n292 - 1;
-									of_i64_i64 s294 = rattle_alloc(384, 8);
-									bool b295 = (s294.f0 & 1) != 0;
-									byte *p296 = (byte *)(uintptr_t)s294.f1;
-									p297 = b295 ? p296 : NULL;
-									if (!b295)
+									uint64_t n278 = n277 - 1;
+									of_i64_i64 s279 = rattle_alloc(384, 8);
+									bool b280 = (s279.f0 & 1) != 0;
+									byte *p281 = (byte *)(uintptr_t)s279.f1;
+									p282 = b280 ? p281 : NULL;
+									if (!b280)
 										goto L12;
-									of_i64_i64 s298 = rattle_alloc(3072, 8);
-									if ((s298.f0 & 1) == 0) {
-										rattle_dealloc(p297);
+									of_i64_i64 s283 = rattle_alloc(3072, 8);
+									if ((s283.f0 & 1) == 0) {
+										rattle_dealloc(p282);
 										goto L12;
 									}
-									p299 = (byte *)(uintptr_t)s298.f1;
-									store64(p296, 0);
-									store64(p296 + 128, 0);
-									store64(p296 + 256, 0);
-									of_i64_i64 s300 = rattle_alloc(384, 8);
-									bool b301 = (s300.f0 & 1) != 0;
-									byte *p302 = (byte *)(uintptr_t)s300.f1;
-									p303 = b301 ? p302 : NULL;
-									if (!b301)
+									p284 = (byte *)(uintptr_t)s283.f1;
+									store64(p281, 0);
+									store64(p281 + 128, 0);
+									store64(p281 + 256, 0);
+									of_i64_i64 s285 = rattle_alloc(384, 8);
+									bool b286 = (s285.f0 & 1) != 0;
+									byte *p287 = (byte *)(uintptr_t)s285.f1;
+									p288 = b286 ? p287 : NULL;
+									if (!b286)
 										goto L13;
-									of_i64_i64 s304 = rattle_alloc(4096, 8);
-									if ((s304.f0 & 1) == 0) {
-										rattle_dealloc(p303);
+									of_i64_i64 s289 = rattle_alloc(4096, 8);
+									if ((s289.f0 & 1) == 0) {
+										rattle_dealloc(p288);
 										goto L13;
 									}
-									p305 = (byte *)(uintptr_t)s304.f1;
-									store64(p302, 0);
-									store64(p302 + 128, 0);
-									store64(p302 + 256, 0);
-									memset(p52, 0, 16);
-									memset(p53, 0, 16);
-									memset(p54, 0, 6);
-									byte *p306 = os_malloc(128);
-									if (p306 == NULL) {
-										p307 = p299;
-										n308 = 64;
-										p309 = p303;
-										p310 = p305;
-										p311 = p297;
-										b312 = true;
+									p290 = (byte *)(uintptr_t)s289.f1;
+									store64(p287, 0);
+									store64(p287 + 128, 0);
+									store64(p287 + 256, 0);
+									memset(p47, 0, 16);
+									memset(p48, 0, 16);
+									memset(p49, 0, 6);
+									byte *p291 = os_malloc(128);
+									if (p291 == NULL) {
+										p292 = p284;
+										n293 = 64;
+										p294 = p288;
+										p295 = p290;
+										p296 = p282;
+										b297 = true;
 									} else {
-										storeptru(p306 + 16, p297);
-										storeptru(p306 + 24, p299);
-										store64u(p306 + 32, 64);
-										memset(p306 + 40, 0, 16);
-										storeptru(p306 + 56, p303);
-										storeptru(p306 + 64, p305);
-										store64u(p306 + 72, 64);
-										memset(p306 + 80, 0, 16);
-										store64u(p306 + 96, 1);
-										store64u(p306 + 104, 0);
-										store64u(p306 + 112, n161);
-										store64u(p306 + 120, 10000000);
-										store64(p306 + 8, 0);
-										memset(p51, 0, 64);
-										uint32_t n313 = os_pthread_attr_init(p51);
-										if (n313 == 0) {
-											uint32_t n314 = os_pthread_attr_setguardsize(p51, 65536);
-											if (n314 == 0) {
-												uint32_t n315 = os_pthread_create(p306, p51, (byte *)(uintptr_t)tp_call_once_thread_called_by_C_0, p306);
-												(void)os_pthread_attr_destroy(p51);
-												if (n315 == 0) {
-													p307 = NULL;
-													n308 = 0;
-													p309 = NULL;
-													p310 = NULL;
-													p311 = p306;
-													b312 = false;
+										storeptru(p291 + 16, p282);
+										storeptru(p291 + 24, p284);
+										store64u(p291 + 32, 64);
+										memset(p291 + 40, 0, 16);
+										storeptru(p291 + 56, p288);
+										storeptru(p291 + 64, p290);
+										store64u(p291 + 72, 64);
+										memset(p291 + 80, 0, 16);
+										store64u(p291 + 96, 1);
+										store64u(p291 + 104, 0);
+										store64u(p291 + 112, n142);
+										store64u(p291 + 120, 10000000);
+										store64(p291 + 8, 0);
+										memset(p46, 0, 64);
+										uint32_t n298 = os_pthread_attr_init(p46);
+										if (n298 == 0) {
+											uint32_t n299 = os_pthread_attr_setguardsize(p46, 65536);
+											if (n299 == 0) {
+												uint32_t n300 = os_pthread_create(p291, p46, (byte *)(uintptr_t)tp_call_once_thread_called_by_C_0, p291);
+												(void)os_pthread_attr_destroy(p46);
+												if (n300 == 0) {
+													p292 = NULL;
+													n293 = 0;
+													p294 = NULL;
+													p295 = NULL;
+													p296 = p291;
+													b297 = false;
 													goto L14;
 												}
 											} else {
-												(void)os_pthread_attr_destroy(p51);
+												(void)os_pthread_attr_destroy(p46);
 											}
 										}
-										os_free(p306);
-										p307 = p299;
-										n308 = 64;
-										p309 = p303;
-										p310 = p305;
-										p311 = p297;
-										b312 = true;
+										os_free(p291);
+										p292 = p284;
+										n293 = 64;
+										p294 = p288;
+										p295 = p290;
+										p296 = p282;
+										b297 = true;
 									}
 L14:
 									{
-										byte *p317, *p319, *p320, *p325;
-										uint64_t n318;
-										uint8_t n316 = load8_volatile((byte *)tp_static);
-										if (n316 != 0) {
+										byte *p302, *p304, *p305, *p310;
+										uint64_t n303;
+										uint8_t n301 = load8_volatile((byte *)tp_static);
+										if (n301 != 0) {
 											TRAP();
 											UNREACHABLE();
 										}
-										if (b312) {
-											p317 = p307;
-											n318 = n308;
-											p319 = p309;
-											p320 = p310;
+										if (b297) {
+											p302 = p292;
+											n303 = n293;
+											p304 = p294;
+											p305 = p295;
 										} else {
-											p317 = NULL;
-											n318 = 0;
-											p319 = NULL;
-											p320 = NULL;
+											p302 = NULL;
+											n303 = 0;
+											p304 = NULL;
+											p305 = NULL;
 										}
-										uint8_t n321 = load8_volatile((byte *)tp_static);
-										if (n321 != 0) {
+										uint8_t n306 = load8_volatile((byte *)tp_static);
+										if (n306 != 0) {
 											TRAP();
 											UNREACHABLE();
 										}
-										uint8_t n322 = load8_volatile((byte *)tp_static);
-										if (n322 != 0) {
+										uint8_t n307 = load8_volatile((byte *)tp_static);
+										if (n307 != 0) {
 											TRAP();
 											UNREACHABLE();
 										}
-										if (b312) {
+										if (b297) {
 											BARRIER();
-											uint64_t n323 = atomic_exchange64(p311 + 256, 1, ORDER_SEQ_CST);
+											uint64_t n308 = atomic_exchange64(p296 + 256, 1, ORDER_SEQ_CST);
 											BARRIER();
-											if (n323 != 0)
-												tp_release_drop_slow(p311, p317, n318);
+											if (n308 != 0)
+												tp_release_drop_slow(p296, p302, n303);
 											BARRIER();
-											uint64_t n324 = atomic_exchange64(p319 + 256, 1, ORDER_SEQ_CST);
+											uint64_t n309 = atomic_exchange64(p304 + 256, 1, ORDER_SEQ_CST);
 											BARRIER();
-											if (n324 == 0) {
-												p325 = NULL;
+											if (n309 == 0) {
+												p310 = NULL;
 											} else {
-												tp_release_drop_slow(p319, p320, n318);
-												p325 = NULL;
+												tp_release_drop_slow(p304, p305, n303);
+												p310 = NULL;
 											}
 										} else {
-											p325 = p311;
+											p310 = p296;
 										}
-										uint8_t n326 = load8_volatile((byte *)tp_static);
-										if (n326 != 0) {
+										uint8_t n311 = load8_volatile((byte *)tp_static);
+										if (n311 != 0) {
 											TRAP();
 											UNREACHABLE();
 										}
-										if (b312)
+										if (b297)
 											break;
-										byte *p327 = inside(p286, n291 * 88);
-										storeptru(p327, p297);
-										storeptru(p327 + 8, p299);
-										store64u(p327 + 16, 64);
-										memcpy(p327 + 24, p52, 16);
-										storeptru(p327 + 40, p303);
-										storeptru(p327 + 48, p305);
-										store64u(p327 + 56, 64);
-										memcpy(p327 + 64, p53, 16);
-										store8(p327 + 80, 0);
-										store8(p327 + 81, 0);
-										memcpy(p327 + 82, p54, 6);
-										store64u(inside(p290, n291 << 3), (uint64_t)(uintptr_t)p325);
-										n291 = n291 + 1;
-										n292 = n293;
+										byte *p312 = inside(p271, n276 * 88);
+										storeptru(p312, p282);
+										storeptru(p312 + 8, p284);
+										store64u(p312 + 16, 64);
+										memcpy(p312 + 24, p47, 16);
+										storeptru(p312 + 40, p288);
+										storeptru(p312 + 48, p290);
+										store64u(p312 + 56, 64);
+										memcpy(p312 + 64, p48, 16);
+										store8(p312 + 80, 0);
+										store8(p312 + 81, 0);
+										memcpy(p312 + 82, p49, 6);
+										store64u(inside(p275, n276 << 3), (uint64_t)(uintptr_t)p310);
+										n276 = n276 + 1;
+										n277 = n278;
 									}
 								}
 								BARRIER();
-								n328 = atomic_exchange64(p297 + 256, 1, ORDER_SEQ_CST);
+								n313 = atomic_exchange64(p282 + 256, 1, ORDER_SEQ_CST);
 								BARRIER();
-								if (n328 != 0)
-									tp_release_drop_slow(p297, p299, 64);
+								if (n313 != 0)
+									tp_release_drop_slow(p282, p284, 64);
 								BARRIER();
-								n329 = atomic_exchange64(p303 + 256, 1, ORDER_SEQ_CST);
+								n314 = atomic_exchange64(p288 + 256, 1, ORDER_SEQ_CST);
 								BARRIER();
-								if (n329 != 0)
-									tp_release_drop_slow(p303, p305, 64);
-								rattle_dealloc(p214);
-								b279 = false;
-								n280 = s278.f1;
-								n281 = n291;
-								n282 = n157;
-								p283 = p290;
-								p284 = p288;
-								b285 = true;
+								if (n314 != 0)
+									tp_release_drop_slow(p288, p290, 64);
+								rattle_dealloc(p199);
+								b264 = false;
+								n265 = s263.f1;
+								n266 = n276;
+								n267 = n138;
+								p268 = p275;
+								p269 = p273;
+								b270 = true;
 								goto L15;
 L13:
 								{
 									BARRIER();
-									uint64_t n330 = atomic_exchange64(p297 + 256, 1, ORDER_SEQ_CST);
+									uint64_t n315 = atomic_exchange64(p282 + 256, 1, ORDER_SEQ_CST);
 									BARRIER();
-									if (n330 != 0)
-										tp_release_drop_slow(p297, p299, 64);
+									if (n315 != 0)
+										tp_release_drop_slow(p282, p284, 64);
 									BARRIER();
-									uint64_t n331 = atomic_exchange64(p297 + 256, 1, ORDER_SEQ_CST);
+									uint64_t n316 = atomic_exchange64(p282 + 256, 1, ORDER_SEQ_CST);
 									BARRIER();
-									if (n331 != 0)
-										tp_release_drop_slow(p297, p299, 64);
+									if (n316 != 0)
+										tp_release_drop_slow(p282, p284, 64);
 								}
 L12:
 								{
-									rattle_dealloc(p214);
-									b279 = false;
-									n280 = s278.f1;
-									n281 = n291;
-									n282 = n157;
-									p283 = p290;
-									p284 = p288;
-									b285 = true;
+									rattle_dealloc(p199);
+									b264 = false;
+									n265 = s263.f1;
+									n266 = n276;
+									n267 = n138;
+									p268 = p275;
+									p269 = p273;
+									b270 = true;
 									goto L15;
 								}
 L11:
 								{
-									rattle_dealloc(p214);
-									b279 = false;
-									n280 = s278.f1;
-									n281 = n157;
-									n282 = n157;
-									p283 = p290;
-									p284 = p288;
-									b285 = false;
+									rattle_dealloc(p199);
+									b264 = false;
+									n265 = s263.f1;
+									n266 = n138;
+									n267 = n138;
+									p268 = p275;
+									p269 = p273;
+									b270 = false;
 									goto L15;
 								}
 							}
-							rattle_dealloc(p288);
+							rattle_dealloc(p273);
 						}
-						rattle_dealloc(p286);
-						rattle_dealloc(p214);
-						b279 = true;
-						n280 = 0;
-						n281 = 0;
-						n282 = 0;
-						p283 = NULL;
-						p284 = NULL;
-						b285 = true;
+						rattle_dealloc(p271);
+						rattle_dealloc(p199);
+						b264 = true;
+						n265 = 0;
+						n266 = 0;
+						n267 = 0;
+						p268 = NULL;
+						p269 = NULL;
+						b270 = true;
 					}
 L15:
 					{
-						uint8_t n332 = load8_volatile((byte *)tp_static);
-						if (n332 != 0) {
+						uint8_t n317 = load8_volatile((byte *)tp_static);
+						if (n317 != 0) {
 							TRAP();
 							UNREACHABLE();
 						}
-						if (b279) {
-							store64u(p79, 1);
-							memset(p79 + 8, 0, 24);
-							if (n262 != 0)
-								rattle_dealloc(p260);
-							if (n265 != 0)
-								rattle_dealloc(p263);
-							if (n268 != 0)
-								rattle_dealloc(p266);
-							n274 = load8(p79);
-							n275 = load64(p79 + 8);
-							n276 = load64(p79 + 16);
-							n277 = load64(p79 + 24);
-						} else if (b285) {
-							uint64_t n337;
-							storeptru(p113, p283);
-							store64u(p113 + 8, n281);
-							store64u(p113 + 16, n282);
-							storeptru(p113 + 24, p284);
-							store64u(p113 + 32, 0);
-							store64u(p113 + 40, n282);
-							tp_Children_join(p112, p113);
-							uint8_t n333 = load8_volatile((byte *)tp_static);
-							if (n333 != 0) {
+						if (b264) {
+							store64u(p74, 1);
+							memset(p74 + 8, 0, 24);
+							if (n247 != 0)
+								rattle_dealloc(p245);
+							if (n250 != 0)
+								rattle_dealloc(p248);
+							if (n253 != 0)
+								rattle_dealloc(p251);
+							n259 = load8(p74);
+							n260 = load64(p74 + 8);
+							n261 = load64(p74 + 16);
+							n262 = load64(p74 + 24);
+						} else if (b270) {
+							uint64_t n322;
+							storeptru(p108, p268);
+							store64u(p108 + 8, n266);
+							store64u(p108 + 16, n267);
+							storeptru(p108 + 24, p269);
+							store64u(p108 + 32, 0);
+							store64u(p108 + 40, n267);
+							tp_Children_join(p107, p108);
+							uint8_t n318 = load8_volatile((byte *)tp_static);
+							if (n318 != 0) {
 								TRAP();
 								UNREACHABLE();
 							}
-							byte *p334 = loadptru(p112);
-							uint64_t n335 = load64u(p112 + 8);
-							uint64_t n336 = load64u(p112 + 16);
-							if (n335 == 0)
+							byte *p319 = loadptru(p107);
+							uint64_t n320 = load64u(p107 + 8);
+							uint64_t n321 = load64u(p107 + 16);
+							if (n320 == 0)
 								goto L16;
-							n337 = 0;
-							while (n337 != n335) {
-								byte *p338 = inside(p334, n337 * 112);
-								byte *p339 = loadptru(p338 + 24);
-								byte *p340 = loadptru(p338 + 32);
-								uint64_t n341 = load64u(p338 + 40);
+							n322 = 0;
+							while (n322 != n320) {
+								byte *p323 = inside(p319, n322 * 112);
+								byte *p324 = loadptru(p323 + 24);
+								byte *p325 = loadptru(p323 + 32);
+								uint64_t n326 = load64u(p323 + 40);
 								BARRIER();
-								uint64_t n342 = atomic_exchange64(p339 + 256, 1, ORDER_SEQ_CST);
+								uint64_t n327 = atomic_exchange64(p324 + 256, 1, ORDER_SEQ_CST);
 								BARRIER();
-								if (n342 != 0)
-									tp_release_drop_slow(p339, p340, n341);
-								n337 = n337 + 1;
+								if (n327 != 0)
+									tp_release_drop_slow(p324, p325, n326);
+								n322 = n322 + 1;
 							}
 L16:
 							{
-								uint64_t n344;
-								if (n336 != 0)
-									rattle_dealloc(p334);
-								store64u(p79, 1);
-								byte *p343 = (byte *)(uintptr_t)n280;
-								memset(p79 + 8, 0, 16);
-								if (n281 == 0)
+								uint64_t n329;
+								if (n321 != 0)
+									rattle_dealloc(p319);
+								store64u(p74, 1);
+								byte *p328 = (byte *)(uintptr_t)n265;
+								memset(p74 + 8, 0, 16);
+								if (n266 == 0)
 									goto L17;
-								n344 = 0;
-								while (n344 != n281) {
-									byte *p345 = inside(p343, n344 * 88);
-									byte *p346 = loadptru(p345);
-									byte *p347 = loadptru(p345 + 8);
-									uint64_t n348 = load64u(p345 + 16);
-									byte *p349 = loadptru(p345 + 40);
-									byte *p350 = loadptru(p345 + 48);
-									uint64_t n351 = load64u(p345 + 56);
+								n329 = 0;
+								while (n329 != n266) {
+									byte *p330 = inside(p328, n329 * 88);
+									byte *p331 = loadptru(p330);
+									byte *p332 = loadptru(p330 + 8);
+									uint64_t n333 = load64u(p330 + 16);
+									byte *p334 = loadptru(p330 + 40);
+									byte *p335 = loadptru(p330 + 48);
+									uint64_t n336 = load64u(p330 + 56);
 									BARRIER();
-									uint64_t n352 = atomic_exchange64(p346 + 256, 1, ORDER_SEQ_CST);
+									uint64_t n337 = atomic_exchange64(p331 + 256, 1, ORDER_SEQ_CST);
 									BARRIER();
-									if (n352 != 0)
-										tp_release_drop_slow(p346, p347, n348);
+									if (n337 != 0)
+										tp_release_drop_slow(p331, p332, n333);
 									BARRIER();
-									uint64_t n353 = atomic_exchange64(p349 + 256, 1, ORDER_SEQ_CST);
+									uint64_t n338 = atomic_exchange64(p334 + 256, 1, ORDER_SEQ_CST);
 									BARRIER();
-									if (n353 != 0)
-										tp_release_drop_slow(p349, p350, n351);
-									n344 = n344 + 1;
+									if (n338 != 0)
+										tp_release_drop_slow(p334, p335, n336);
+									n329 = n329 + 1;
 								}
 L17:
 								{
-									if (n282 != 0)
-										rattle_dealloc(p343);
-									if (n262 != 0)
-										rattle_dealloc(p260);
-									if (n265 != 0)
-										rattle_dealloc(p263);
-									if (n268 != 0)
-										rattle_dealloc(p266);
-									n274 = load8(p79);
-									n275 = load64(p79 + 8);
-									n276 = load64(p79 + 16);
-									n277 = load64(p79 + 24);
+									if (n267 != 0)
+										rattle_dealloc(p328);
+									if (n247 != 0)
+										rattle_dealloc(p245);
+									if (n250 != 0)
+										rattle_dealloc(p248);
+									if (n253 != 0)
+										rattle_dealloc(p251);
+									n259 = load8(p74);
+									n260 = load64(p74 + 8);
+									n261 = load64(p74 + 16);
+									n262 = load64(p74 + 24);
 								}
 							}
 						} else {
-							store64u(p114, n273);
-							store64u(p114 + 8, n259);
-							memcpy(p114 + 16, p80, 24);
-							storeptru(p114 + 40, p260);
-							store64u(p114 + 48, n261);
-							store64u(p114 + 56, n262);
-							memcpy(p114 + 64, p81, 16);
-							storeptru(p114 + 80, p263);
-							store64u(p114 + 88, n264);
-							store64u(p114 + 96, n265);
-							memcpy(p114 + 104, p82, 24);
-							memcpy(p114 + 128, p83, 80);
-							storeptru(p114 + 208, p266);
-							store64u(p114 + 216, n267);
-							store64u(p114 + 224, n268);
-							memcpy(p114 + 232, p84, 16);
-							memcpy(p114 + 248, p85, 24);
-							store64u(p114 + 272, n269);
-							store64u(p114 + 280, n270);
-							store64u(p114 + 288, n271);
-							memcpy(p114 + 296, p86, 512);
-							memcpy(p114 + 808, p87, 520);
-							storeptru(p114 + 1328, p272);
-							memset(p114 + 1336, 0, 24);
-							store64u(p115, n280);
-							store64u(p115 + 8, n281);
-							store64u(p115 + 16, n282);
-							storeptru(p116, p283);
-							store64u(p116 + 8, n281);
-							store64u(p116 + 16, n282);
-							storeptru(p116 + 24, p284);
-							store64u(p116 + 32, 0);
-							store64u(p116 + 40, n282);
-							tp_threads_drive_beside(p79, p114, p115, p116, n161);
-							uint8_t n354 = load8_volatile((byte *)tp_static);
-							if (n354 != 0) {
+							store64u(p109, n258);
+							store64u(p109 + 8, n244);
+							memcpy(p109 + 16, p75, 24);
+							storeptru(p109 + 40, p245);
+							store64u(p109 + 48, n246);
+							store64u(p109 + 56, n247);
+							memcpy(p109 + 64, p76, 16);
+							storeptru(p109 + 80, p248);
+							store64u(p109 + 88, n249);
+							store64u(p109 + 96, n250);
+							memcpy(p109 + 104, p77, 24);
+							memcpy(p109 + 128, p78, 80);
+							storeptru(p109 + 208, p251);
+							store64u(p109 + 216, n252);
+							store64u(p109 + 224, n253);
+							memcpy(p109 + 232, p79, 16);
+							memcpy(p109 + 248, p80, 24);
+							store64u(p109 + 272, n254);
+							store64u(p109 + 280, n255);
+							store64u(p109 + 288, n256);
+							memcpy(p109 + 296, p81, 512);
+							memcpy(p109 + 808, p82, 520);
+							storeptru(p109 + 1328, p257);
+							memset(p109 + 1336, 0, 24);
+							store64u(p110, n265);
+							store64u(p110 + 8, n266);
+							store64u(p110 + 16, n267);
+							storeptru(p111, p268);
+							store64u(p111 + 8, n266);
+							store64u(p111 + 16, n267);
+							storeptru(p111 + 24, p269);
+							store64u(p111 + 32, 0);
+							store64u(p111 + 40, n267);
+							tp_threads_drive_beside(p74, p109, p110, p111, n142);
+							uint8_t n339 = load8_volatile((byte *)tp_static);
+							if (n339 != 0) {
 								TRAP();
 								UNREACHABLE();
 							}
-							n274 = load8(p79);
-							n275 = load64(p79 + 8);
-							n276 = load64(p79 + 16);
-							n277 = load64(p79 + 24);
+							n259 = load8(p74);
+							n260 = load64(p74 + 8);
+							n261 = load64(p74 + 16);
+							n262 = load64(p74 + 24);
 						}
 					}
 				}
-				uint8_t n355 = load8_volatile((byte *)tp_static);
-				if (n355 != 0) {
+				uint8_t n340 = load8_volatile((byte *)tp_static);
+				if (n340 != 0) {
 					TRAP();
 					UNREACHABLE();
 				}
-				n210 = n274;
-				n211 = n275;
-				n212 = n276;
-				n213 = n277;
+				n195 = n259;
+				n196 = n260;
+				n197 = n261;
+				n198 = n262;
 			}
-			uint8_t n356 = (uint8_t)n211;
-			uint8_t n357 = load8_volatile((byte *)tp_static);
-			if (n357 != 0) {
+			uint8_t n341 = (uint8_t)n196;
+			uint8_t n342 = load8_volatile((byte *)tp_static);
+			if (n342 != 0) {
 				TRAP();
 				UNREACHABLE();
 			}
-			if (n210 == 0) {
-				byte *p358 = (byte *)(uintptr_t)n211;
-				uint64_t n359 = 0;
-				while (n359 < n212) {
-					uint64_t n360 = n212 - n359;
-					uint64_t n361 = os_write(1, at(p358, n359), n360);
-					if ((int64_t)n361 < (int64_t)0) {
-						tp_error_last_error(p50);
+			if (n195 == 0) {
+				byte *p343 = (byte *)(uintptr_t)n196;
+				uint64_t n344 = 0;
+				while (n344 < n197) {
+					uint64_t n345 = n197 - n344;
+					uint64_t n346 = os_write(1, at(p343, n344), n345);
+					if ((int64_t)n346 < (int64_t)0) {
+						tp_error_last_error(p45);
 						goto L18;
 					}
-					uint64_t n362 = umin64(n361, n360);
-					if (n362 == 0)
+					uint64_t n347 = umin64(n346, n345);
+					if (n347 == 0)
 						goto L18;
-					n359 = n359 + n362;
+					n344 = n344 + n347;
 				}
-				if (n213 == 0) {
-					n363 = 0;
+				if (n198 == 0) {
+					n348 = 0;
 					goto L19;
 				}
-				rattle_dealloc(p358);
-				n363 = 0;
+				rattle_dealloc(p343);
+				n348 = 0;
 				goto L19;
 L18:
 				{
 					store8(p2 + 1, 1);
-					store64u(p47, n359);
-					storeptru(p49, p47);
-					storeptru(p49 + 8, (byte *)tp_static_110);
-					store64u(p49 + 16, 1);
-					tp_Write_write_fmt(p48, p3, p49);
-					if (n213 == 0) {
-						n363 = 1;
+					store64u(p42, n344);
+					storeptru(p44, p42);
+					storeptru(p44 + 8, (byte *)tp_static_110);
+					store64u(p44 + 16, 1);
+					tp_Write_write_fmt(p43, p3, p44);
+					if (n198 == 0) {
+						n348 = 1;
 						goto L19;
 					}
-					rattle_dealloc(p358);
-					n363 = 1;
+					rattle_dealloc(p343);
+					n348 = 1;
 					goto L19;
 				}
 			}
-			switch (MOSTLY_0(n356)) {
+			switch (MOSTLY_0(n341)) {
 			case 0: {
-				n364 = 0;
+				n349 = 0;
 				goto L20;
 			}
 			case 1: {
-				uint64_t n368, n369, n378, n392, n393, n397;
-				byte *p391;
-				memset(p45, 0, 40);
-				uint64_t n365 = 0;
+				uint64_t n353, n354, n363, n377, n378, n382;
+				byte *p376;
+				memset(p40, 0, 40);
+				uint64_t n350 = 0;
 				for (;;) {
-					if (n365 >= 7) {
-						n368 = n212;
-						n369 = 40;
+					if (n350 >= 7) {
+						n353 = n197;
+						n354 = 40;
 						break;
 					}
-					uint64_t n366 = 7 - n365;
-					uint64_t n367 = os_write(2, at((byte *)tp_static_306, n365), n366);
-					if ((int64_t)n367 < (int64_t)0) {
-						tp_error_last_error(p44);
+					uint64_t n351 = 7 - n350;
+					uint64_t n352 = os_write(2, at((byte *)tp_static_306, n350), n351);
+					if ((int64_t)n352 < (int64_t)0) {
+						tp_error_last_error(p39);
 						store8(p3, 1);
 						goto L21;
 					}
-					if (n367 == 0) {
+					if (n352 == 0) {
 						store8(p3, 1);
 						goto L21;
 					}
-					n365 = n365 + umin64(n367, n366);
+					n350 = n350 + umin64(n352, n351);
 				}
-				while (n368 > 9999) {
-					uint16_t n370 = (uint16_t)(n368 % 10000);
-					byte *p371 = inside((byte *)tp_static_242, (uint64_t)(uint16_t)((uint32_t)(uint16_t)(n370 % 100) << 1));
-					byte *p372 = at(p45, n369);
-					uint8_t n373 = load8(p371 + 1);
-					store8(at(p372, UINT64_C(18446744073709551614)), load8(p371));
-					store8(at(p372, UINT64_MAX), n373);
-					uint64_t n374 = n369 - 4;
-					byte *p375 = inside((byte *)tp_static_242, (uint64_t)(uint16_t)((uint32_t)(uint16_t)(n370 / 100) << 1));
-					uint8_t n376 = load8(p375 + 1);
-					store8(inside(p45, n374), load8(p375));
-					store8(at(p372, UINT64_C(18446744073709551613)), n376);
-					n368 = n368 / 10000;
-					n369 = n374;
+				while (n353 > 9999) {
+					uint16_t n355 = (uint16_t)(n353 % 10000);
+					byte *p356 = inside((byte *)tp_static_242, (uint64_t)(uint16_t)((uint32_t)(uint16_t)(n355 % 100) << 1));
+					byte *p357 = at(p40, n354);
+					uint8_t n358 = load8(p356 + 1);
+					store8(at(p357, UINT64_C(18446744073709551614)), load8(p356));
+					store8(at(p357, UINT64_MAX), n358);
+					uint64_t n359 = n354 - 4;
+					byte *p360 = inside((byte *)tp_static_242, (uint64_t)(uint16_t)((uint32_t)(uint16_t)(n355 / 100) << 1));
+					uint8_t n361 = load8(p360 + 1);
+					store8(inside(p40, n359), load8(p360));
+					store8(at(p357, UINT64_C(18446744073709551613)), n361);
+					n353 = n353 / 10000;
+					n354 = n359;
 				}
-				if (n368 < 100) {
-					if (n368 < 10) {
-						uint64_t n377 = n369 - 1;
-						store8(inside(p45, n377), (uint8_t)((uint8_t)n368 | 48));
-						n378 = n377;
+				if (n353 < 100) {
+					if (n353 < 10) {
+						uint64_t n362 = n354 - 1;
+						store8(inside(p40, n362), (uint8_t)((uint8_t)n353 | 48));
+						n363 = n362;
 					} else {
-						uint64_t n379 = n369 - 2;
-						byte *p380 = inside((byte *)tp_static_242, n368 << 1);
-						uint8_t n381 = load8(p380 + 1);
-						store8(inside(p45, n379), load8(p380));
-						store8(at(at(p45, n369), UINT64_MAX), n381);
-						n378 = n379;
+						uint64_t n364 = n354 - 2;
+						byte *p365 = inside((byte *)tp_static_242, n353 << 1);
+						uint8_t n366 = load8(p365 + 1);
+						store8(inside(p40, n364), load8(p365));
+						store8(at(at(p40, n354), UINT64_MAX), n366);
+						n363 = n364;
 					}
 				} else {
-					uint16_t n382 = (uint16_t)n368;
-					byte *p383 = inside((byte *)tp_static_242, (uint64_t)(uint16_t)((uint32_t)(uint16_t)(n382 % 100) << 1));
-					byte *p384 = at(p45, n369);
-					uint8_t n385 = load8(p383 + 1);
-					store8(at(p384, UINT64_C(18446744073709551614)), load8(p383));
-					store8(at(p384, UINT64_MAX), n385);
-					uint16_t n386 = (uint16_t)(n382 / 100);
-					if (n368 < 1000) {
-						uint64_t n387 = n369 - 3;
-						store8(inside(p45, n387), (uint8_t)((uint8_t)n386 | 48));
-						n378 = n387;
+					uint16_t n367 = (uint16_t)n353;
+					byte *p368 = inside((byte *)tp_static_242, (uint64_t)(uint16_t)((uint32_t)(uint16_t)(n367 % 100) << 1));
+					byte *p369 = at(p40, n354);
+					uint8_t n370 = load8(p368 + 1);
+					store8(at(p369, UINT64_C(18446744073709551614)), load8(p368));
+					store8(at(p369, UINT64_MAX), n370);
+					uint16_t n371 = (uint16_t)(n367 / 100);
+					if (n353 < 1000) {
+						uint64_t n372 = n354 - 3;
+						store8(inside(p40, n372), (uint8_t)((uint8_t)n371 | 48));
+						n363 = n372;
 					} else {
-						uint64_t n388 = n369 - 4;
-						byte *p389 = inside((byte *)tp_static_242, (uint64_t)(uint16_t)((uint32_t)n386 << 1));
-						uint8_t n390 = load8(p389 + 1);
-						store8(inside(p45, n388), load8(p389));
-						store8(at(p384, UINT64_C(18446744073709551613)), n390);
-						n378 = n388;
+						uint64_t n373 = n354 - 4;
+						byte *p374 = inside((byte *)tp_static_242, (uint64_t)(uint16_t)((uint32_t)n371 << 1));
+						uint8_t n375 = load8(p374 + 1);
+						store8(inside(p40, n373), load8(p374));
+						store8(at(p369, UINT64_C(18446744073709551613)), n375);
+						n363 = n373;
 					}
 				}
-				p391 = at(p45, n378);
-				n392 = 40 - n378;
-				n393 = 0;
+				p376 = at(p40, n363);
+				n377 = 40 - n363;
+				n378 = 0;
 				for (;;) {
-					if (n393 >= n392) {
-						n397 = 0;
+					if (n378 >= n377) {
+						n382 = 0;
 						break;
 					}
-					uint64_t n394 = n392 - n393;
-					uint64_t n395 = os_write(2, at(p391, n393), n394);
-					if ((int64_t)n395 < (int64_t)0) {
-						tp_error_last_error(p43);
+					uint64_t n379 = n377 - n378;
+					uint64_t n380 = os_write(2, at(p376, n378), n379);
+					if ((int64_t)n380 < (int64_t)0) {
+						tp_error_last_error(p38);
 						store8(p3, 1);
 						goto L21;
 					}
-					uint64_t n396 = umin64(n395, n394);
-					if (n396 == 0) {
+					uint64_t n381 = umin64(n380, n379);
+					if (n381 == 0) {
 						store8(p3, 1);
 						goto L21;
 					}
-					n393 = n393 + n396;
+					n378 = n378 + n381;
 				}
-				while (n397 < 8) {
-					uint64_t n398 = 8 - n397;
-					uint64_t n399 = os_write(2, at((byte *)tp_static_312, n397), n398);
-					if ((int64_t)n399 < (int64_t)0) {
-						tp_error_last_error(p42);
+				while (n382 < 8) {
+					uint64_t n383 = 8 - n382;
+					uint64_t n384 = os_write(2, at((byte *)tp_static_312, n382), n383);
+					if ((int64_t)n384 < (int64_t)0) {
+						tp_error_last_error(p37);
 						store8(p3, 1);
 						break;
 					}
-					if (n399 == 0) {
+					if (n384 == 0) {
 						store8(p3, 1);
 						break;
 					}
-					n397 = n397 + umin64(n399, n398);
+					n382 = n382 + umin64(n384, n383);
 				}
 L21:
 				{
-					n363 = 1;
+					n348 = 1;
 					goto L19;
 				}
 			}
 			case 2: {
-				n400 = 0;
+				n385 = 0;
 				break;
 			}
 			default: {
@@ -82888,450 +82717,451 @@ L21:
 			}
 			}
 			for (;;) {
-				if (n400 >= 12) {
-					n363 = 1;
+				if (n385 >= 12) {
+					n348 = 1;
 					goto L19;
 				}
-				uint64_t n401 = 12 - n400;
-				uint64_t n402 = os_write(2, at((byte *)tp_static_311, n400), n401);
-				if ((int64_t)n402 < (int64_t)0) {
-					tp_error_last_error(p41);
+				uint64_t n386 = 12 - n385;
+				uint64_t n387 = os_write(2, at((byte *)tp_static_311, n385), n386);
+				if ((int64_t)n387 < (int64_t)0) {
+					tp_error_last_error(p36);
 					store8(p3, 1);
-					n363 = 1;
+					n348 = 1;
 					goto L19;
 				}
-				if (n402 == 0) {
+				if (n387 == 0) {
 					store8(p3, 1);
-					n363 = 1;
+					n348 = 1;
 					goto L19;
 				}
-				n400 = n400 + umin64(n402, n401);
+				n385 = n385 + umin64(n387, n386);
 			}
 			{
 L20:
 				for (;;) {
-					if (n364 >= 14) {
-						n363 = 1;
+					if (n349 >= 14) {
+						n348 = 1;
 						goto L19;
 					}
-					uint64_t n403 = 14 - n364;
-					uint64_t n404 = os_write(2, at((byte *)tp_static_310, n364), n403);
-					if ((int64_t)n404 < (int64_t)0) {
-						tp_error_last_error(p46);
+					uint64_t n388 = 14 - n349;
+					uint64_t n389 = os_write(2, at((byte *)tp_static_310, n349), n388);
+					if ((int64_t)n389 < (int64_t)0) {
+						tp_error_last_error(p41);
 						store8(p3, 1);
-						n363 = 1;
+						n348 = 1;
 						goto L19;
 					}
-					if (n404 == 0) {
+					if (n389 == 0) {
 						store8(p3, 1);
-						n363 = 1;
+						n348 = 1;
 						goto L19;
 					}
-					n364 = n364 + umin64(n404, n403);
+					n349 = n349 + umin64(n389, n388);
 				}
 			}
 		}
 		for (;;) {
-			if (n208 >= 51) {
-				n363 = 2;
+			if (n193 >= 51) {
+				n348 = 5;
 				break;
 			}
-			uint64_t n405 = 51 - n208;
-			uint64_t n406 = os_write(2, at((byte *)tp_static_304, n208), n405);
-			if ((int64_t)n406 < (int64_t)0) {
-				tp_error_last_error(p117);
+			uint64_t n390 = 51 - n193;
+			uint64_t n391 = os_write(2, at((byte *)tp_static_304, n193), n390);
+			if ((int64_t)n391 < (int64_t)0) {
+				tp_error_last_error(p112);
 				store8(p3, 1);
-				n363 = 2;
+				n348 = 5;
 				break;
 			}
-			if (n406 == 0) {
+			if (n391 == 0) {
 				store8(p3, 1);
-				n363 = 2;
+				n348 = 5;
 				break;
 			}
-			n208 = n208 + umin64(n406, n405);
+			n193 = n193 + umin64(n391, n390);
 		}
 L19:
 		{
-			uint8_t n407 = load8_volatile((byte *)tp_static);
-			if (n407 == 0)
-				return n363;
+			uint8_t n392 = load8_volatile((byte *)tp_static);
+			if (n392 == 0)
+				return n348;
 			TRAP();
 			UNREACHABLE();
 		}
 	}
 	case 2: {
-		uint8_t n418;
-		memset(p39, 0, 32);
-		memset(p40, 0, 40);
-		tp_input_read_script(p39, p2);
-		if (load8(p39) == 0) {
-			byte *p408 = loadptru(p39 + 8);
-			bool b409 = load64u(p39 + 24) == 0;
-			tp_script_report_report_of(p40, p408, load64u(p39 + 16));
-			if (load8(p40) == 0) {
-				byte *p410 = loadptru(p40 + 8);
-				uint64_t n411 = load64u(p40 + 16);
-				uint64_t n412 = load64u(p40 + 32);
-				bool b413 = load64u(p40 + 24) == 0;
-				uint64_t n414 = 0;
-				while (n414 < n411) {
-					uint64_t n415 = n411 - n414;
-					uint64_t n416 = os_write(1, at(p410, n414), n415);
-					if ((int64_t)n416 < (int64_t)0) {
-						tp_error_last_error(p38);
+		uint8_t n403;
+		memset(p34, 0, 32);
+		memset(p35, 0, 40);
+		tp_input_read_script(p34, p2);
+		if (load8(p34) == 0) {
+			byte *p393 = loadptru(p34 + 8);
+			bool b394 = load64u(p34 + 24) == 0;
+			tp_script_report_report_of(p35, p393, load64u(p34 + 16));
+			if (load8(p35) == 0) {
+				byte *p395 = loadptru(p35 + 8);
+				uint64_t n396 = load64u(p35 + 16);
+				uint64_t n397 = load64u(p35 + 32);
+				bool b398 = load64u(p35 + 24) == 0;
+				uint64_t n399 = 0;
+				while (n399 < n396) {
+					uint64_t n400 = n396 - n399;
+					uint64_t n401 = os_write(1, at(p395, n399), n400);
+					if ((int64_t)n401 < (int64_t)0) {
+						tp_error_last_error(p33);
 						goto L22;
 					}
-					uint64_t n417 = umin64(n416, n415);
-					if (n417 == 0)
+					uint64_t n402 = umin64(n401, n400);
+					if (n402 == 0)
 						goto L22;
-					n414 = n414 + n417;
+					n399 = n399 + n402;
 				}
-				if (!b413)
-					rattle_dealloc(p410);
-				if (!b409)
-					rattle_dealloc(p408);
-				return (uint8_t)(n412 != 0);
+				if (!b398)
+					rattle_dealloc(p395);
+				if (!b394)
+					rattle_dealloc(p393);
+				return (uint8_t)((n397 == 0) ? 0 : 2);
 L22:
 				{
 					store8(p2 + 1, 1);
-					if (!b413)
-						rattle_dealloc(p410);
-					if (b409) {
-						n418 = 3;
+					if (!b398)
+						rattle_dealloc(p395);
+					if (b394) {
+						n403 = 3;
 					} else {
-						rattle_dealloc(p408);
-						n418 = 3;
+						rattle_dealloc(p393);
+						n403 = 3;
 					}
 				}
-			} else if (b409) {
-				n418 = 2;
+			} else if (b394) {
+				n403 = 2;
 			} else {
-				rattle_dealloc(p408);
-				n418 = 2;
+				rattle_dealloc(p393);
+				n403 = 2;
 			}
 		} else {
-			n418 = load8(p39 + 1);
+			n403 = load8(p34 + 1);
 		}
-		tp_error_report_report_failure(n418, p3);
-		return 2;
+		tp_timer_commands_ending_report_3(n403, p3);
+		return 4;
 	}
 	case 3: {
-		uint8_t n419;
-		if ((n157 - 65) < UINT64_C(18446744073709551552)) {
-			n419 = 0;
-		} else if ((n161 - 1048577) < UINT64_C(18446744073708503040)) {
-			n419 = 1;
+		uint8_t n404, n679;
+		memset(p32, 0, 16);
+		if ((n138 - 65) < UINT64_C(18446744073709551552)) {
+			n404 = 0;
+		} else if ((n142 - 1048577) < UINT64_C(18446744073708503040)) {
+			n404 = 1;
 		} else {
-			if (n162 <= UINT64_C(1152921504606846975)) {
-				uint8_t n690;
-				memset(p36, 0, 280);
-				tp_HierWheel_with_table(p36, 0, n162);
-				if (load8(p36) == 0) {
-					uint8_t n691;
-					byte *p420 = loadptru(p36 + 48);
-					uint64_t n421 = load64u(p36 + 56);
-					uint64_t n422 = load64u(p36 + 64);
-					byte *p423 = loadptru(p36 + 88);
-					uint64_t n424 = load64u(p36 + 96);
-					uint64_t n425 = load64u(p36 + 104);
-					byte *p426 = loadptru(p36 + 216);
-					uint64_t n427 = load64u(p36 + 224);
-					uint64_t n428 = load64u(p36 + 232);
-					memset(p35, 0, 512);
-					uint64_t n429 = 0;
+			if (n143 <= UINT64_C(1152921504606846975)) {
+				uint8_t n675;
+				memset(p30, 0, 280);
+				tp_HierWheel_with_table(p30, 0, n143);
+				if (load8(p30) == 0) {
+					uint8_t n676;
+					byte *p405 = loadptru(p30 + 48);
+					uint64_t n406 = load64u(p30 + 56);
+					uint64_t n407 = load64u(p30 + 64);
+					byte *p408 = loadptru(p30 + 88);
+					uint64_t n409 = load64u(p30 + 96);
+					uint64_t n410 = load64u(p30 + 104);
+					byte *p411 = loadptru(p30 + 216);
+					uint64_t n412 = load64u(p30 + 224);
+					uint64_t n413 = load64u(p30 + 232);
+					memset(p29, 0, 512);
+					uint64_t n414 = 0;
 					for (;;) {
-						store64(at(p35, n429), 1);
-						uint64_t n430 = n429 + 8;
-						if (n430 == 512)
+						store64(at(p29, n414), 1);
+						uint64_t n415 = n414 + 8;
+						if (n415 == 512)
 							break;
-						n429 = n430;
+						n414 = n415;
 					}
-					memcpy(p37, p35, 512);
-					memset(p34, 0, 32);
-					tp_input_read_script(p34, p2);
-					if (load8(p34) == 0) {
-						uint64_t n538, n539;
-						byte *p540;
-						byte *p431 = loadptru(p34 + 8);
-						uint64_t n432 = load64u(p34 + 16);
-						bool b433 = load64u(p34 + 24) == 0;
-						memcpy(p27, p36 + 8, 40);
-						memcpy(p28, p36 + 72, 16);
-						memcpy(p29, p36 + 112, 104);
-						memcpy(p30, p36 + 240, 40);
-						memcpy(p31, p37, 512);
-						memset(p32, 0, 512);
-						memset(p33, 0, 40);
-						memset(p26 + 8, 0, 16);
-						storeptru(p26, p4);
-						uint64_t n434 = 0;
-						byte *p435 = p431;
-						uint64_t n436 = n432;
+					memcpy(p31, p29, 512);
+					memset(p28, 0, 32);
+					tp_input_read_script(p28, p2);
+					if (load8(p28) == 0) {
+						uint64_t n523, n524;
+						byte *p525;
+						byte *p416 = loadptru(p28 + 8);
+						uint64_t n417 = load64u(p28 + 16);
+						bool b418 = load64u(p28 + 24) == 0;
+						memcpy(p21, p30 + 8, 40);
+						memcpy(p22, p30 + 72, 16);
+						memcpy(p23, p30 + 112, 104);
+						memcpy(p24, p30 + 240, 40);
+						memcpy(p25, p31, 512);
+						memset(p26, 0, 512);
+						memset(p27, 0, 40);
+						memset(p20 + 8, 0, 16);
+						storeptru(p20, p4);
+						uint64_t n419 = 0;
+						byte *p420 = p416;
+						uint64_t n421 = n417;
 						for (;;) {
-							uint64_t n475, n476, n477, n478, n479, n480, n481, n482, n496, n497, n498, n499, n502, n503, n504, n505, n508, n509, n510, n511;
-							byte *p483, *p501, *p507, *p513;
-							if (n436 == 0)
+							uint64_t n460, n461, n462, n463, n464, n465, n466, n467, n481, n482, n483, n484, n487, n488, n489, n490, n493, n494, n495, n496;
+							byte *p468, *p486, *p492, *p498;
+							if (n421 == 0)
 								goto L23;
-							if (n436 < 6) {
-								if (n436 != 5)
+							if (n421 < 6) {
+								if (n421 != 5)
 									goto L24;
-								uint32_t n437 = ((((uint32_t)load8(p435 + 3) << 24) | ((uint32_t)load8(p435 + 2) << 16)) | ((uint32_t)load8(p435 + 1) << 8)) | (uint32_t)load8(p435);
-								if (n437 != 1886352499)
+								uint32_t n422 = ((((uint32_t)load8(p420 + 3) << 24) | ((uint32_t)load8(p420 + 2) << 16)) | ((uint32_t)load8(p420 + 1) << 8)) | (uint32_t)load8(p420);
+								if (n422 != 1886352499)
 									goto L25;
-								uint64_t n438 = 0;
-								bool b439 = false;
-								while (n438 != 1) {
-									n438 = 1;
-									b439 = (int)b439 | (int)(32 != load8(p435 + 4));
+								uint64_t n423 = 0;
+								bool b424 = false;
+								while (n423 != 1) {
+									n423 = 1;
+									b424 = (int)b424 | (int)(32 != load8(p420 + 4));
 								}
-								uint64_t n440 = 0;
-								bool b441 = false;
-								while (n440 != 1) {
-									n440 = 1;
-									b441 = (int)b441 | (int)(32 != load8(p435 + 4));
+								uint64_t n425 = 0;
+								bool b426 = false;
+								while (n425 != 1) {
+									n425 = 1;
+									b426 = (int)b426 | (int)(32 != load8(p420 + 4));
 								}
-								uint64_t n442 = 0;
-								bool b443 = false;
-								while (n442 != 1) {
-									n442 = 1;
-									b443 = (int)b443 | (int)(32 != load8(p435 + 4));
+								uint64_t n427 = 0;
+								bool b428 = false;
+								while (n427 != 1) {
+									n427 = 1;
+									b428 = (int)b428 | (int)(32 != load8(p420 + 4));
 								}
-								if ((int)((int)b439 | (int)b441) | (int)b443)
+								if ((int)((int)b424 | (int)b426) | (int)b428)
 									goto L25;
 							} else {
-								uint32_t n444 = ((((uint32_t)load8(p435 + 3) << 24) | ((uint32_t)load8(p435 + 2) << 16)) | ((uint32_t)load8(p435 + 1) << 8)) | (uint32_t)load8(p435);
-								switch (n444) {
+								uint32_t n429 = ((((uint32_t)load8(p420 + 3) << 24) | ((uint32_t)load8(p420 + 2) << 16)) | ((uint32_t)load8(p420 + 1) << 8)) | (uint32_t)load8(p420);
+								switch (n429) {
 								case 1918989427: {
-									uint64_t n454, n460, n466, n472;
-									uint64_t n445 = 0;
-									bool b446 = false;
-									while (n445 != 1) {
-										n445 = 1;
-										b446 = (int)b446 | (int)(116 != load8(p435 + 4));
+									uint64_t n439, n445, n451, n457;
+									uint64_t n430 = 0;
+									bool b431 = false;
+									while (n430 != 1) {
+										n430 = 1;
+										b431 = (int)b431 | (int)(116 != load8(p420 + 4));
 									}
-									uint64_t n447 = 0;
-									bool b448 = false;
-									while (n447 != 1) {
-										n447 = 1;
-										b448 = (int)b448 | (int)(32 != load8(p435 + 5));
+									uint64_t n432 = 0;
+									bool b433 = false;
+									while (n432 != 1) {
+										n432 = 1;
+										b433 = (int)b433 | (int)(32 != load8(p420 + 5));
 									}
-									uint64_t n449 = 0;
-									bool b450 = false;
-									while (n449 != 1) {
-										n449 = 1;
-										b450 = (int)b450 | (int)(32 != load8(p435 + 5));
+									uint64_t n434 = 0;
+									bool b435 = false;
+									while (n434 != 1) {
+										n434 = 1;
+										b435 = (int)b435 | (int)(32 != load8(p420 + 5));
 									}
-									if ((int)((int)b446 | (int)b448) | (int)b450)
+									if ((int)((int)b431 | (int)b433) | (int)b435)
 										goto L25;
-									uint64_t n451 = n436 - 6;
-									uint64_t n452 = 0;
-									uint64_t n453 = 0;
+									uint64_t n436 = n421 - 6;
+									uint64_t n437 = 0;
+									uint64_t n438 = 0;
 									for (;;) {
-										if (n452 == n451) {
-											n454 = n451;
+										if (n437 == n436) {
+											n439 = n436;
 											break;
 										}
-										uint8_t n455 = load8(at(p435 + 6, n452));
-										if ((uint8_t)(n455 - 48) >= 10) {
-											n454 = n452;
+										uint8_t n440 = load8(at(p420 + 6, n437));
+										if ((uint8_t)(n440 - 48) >= 10) {
+											n439 = n437;
 											break;
 										}
-										n452 = n452 + 1;
-										n453 = (n453 * 10) + (uint64_t)(uint8_t)(n455 & 15);
+										n437 = n437 + 1;
+										n438 = (n438 * 10) + (uint64_t)(uint8_t)(n440 & 15);
 									}
-									switch (n454) {
+									switch (n439) {
 									case 0: {
 										goto L26;
 									}
 									case 1: {
-										if (n453 > UINT64_C(1152921504606846975))
+										if (n438 > UINT64_C(1152921504606846975))
 											goto L26;
 										break;
 									}
 									default: {
-										if (((int)(load8(p435 + 6) == 48) | (int)(n454 > 19)) || (n453 > UINT64_C(1152921504606846975)))
+										if (((int)(load8(p420 + 6) == 48) | (int)(n439 > 19)) || (n438 > UINT64_C(1152921504606846975)))
 											goto L26;
 										break;
 									}
 									}
-									byte *p456 = at(p435 + 6, n454);
-									if (n451 == n454)
+									byte *p441 = at(p420 + 6, n439);
+									if (n436 == n439)
 										goto L26;
-									if (load8(p456) != 32)
+									if (load8(p441) != 32)
 										goto L26;
-									uint64_t n457 = n451 + (n454 ^ UINT64_MAX);
-									uint64_t n458 = 0;
-									uint64_t n459 = 0;
+									uint64_t n442 = n436 + (n439 ^ UINT64_MAX);
+									uint64_t n443 = 0;
+									uint64_t n444 = 0;
 									for (;;) {
-										if (n458 == n457) {
-											n460 = n457;
+										if (n443 == n442) {
+											n445 = n442;
 											break;
 										}
-										uint8_t n461 = load8(at(p456 + 1, n458));
-										if ((uint8_t)(n461 - 48) >= 10) {
-											n460 = n458;
+										uint8_t n446 = load8(at(p441 + 1, n443));
+										if ((uint8_t)(n446 - 48) >= 10) {
+											n445 = n443;
 											break;
 										}
-										n458 = n458 + 1;
-										n459 = (n459 * 10) + (uint64_t)(uint8_t)(n461 & 15);
+										n443 = n443 + 1;
+										n444 = (n444 * 10) + (uint64_t)(uint8_t)(n446 & 15);
 									}
-									switch (n460) {
+									switch (n445) {
 									case 0: {
 										goto L26;
 									}
 									case 1: {
-										if (n459 > UINT64_C(1152921504606846975))
+										if (n444 > UINT64_C(1152921504606846975))
 											goto L26;
 										break;
 									}
 									default: {
-										if (((int)(load8(p456 + 1) == 48) | (int)(n460 > 19)) || (n459 > UINT64_C(1152921504606846975)))
+										if (((int)(load8(p441 + 1) == 48) | (int)(n445 > 19)) || (n444 > UINT64_C(1152921504606846975)))
 											goto L26;
 										break;
 									}
 									}
-									byte *p462 = at(p456 + 1, n460);
-									if (n457 == n460)
+									byte *p447 = at(p441 + 1, n445);
+									if (n442 == n445)
 										goto L26;
-									if (load8(p462) != 32)
+									if (load8(p447) != 32)
 										goto L26;
-									uint64_t n463 = n457 + (n460 ^ UINT64_MAX);
-									uint64_t n464 = 0;
-									uint64_t n465 = 0;
+									uint64_t n448 = n442 + (n445 ^ UINT64_MAX);
+									uint64_t n449 = 0;
+									uint64_t n450 = 0;
 									for (;;) {
-										if (n464 == n463) {
-											n466 = n463;
+										if (n449 == n448) {
+											n451 = n448;
 											break;
 										}
-										uint8_t n467 = load8(at(p462 + 1, n464));
-										if ((uint8_t)(n467 - 48) >= 10) {
-											n466 = n464;
+										uint8_t n452 = load8(at(p447 + 1, n449));
+										if ((uint8_t)(n452 - 48) >= 10) {
+											n451 = n449;
 											break;
 										}
-										n464 = n464 + 1;
-										n465 = (n465 * 10) + (uint64_t)(uint8_t)(n467 & 15);
+										n449 = n449 + 1;
+										n450 = (n450 * 10) + (uint64_t)(uint8_t)(n452 & 15);
 									}
-									switch (n466) {
+									switch (n451) {
 									case 0: {
 										goto L26;
 									}
 									case 1: {
-										if (n465 > UINT64_C(1152921504606846975))
+										if (n450 > UINT64_C(1152921504606846975))
 											goto L26;
 										break;
 									}
 									default: {
-										if (((int)(load8(p462 + 1) == 48) | (int)(n466 > 19)) || (n465 > UINT64_C(1152921504606846975)))
+										if (((int)(load8(p447 + 1) == 48) | (int)(n451 > 19)) || (n450 > UINT64_C(1152921504606846975)))
 											goto L26;
 										break;
 									}
 									}
-									byte *p468 = at(p462 + 1, n466);
-									if (n463 == n466)
+									byte *p453 = at(p447 + 1, n451);
+									if (n448 == n451)
 										goto L26;
-									if (load8(p468) != 32)
+									if (load8(p453) != 32)
 										goto L26;
-									uint64_t n469 = n463 + (n466 ^ UINT64_MAX);
-									uint64_t n470 = 0;
-									uint64_t n471 = 0;
+									uint64_t n454 = n448 + (n451 ^ UINT64_MAX);
+									uint64_t n455 = 0;
+									uint64_t n456 = 0;
 									for (;;) {
-										if (n470 == n469) {
-											n472 = n469;
+										if (n455 == n454) {
+											n457 = n454;
 											break;
 										}
-										uint8_t n473 = load8(at(p468 + 1, n470));
-										if ((uint8_t)(n473 - 48) >= 10) {
-											n472 = n470;
+										uint8_t n458 = load8(at(p453 + 1, n455));
+										if ((uint8_t)(n458 - 48) >= 10) {
+											n457 = n455;
 											break;
 										}
-										n470 = n470 + 1;
-										n471 = (n471 * 10) + (uint64_t)(uint8_t)(n473 & 15);
+										n455 = n455 + 1;
+										n456 = (n456 * 10) + (uint64_t)(uint8_t)(n458 & 15);
 									}
-									switch (n472) {
+									switch (n457) {
 									case 0: {
 										goto L26;
 									}
 									case 1: {
-										if (n471 > UINT64_C(1152921504606846975))
+										if (n456 > UINT64_C(1152921504606846975))
 											goto L26;
 										break;
 									}
 									default: {
-										if (((int)(load8(p468 + 1) == 48) | (int)(n472 > 19)) || (n471 > UINT64_C(1152921504606846975)))
+										if (((int)(load8(p453 + 1) == 48) | (int)(n457 > 19)) || (n456 > UINT64_C(1152921504606846975)))
 											goto L26;
 										break;
 									}
 									}
-									byte *p474 = at(p468 + 1, n472);
-									if (n469 == n472)
+									byte *p459 = at(p453 + 1, n457);
+									if (n454 == n457)
 										goto L26;
-									if (load8(p474) != 10)
+									if (load8(p459) != 10)
 										goto L26;
-									n475 = n434;
-									n476 = 0;
-									n477 = n471;
-									n478 = n465;
-									n479 = n459;
-									n480 = 0;
-									n481 = n453;
-									n482 = n469 + (n472 ^ UINT64_MAX);
-									p483 = p474 + 1;
+									n460 = n419;
+									n461 = 0;
+									n462 = n456;
+									n463 = n450;
+									n464 = n444;
+									n465 = 0;
+									n466 = n438;
+									n467 = n454 + (n457 ^ UINT64_MAX);
+									p468 = p459 + 1;
 									goto L27;
 								}
 								case 1886352499: {
-									uint64_t n484 = 0;
-									bool b485 = false;
-									while (n484 != 1) {
-										n484 = 1;
-										b485 = (int)b485 | (int)(32 != load8(p435 + 4));
+									uint64_t n469 = 0;
+									bool b470 = false;
+									while (n469 != 1) {
+										n469 = 1;
+										b470 = (int)b470 | (int)(32 != load8(p420 + 4));
 									}
-									uint64_t n486 = 0;
-									bool b487 = false;
-									while (n486 != 1) {
-										n486 = 1;
-										b487 = (int)b487 | (int)(32 != load8(p435 + 4));
+									uint64_t n471 = 0;
+									bool b472 = false;
+									while (n471 != 1) {
+										n471 = 1;
+										b472 = (int)b472 | (int)(32 != load8(p420 + 4));
 									}
-									uint64_t n488 = 0;
-									bool b489 = false;
-									while (n488 != 1) {
-										n488 = 1;
-										b489 = (int)b489 | (int)(32 != load8(p435 + 4));
+									uint64_t n473 = 0;
+									bool b474 = false;
+									while (n473 != 1) {
+										n473 = 1;
+										b474 = (int)b474 | (int)(32 != load8(p420 + 4));
 									}
-									if ((int)((int)b485 | (int)b487) | (int)b489)
+									if ((int)((int)b470 | (int)b472) | (int)b474)
 										goto L25;
 									break;
 								}
 								case 1936682083: {
-									uint64_t n490 = 0;
-									bool b491 = false;
-									while (n490 != 1) {
-										n490 = 1;
-										b491 = (int)b491 | (int)(101 != load8(p435 + 4));
+									uint64_t n475 = 0;
+									bool b476 = false;
+									while (n475 != 1) {
+										n475 = 1;
+										b476 = (int)b476 | (int)(101 != load8(p420 + 4));
 									}
-									uint64_t n492 = 0;
-									bool b493 = false;
-									while (n492 != 1) {
-										n492 = 1;
-										b493 = (int)b493 | (int)(10 != load8(p435 + 5));
+									uint64_t n477 = 0;
+									bool b478 = false;
+									while (n477 != 1) {
+										n477 = 1;
+										b478 = (int)b478 | (int)(10 != load8(p420 + 5));
 									}
-									uint64_t n494 = 0;
-									bool b495 = false;
-									while (n494 != 1) {
-										n494 = 1;
-										b495 = (int)b495 | (int)(10 != load8(p435 + 5));
+									uint64_t n479 = 0;
+									bool b480 = false;
+									while (n479 != 1) {
+										n479 = 1;
+										b480 = (int)b480 | (int)(10 != load8(p420 + 5));
 									}
-									if ((int)((int)b491 | (int)b493) | (int)b495)
+									if ((int)((int)b476 | (int)b478) | (int)b480)
 										goto L25;
-									n475 = n434;
-									n476 = 0;
-									n477 = 0;
-									n478 = 0;
-									n479 = 0;
-									n480 = 4;
-									n481 = 0;
-									n482 = n436 - 6;
-									p483 = p435 + 6;
+									n460 = n419;
+									n461 = 0;
+									n462 = 0;
+									n463 = 0;
+									n464 = 0;
+									n465 = 4;
+									n466 = 0;
+									n467 = n421 - 6;
+									p468 = p420 + 6;
 									goto L27;
 								}
 								default: {
@@ -83339,267 +83169,267 @@ L22:
 								}
 								}
 							}
-							n496 = n436 - 5;
-							n497 = 0;
-							n498 = 0;
+							n481 = n421 - 5;
+							n482 = 0;
+							n483 = 0;
 							for (;;) {
-								if (n497 == n496) {
-									n499 = n496;
+								if (n482 == n481) {
+									n484 = n481;
 									break;
 								}
-								uint8_t n500 = load8(at(p435 + 5, n497));
-								if ((uint8_t)(n500 - 48) >= 10) {
-									n499 = n497;
+								uint8_t n485 = load8(at(p420 + 5, n482));
+								if ((uint8_t)(n485 - 48) >= 10) {
+									n484 = n482;
 									break;
 								}
-								n497 = n497 + 1;
-								n498 = (n498 * 10) + (uint64_t)(uint8_t)(n500 & 15);
+								n482 = n482 + 1;
+								n483 = (n483 * 10) + (uint64_t)(uint8_t)(n485 & 15);
 							}
-							switch (n499) {
+							switch (n484) {
 							case 0: {
 								goto L26;
 							}
 							case 1: {
-								if (n498 > UINT64_C(1152921504606846975))
+								if (n483 > UINT64_C(1152921504606846975))
 									goto L26;
 								break;
 							}
 							default: {
-								if (((int)(load8(p435 + 5) == 48) | (int)(n499 > 19)) || (n498 > UINT64_C(1152921504606846975)))
+								if (((int)(load8(p420 + 5) == 48) | (int)(n484 > 19)) || (n483 > UINT64_C(1152921504606846975)))
 									goto L26;
 								break;
 							}
 							}
-							p501 = at(p435 + 5, n499);
-							if (n496 == n499)
+							p486 = at(p420 + 5, n484);
+							if (n481 == n484)
 								goto L26;
-							if (load8(p501) != 32)
+							if (load8(p486) != 32)
 								goto L26;
-							n502 = n496 + (n499 ^ UINT64_MAX);
-							n503 = 0;
-							n504 = 0;
+							n487 = n481 + (n484 ^ UINT64_MAX);
+							n488 = 0;
+							n489 = 0;
 							for (;;) {
-								if (n503 == n502) {
-									n505 = n502;
+								if (n488 == n487) {
+									n490 = n487;
 									break;
 								}
-								uint8_t n506 = load8(at(p501 + 1, n503));
-								if ((uint8_t)(n506 - 48) >= 10) {
-									n505 = n503;
+								uint8_t n491 = load8(at(p486 + 1, n488));
+								if ((uint8_t)(n491 - 48) >= 10) {
+									n490 = n488;
 									break;
 								}
-								n503 = n503 + 1;
-								n504 = (n504 * 10) + (uint64_t)(uint8_t)(n506 & 15);
+								n488 = n488 + 1;
+								n489 = (n489 * 10) + (uint64_t)(uint8_t)(n491 & 15);
 							}
-							switch (n505) {
+							switch (n490) {
 							case 0: {
 								goto L26;
 							}
 							case 1: {
-								if (n504 > UINT64_C(1152921504606846975))
+								if (n489 > UINT64_C(1152921504606846975))
 									goto L26;
 								break;
 							}
 							default: {
-								if (((int)(load8(p501 + 1) == 48) | (int)(n505 > 19)) || (n504 > UINT64_C(1152921504606846975)))
+								if (((int)(load8(p486 + 1) == 48) | (int)(n490 > 19)) || (n489 > UINT64_C(1152921504606846975)))
 									goto L26;
 								break;
 							}
 							}
-							p507 = at(p501 + 1, n505);
-							if (n502 == n505)
+							p492 = at(p486 + 1, n490);
+							if (n487 == n490)
 								goto L26;
-							if (load8(p507) != 32)
+							if (load8(p492) != 32)
 								goto L26;
-							n508 = n502 + (n505 ^ UINT64_MAX);
-							n509 = 0;
-							n510 = 0;
+							n493 = n487 + (n490 ^ UINT64_MAX);
+							n494 = 0;
+							n495 = 0;
 							for (;;) {
-								if (n509 == n508) {
-									n511 = n508;
+								if (n494 == n493) {
+									n496 = n493;
 									break;
 								}
-								uint8_t n512 = load8(at(p507 + 1, n509));
-								if ((uint8_t)(n512 - 48) >= 10) {
-									n511 = n509;
+								uint8_t n497 = load8(at(p492 + 1, n494));
+								if ((uint8_t)(n497 - 48) >= 10) {
+									n496 = n494;
 									break;
 								}
-								n509 = n509 + 1;
-								n510 = (n510 * 10) + (uint64_t)(uint8_t)(n512 & 15);
+								n494 = n494 + 1;
+								n495 = (n495 * 10) + (uint64_t)(uint8_t)(n497 & 15);
 							}
-							switch (n511) {
+							switch (n496) {
 							case 0: {
 								goto L26;
 							}
 							case 1: {
-								if (n510 > UINT64_C(1152921504606846975))
+								if (n495 > UINT64_C(1152921504606846975))
 									goto L26;
 								break;
 							}
 							default: {
-								if (((int)(load8(p507 + 1) == 48) | (int)(n511 > 19)) || (n510 > UINT64_C(1152921504606846975)))
+								if (((int)(load8(p492 + 1) == 48) | (int)(n496 > 19)) || (n495 > UINT64_C(1152921504606846975)))
 									goto L26;
 								break;
 							}
 							}
-							p513 = at(p507 + 1, n511);
-							if (n508 == n511)
+							p498 = at(p492 + 1, n496);
+							if (n493 == n496)
 								goto L26;
-							if (load8(p513) != 10)
+							if (load8(p498) != 10)
 								goto L26;
-							n475 = n434;
-							n476 = 0;
-							n477 = 0;
-							n478 = n510;
-							n479 = n504;
-							n480 = 1;
-							n481 = n498;
-							n482 = n508 + (n511 ^ UINT64_MAX);
-							p483 = p513 + 1;
+							n460 = n419;
+							n461 = 0;
+							n462 = 0;
+							n463 = n495;
+							n464 = n489;
+							n465 = 1;
+							n466 = n483;
+							n467 = n493 + (n496 ^ UINT64_MAX);
+							p468 = p498 + 1;
 							goto L27;
 L25:
 							{
-								uint8_t n521;
-								uint64_t n522, n523, n524, n525, n526, n527, n529, n530, n532;
-								byte *p528;
-								bool b531, b533;
-								memset(p25, 0, 72);
-								uint32_t n514 = ((((uint32_t)load8(p435 + 3) << 24) | ((uint32_t)load8(p435 + 2) << 16)) | ((uint32_t)load8(p435 + 1) << 8)) | (uint32_t)load8(p435);
-								if (n514 == 1801677172) {
-									if (n436 == 4)
+								uint8_t n506;
+								uint64_t n507, n508, n509, n510, n511, n512, n514, n515, n517;
+								byte *p513;
+								bool b516, b518;
+								memset(p19, 0, 72);
+								uint32_t n499 = ((((uint32_t)load8(p420 + 3) << 24) | ((uint32_t)load8(p420 + 2) << 16)) | ((uint32_t)load8(p420 + 1) << 8)) | (uint32_t)load8(p420);
+								if (n499 == 1801677172) {
+									if (n421 == 4)
 										goto L24;
-									uint64_t n515 = 0;
-									bool b516 = false;
-									while (n515 != 1) {
-										n515 = 1;
-										b516 = (int)b516 | (int)(32 != load8(p435 + 4));
+									uint64_t n500 = 0;
+									bool b501 = false;
+									while (n500 != 1) {
+										n500 = 1;
+										b501 = (int)b501 | (int)(32 != load8(p420 + 4));
 									}
-									uint64_t n517 = 0;
-									bool b518 = false;
-									while (n517 != 1) {
-										n517 = 1;
-										b518 = (int)b518 | (int)(32 != load8(p435 + 4));
+									uint64_t n502 = 0;
+									bool b503 = false;
+									while (n502 != 1) {
+										n502 = 1;
+										b503 = (int)b503 | (int)(32 != load8(p420 + 4));
 									}
-									uint64_t n519 = 0;
-									bool b520 = false;
-									while (n519 != 1) {
-										n519 = 1;
-										b520 = (int)b520 | (int)(32 != load8(p435 + 4));
+									uint64_t n504 = 0;
+									bool b505 = false;
+									while (n504 != 1) {
+										n504 = 1;
+										b505 = (int)b505 | (int)(32 != load8(p420 + 4));
 									}
-									if (!((int)((int)b516 | (int)b518) | (int)b520)) {
-										tp_lines_read_tick(p25, p435 + 5, n436 - 5);
-										n521 = load8(p25);
-										n522 = load64u(p25 + 8);
-										n523 = load64u(p25 + 16);
-										n524 = load64u(p25 + 24);
-										n525 = load64u(p25 + 32);
-										n526 = load64u(p25 + 40);
-										n527 = load64u(p25 + 48);
-										p528 = loadptru(p25 + 56);
-										n529 = load64u(p25 + 64);
+									if (!((int)((int)b501 | (int)b503) | (int)b505)) {
+										tp_lines_read_tick(p19, p420 + 5, n421 - 5);
+										n506 = load8(p19);
+										n507 = load64u(p19 + 8);
+										n508 = load64u(p19 + 16);
+										n509 = load64u(p19 + 24);
+										n510 = load64u(p19 + 32);
+										n511 = load64u(p19 + 40);
+										n512 = load64u(p19 + 48);
+										p513 = loadptru(p19 + 56);
+										n514 = load64u(p19 + 64);
 										goto L28;
 									}
 								}
-								if (!((int)(n436 > 7) & (int)(n514 == 1953719666)))
+								if (!((int)(n421 > 7) & (int)(n499 == 1953719666)))
 									goto L24;
-								n530 = 0;
-								b531 = false;
-								while (n530 != 4) {
-									b531 = (int)b531 | (int)(load8(at((byte *)tp_static_220 + 4, n530)) != load8(at(p435 + 4, n530)));
-									n530 = n530 + 1;
+								n515 = 0;
+								b516 = false;
+								while (n515 != 4) {
+									b516 = (int)b516 | (int)(load8(at((byte *)tp_static_220 + 4, n515)) != load8(at(p420 + 4, n515)));
+									n515 = n515 + 1;
 								}
-								n532 = 0;
-								b533 = false;
-								while (n532 != 4) {
-									b533 = (int)b533 | (int)(load8(at((byte *)tp_static_220 + 4, n532)) != load8(at(p435 + 4, n532)));
-									n532 = n532 + 1;
+								n517 = 0;
+								b518 = false;
+								while (n517 != 4) {
+									b518 = (int)b518 | (int)(load8(at((byte *)tp_static_220 + 4, n517)) != load8(at(p420 + 4, n517)));
+									n517 = n517 + 1;
 								}
-								if ((int)b531 | (int)b533)
+								if ((int)b516 | (int)b518)
 									goto L24;
-								tp_lines_read_restart(p25, p435 + 8, n436 - 8);
-								n521 = load8(p25);
-								n522 = load64u(p25 + 8);
-								n523 = load64u(p25 + 16);
-								n524 = load64u(p25 + 24);
-								n525 = load64u(p25 + 32);
-								n526 = load64u(p25 + 40);
-								n527 = load64u(p25 + 48);
-								p528 = loadptru(p25 + 56);
-								n529 = load64u(p25 + 64);
+								tp_lines_read_restart(p19, p420 + 8, n421 - 8);
+								n506 = load8(p19);
+								n507 = load64u(p19 + 8);
+								n508 = load64u(p19 + 16);
+								n509 = load64u(p19 + 24);
+								n510 = load64u(p19 + 32);
+								n511 = load64u(p19 + 40);
+								n512 = load64u(p19 + 48);
+								p513 = loadptru(p19 + 56);
+								n514 = load64u(p19 + 64);
 L28:
 								{
-									if (n521 != 1)
+									if (n506 != 1)
 										goto L26;
-									n475 = load64(p26 + 8);
-									n476 = n527;
-									n477 = n526;
-									n478 = n525;
-									n479 = n524;
-									n480 = n522 & 255;
-									n481 = n523;
-									n482 = n529;
-									p483 = p528;
+									n460 = load64(p20 + 8);
+									n461 = n512;
+									n462 = n511;
+									n463 = n510;
+									n464 = n509;
+									n465 = n507 & 255;
+									n466 = n508;
+									n467 = n514;
+									p468 = p513;
 								}
 							}
 L27:
 							{
-								uint64_t n535;
-								if (load64(p26 + 16) == n475) {
-									bool b534 = tp_std_alloc_vec_Vec_grow_amortized_5(p26);
-									if (!b534)
+								uint64_t n520;
+								if (load64(p20 + 16) == n460) {
+									bool b519 = tp_std_alloc_vec_Vec_grow_amortized_5(p20);
+									if (!b519)
 										break;
-									n535 = load64(p26 + 8);
+									n520 = load64(p20 + 8);
 								} else {
-									n535 = n475;
+									n520 = n460;
 								}
-								byte *p536 = inside(loadptr(p26), n535 * 48);
-								store64u(p536, n480);
-								store64u(p536 + 8, n481);
-								store64u(p536 + 16, n479);
-								store64u(p536 + 24, n478);
-								store64u(p536 + 32, n477);
-								store64u(p536 + 40, n476);
-								uint64_t n537 = n535 + 1;
-								store64(p26 + 8, n537);
-								n434 = n537;
-								p435 = p483;
-								n436 = n482;
+								byte *p521 = inside(loadptr(p20), n520 * 48);
+								store64u(p521, n465);
+								store64u(p521 + 8, n466);
+								store64u(p521 + 16, n464);
+								store64u(p521 + 24, n463);
+								store64u(p521 + 32, n462);
+								store64u(p521 + 40, n461);
+								uint64_t n522 = n520 + 1;
+								store64(p20 + 8, n522);
+								n419 = n522;
+								p420 = p468;
+								n421 = n467;
 							}
 						}
-						if (load64u(p26 + 16) != 0)
-							rattle_dealloc(loadptru(p26));
-						if (n422 != 0)
-							rattle_dealloc(p420);
-						if (n425 != 0)
-							rattle_dealloc(p423);
-						if (n428 == 0)
+						if (load64u(p20 + 16) != 0)
+							rattle_dealloc(loadptru(p20));
+						if (n407 != 0)
+							rattle_dealloc(p405);
+						if (n410 != 0)
+							rattle_dealloc(p408);
+						if (n413 == 0)
 							goto L29;
-						rattle_dealloc(p426);
+						rattle_dealloc(p411);
 						goto L29;
 L24: ;
 L26:
 						{
-							if (load64u(p26 + 16) != 0)
-								rattle_dealloc(loadptru(p26));
-							tp_script_report_report_of(p33, p431, n432);
-							if (load8(p33) == 0) {
-								if (n422 != 0)
-									rattle_dealloc(p420);
-								if (n425 != 0)
-									rattle_dealloc(p423);
-								if (n428 != 0)
-									rattle_dealloc(p426);
-								n538 = load64(p33 + 24);
-								n539 = load64(p33 + 16);
-								p540 = loadptr(p33 + 8);
+							if (load64u(p20 + 16) != 0)
+								rattle_dealloc(loadptru(p20));
+							tp_script_report_report_of(p27, p416, n417);
+							if (load8(p27) == 0) {
+								if (n407 != 0)
+									rattle_dealloc(p405);
+								if (n410 != 0)
+									rattle_dealloc(p408);
+								if (n413 != 0)
+									rattle_dealloc(p411);
+								n523 = load64(p27 + 24);
+								n524 = load64(p27 + 16);
+								p525 = loadptr(p27 + 8);
 								goto L30;
 							}
-							if (n422 != 0)
-								rattle_dealloc(p420);
-							if (n425 != 0)
-								rattle_dealloc(p423);
-							if (n428 != 0)
-								rattle_dealloc(p426);
+							if (n407 != 0)
+								rattle_dealloc(p405);
+							if (n410 != 0)
+								rattle_dealloc(p408);
+							if (n413 != 0)
+								rattle_dealloc(p411);
 						}
 L29:
 						{
@@ -83607,80 +83437,80 @@ L29:
 						}
 L23:
 						{
-							bool b544;
-							byte *p666, *p669, *p671, *p673, *p675;
-							uint64_t n667, n668, n670, n672, n674, n676, n677;
-							bool b541 = load64u(p26 + 16) == 0;
-							byte *p542 = (byte *)(uintptr_t)load64u(p26);
-							memcpy(p21, p27, 40);
-							storeptr(p21 + 40, p420);
-							store64(p21 + 48, n421);
-							store64(p21 + 56, n422);
-							memcpy(p21 + 64, p28, 16);
-							storeptr(p21 + 80, p423);
-							store64(p21 + 88, n424);
-							store64(p21 + 96, n425);
-							memcpy(p21 + 104, p29, 104);
-							storeptr(p21 + 208, p426);
-							store64(p21 + 216, n427);
-							store64(p21 + 224, n428);
-							memcpy(p21 + 232, p30, 40);
-							store64(p21 + 272, n157);
-							store64(p21 + 280, n161);
-							store64(p21 + 288, 1);
-							memcpy(p21 + 296, p31, 512);
-							memcpy(p21 + 808, p32, 512);
-							store64(p21 + 1320, 0);
-							storeptr(p21 + 1328, p4);
-							memset(p21 + 1336, 0, 24);
-							storeptru(p21 + 1360, p4);
-							memset(p21 + 1368, 0, 16);
-							storeptru(p22, p4);
-							memset(p22 + 8, 0, 16);
-							storeptru(p23, p4);
-							memset(p23 + 8, 0, 16);
-							storeptru(p24, p4);
-							memset(p24 + 8, 0, 16);
-							uint64_t n543 = 0;
+							bool b529;
+							byte *p651, *p654, *p656, *p658, *p660;
+							uint64_t n652, n653, n655, n657, n659, n661, n662;
+							bool b526 = load64u(p20 + 16) == 0;
+							byte *p527 = (byte *)(uintptr_t)load64u(p20);
+							memcpy(p15, p21, 40);
+							storeptr(p15 + 40, p405);
+							store64(p15 + 48, n406);
+							store64(p15 + 56, n407);
+							memcpy(p15 + 64, p22, 16);
+							storeptr(p15 + 80, p408);
+							store64(p15 + 88, n409);
+							store64(p15 + 96, n410);
+							memcpy(p15 + 104, p23, 104);
+							storeptr(p15 + 208, p411);
+							store64(p15 + 216, n412);
+							store64(p15 + 224, n413);
+							memcpy(p15 + 232, p24, 40);
+							store64(p15 + 272, n138);
+							store64(p15 + 280, n142);
+							store64(p15 + 288, 1);
+							memcpy(p15 + 296, p25, 512);
+							memcpy(p15 + 808, p26, 512);
+							store64(p15 + 1320, 0);
+							storeptr(p15 + 1328, p4);
+							memset(p15 + 1336, 0, 24);
+							storeptru(p15 + 1360, p4);
+							memset(p15 + 1368, 0, 16);
+							storeptru(p16, p4);
+							memset(p16 + 8, 0, 16);
+							storeptru(p17, p4);
+							memset(p17 + 8, 0, 16);
+							storeptru(p18, p4);
+							memset(p18 + 8, 0, 16);
+							uint64_t n528 = 0;
 							for (;;) {
-								b544 = n543 != n434;
-								if (!b544)
+								b529 = n528 != n419;
+								if (!b529)
 									break;
-								byte *p545 = at(p542, n543 * 48);
-								uint64_t n546 = n543 + 1;
-								uint8_t n547 = load8(p545);
-								uint64_t n548 = load64u(p545 + 24);
-								uint64_t n549 = load64u(p545 + 8);
-								uint64_t n550 = load64u(p545 + 16);
-								uint64_t n551 = load64u(p545 + 32);
-								uint64_t n552 = load64u(p545 + 40);
-								store64u(p20, (uint64_t)n547);
-								store64(p20 + 8, n549);
-								store64(p20 + 16, n550);
-								store64(p20 + 24, n548);
-								store64(p20 + 32, n551);
-								store64(p20 + 40, n552);
-								if (load64(p23 + 8) != 0)
-									store64(p23 + 8, 0);
-								uint8_t n553 = tp_Player_play_one(p21, p20, p23);
-								if ((n553 & 1) != 0)
+								byte *p530 = at(p527, n528 * 48);
+								uint64_t n531 = n528 + 1;
+								uint8_t n532 = load8(p530);
+								uint64_t n533 = load64u(p530 + 24);
+								uint64_t n534 = load64u(p530 + 8);
+								uint64_t n535 = load64u(p530 + 16);
+								uint64_t n536 = load64u(p530 + 32);
+								uint64_t n537 = load64u(p530 + 40);
+								store64u(p14, (uint64_t)n532);
+								store64(p14 + 8, n534);
+								store64(p14 + 16, n535);
+								store64(p14 + 24, n533);
+								store64(p14 + 32, n536);
+								store64(p14 + 40, n537);
+								if (load64(p17 + 8) != 0)
+									store64(p17 + 8, 0);
+								uint8_t n538 = tp_Player_play_one(p15, p14, p17);
+								if ((n538 & 1) != 0)
 									goto L32;
-								byte *p554 = loadptr(p22);
-								uint64_t n555 = load64(p22 + 8);
-								switch (n547) {
+								byte *p539 = loadptr(p16);
+								uint64_t n540 = load64(p16 + 8);
+								switch (n532) {
 								case 1:
 								case 2: {
-									byte *p556 = loadptr(p23);
-									uint64_t n557 = load64(p23 + 8);
+									byte *p541 = loadptr(p17);
+									uint64_t n542 = load64(p17 + 8);
 									for (;;) {
-										if (n557 == 0)
+										if (n542 == 0)
 											goto L33;
-										uint64_t n558 = n557 - 1;
-										switch (MOSTLY_0(load8(p556))) {
+										uint64_t n543 = n542 - 1;
+										switch (MOSTLY_0(load8(p541))) {
 										case 0: {
-											switch (load8(p556 + 24)) {
+											switch (load8(p541 + 24)) {
 											case 3: {
-												switch (load8(p556 + 25)) {
+												switch (load8(p541 + 25)) {
 												case 4: {
 													goto L34;
 												}
@@ -83718,260 +83548,260 @@ L23:
 											UNREACHABLE();
 										}
 										}
-										p556 = p556 + 64;
-										n557 = n558;
+										p541 = p541 + 64;
+										n542 = n543;
 									}
 L34:
 									{
-										uint8_t n560;
-										uint64_t n561, n565, n566, n569;
-										if (n548 < n555) {
-											byte *p559 = inside(p554, n548 << 4);
-											n560 = load8(p559);
-											n561 = load64u(p559 + 8);
+										uint8_t n545;
+										uint64_t n546, n550, n551, n554;
+										if (n533 < n540) {
+											byte *p544 = inside(p539, n533 << 4);
+											n545 = load8(p544);
+											n546 = load64u(p544 + 8);
 										} else {
-											n560 = 0;
-											n561 = 0;
+											n545 = 0;
+											n546 = 0;
 										}
-										uint64_t n562 = load64(p24 + 16);
-										uint64_t n563 = load64(p24 + 8);
-										if ((n562 - n563) < 5) {
-											bool b564 = tp_std_alloc_vec_Vec_grow_amortized_11(p24, 5);
-											if (!b564)
+										uint64_t n547 = load64(p18 + 16);
+										uint64_t n548 = load64(p18 + 8);
+										if ((n547 - n548) < 5) {
+											bool b549 = tp_std_alloc_vec_Vec_grow_amortized_11(p18, 5);
+											if (!b549)
 												goto L32;
-											n565 = load64(p24 + 16);
-											n566 = load64(p24 + 8);
+											n550 = load64(p18 + 16);
+											n551 = load64(p18 + 8);
 										} else {
-											n565 = n562;
-											n566 = n563;
+											n550 = n547;
+											n551 = n548;
 										}
-										byte *p567 = loadptr(p24);
-										byte *p568 = at(p567, n566);
-										if (((uint64_t)(uintptr_t)p568 - (uint64_t)(uintptr_t)(byte *)tp_static_261) >= 5) {
-											memcpy(p568, (byte *)tp_static_261, 5);
+										byte *p552 = loadptr(p18);
+										byte *p553 = at(p552, n551);
+										if (((uint64_t)(uintptr_t)p553 - (uint64_t)(uintptr_t)(byte *)tp_static_261) >= 5) {
+											memcpy(p553, (byte *)tp_static_261, 5);
 											goto L35;
 										}
-										n569 = 0;
-										while (n569 != 5) {
-											store8(inside(p568, n569), load8(inside((byte *)tp_static_261, n569)));
-											n569 = n569 + 1;
+										n554 = 0;
+										while (n554 != 5) {
+											store8(inside(p553, n554), load8(inside((byte *)tp_static_261, n554)));
+											n554 = n554 + 1;
 										}
 L35:
 										{
-											uint64_t n574, n575, n578;
-											storeptr(p24, p567);
-											store64(p24 + 8, n566 + 5);
-											store64(p24 + 16, n565);
-											uint8_t n570 = tp_script_report_push_decimal(p24, n546);
-											if ((n570 & 1) != 0)
+											uint64_t n559, n560, n563;
+											storeptr(p18, p552);
+											store64(p18 + 8, n551 + 5);
+											store64(p18 + 16, n550);
+											uint8_t n555 = tp_script_report_push_decimal(p18, n531);
+											if ((n555 & 1) != 0)
 												goto L32;
-											uint64_t n571 = load64(p24 + 16);
-											uint64_t n572 = load64(p24 + 8);
-											if ((n571 - n572) < 17) {
-												bool b573 = tp_std_alloc_vec_Vec_grow_amortized_11(p24, 17);
-												if (!b573)
+											uint64_t n556 = load64(p18 + 16);
+											uint64_t n557 = load64(p18 + 8);
+											if ((n556 - n557) < 17) {
+												bool b558 = tp_std_alloc_vec_Vec_grow_amortized_11(p18, 17);
+												if (!b558)
 													goto L32;
-												n574 = load64(p24 + 16);
-												n575 = load64(p24 + 8);
+												n559 = load64(p18 + 16);
+												n560 = load64(p18 + 8);
 											} else {
-												n574 = n571;
-												n575 = n572;
+												n559 = n556;
+												n560 = n557;
 											}
-											byte *p576 = loadptr(p24);
-											byte *p577 = at(p576, n575);
-											if (((uint64_t)(uintptr_t)p577 - (uint64_t)(uintptr_t)(byte *)tp_static_313) >= 17) {
-												memcpy(p577, (byte *)tp_static_313, 17);
+											byte *p561 = loadptr(p18);
+											byte *p562 = at(p561, n560);
+											if (((uint64_t)(uintptr_t)p562 - (uint64_t)(uintptr_t)(byte *)tp_static_313) >= 17) {
+												memcpy(p562, (byte *)tp_static_313, 17);
 												goto L36;
 											}
-											n578 = 0;
-											while (n578 != 17) {
-												store8(inside(p577, n578), load8(inside((byte *)tp_static_313, n578)));
-												n578 = n578 + 1;
+											n563 = 0;
+											while (n563 != 17) {
+												store8(inside(p562, n563), load8(inside((byte *)tp_static_313, n563)));
+												n563 = n563 + 1;
 											}
 L36:
 											{
-												uint64_t n589, n590;
-												uint8_t n600;
-												storeptr(p24, p576);
-												store64(p24 + 8, n575 + 17);
-												store64(p24 + 16, n574);
-												uint8_t n579 = tp_script_report_push_decimal(p24, n548);
-												if ((n579 & 1) != 0)
+												uint64_t n574, n575;
+												uint8_t n585;
+												storeptr(p18, p561);
+												store64(p18 + 8, n560 + 17);
+												store64(p18 + 16, n559);
+												uint8_t n564 = tp_script_report_push_decimal(p18, n533);
+												if ((n564 & 1) != 0)
 													goto L32;
-												switch (MOSTLY_0(n560)) {
+												switch (MOSTLY_0(n545)) {
 												case 0: {
-													uint64_t n583, n584, n587;
-													uint64_t n580 = load64(p24 + 16);
-													uint64_t n581 = load64(p24 + 8);
-													if ((n580 - n581) < 21) {
-														bool b582 = tp_std_alloc_vec_Vec_grow_amortized_11(p24, 21);
-														if (!b582)
+													uint64_t n568, n569, n572;
+													uint64_t n565 = load64(p18 + 16);
+													uint64_t n566 = load64(p18 + 8);
+													if ((n565 - n566) < 21) {
+														bool b567 = tp_std_alloc_vec_Vec_grow_amortized_11(p18, 21);
+														if (!b567)
 															goto L32;
-														n583 = load64(p24 + 16);
-														n584 = load64(p24 + 8);
+														n568 = load64(p18 + 16);
+														n569 = load64(p18 + 8);
 													} else {
-														n583 = n580;
-														n584 = n581;
+														n568 = n565;
+														n569 = n566;
 													}
-													byte *p585 = loadptr(p24);
-													byte *p586 = at(p585, n584);
-													if (((uint64_t)(uintptr_t)p586 - (uint64_t)(uintptr_t)(byte *)tp_static_314) >= 21) {
-														memcpy(p586, (byte *)tp_static_314, 21);
+													byte *p570 = loadptr(p18);
+													byte *p571 = at(p570, n569);
+													if (((uint64_t)(uintptr_t)p571 - (uint64_t)(uintptr_t)(byte *)tp_static_314) >= 21) {
+														memcpy(p571, (byte *)tp_static_314, 21);
 														goto L37;
 													}
-													n587 = 0;
-													while (n587 != 21) {
-														store8(inside(p586, n587), load8(inside((byte *)tp_static_314, n587)));
-														n587 = n587 + 1;
+													n572 = 0;
+													while (n572 != 21) {
+														store8(inside(p571, n572), load8(inside((byte *)tp_static_314, n572)));
+														n572 = n572 + 1;
 													}
 L37:
 													{
-														uint64_t n588 = n584 + 21;
-														storeptr(p24, p585);
-														store64(p24 + 8, n588);
-														store64(p24 + 16, n583);
-														n589 = n588;
-														n590 = n583;
+														uint64_t n573 = n569 + 21;
+														storeptr(p18, p570);
+														store64(p18 + 8, n573);
+														store64(p18 + 16, n568);
+														n574 = n573;
+														n575 = n568;
 														goto L38;
 													}
 												}
 												case 1: {
-													uint64_t n594, n595, n598;
-													uint64_t n591 = load64(p24 + 16);
-													uint64_t n592 = load64(p24 + 8);
-													if ((n591 - n592) < 14) {
-														bool b593 = tp_std_alloc_vec_Vec_grow_amortized_11(p24, 14);
-														if (!b593)
+													uint64_t n579, n580, n583;
+													uint64_t n576 = load64(p18 + 16);
+													uint64_t n577 = load64(p18 + 8);
+													if ((n576 - n577) < 14) {
+														bool b578 = tp_std_alloc_vec_Vec_grow_amortized_11(p18, 14);
+														if (!b578)
 															goto L32;
-														n594 = load64(p24 + 16);
-														n595 = load64(p24 + 8);
+														n579 = load64(p18 + 16);
+														n580 = load64(p18 + 8);
 													} else {
-														n594 = n591;
-														n595 = n592;
+														n579 = n576;
+														n580 = n577;
 													}
-													byte *p596 = loadptr(p24);
-													byte *p597 = at(p596, n595);
-													if (((uint64_t)(uintptr_t)p597 - (uint64_t)(uintptr_t)(byte *)tp_static_315) >= 14) {
-														memcpy(p597, (byte *)tp_static_315, 14);
+													byte *p581 = loadptr(p18);
+													byte *p582 = at(p581, n580);
+													if (((uint64_t)(uintptr_t)p582 - (uint64_t)(uintptr_t)(byte *)tp_static_315) >= 14) {
+														memcpy(p582, (byte *)tp_static_315, 14);
 														goto L39;
 													}
-													n598 = 0;
-													while (n598 != 14) {
-														store8(inside(p597, n598), load8(inside((byte *)tp_static_315, n598)));
-														n598 = n598 + 1;
+													n583 = 0;
+													while (n583 != 14) {
+														store8(inside(p582, n583), load8(inside((byte *)tp_static_315, n583)));
+														n583 = n583 + 1;
 													}
 L39:
 													{
-														storeptr(p24, p596);
-														store64(p24 + 8, n595 + 14);
-														store64(p24 + 16, n594);
-														uint8_t n599 = tp_script_report_push_decimal(p24, n561);
-														n600 = n599;
+														storeptr(p18, p581);
+														store64(p18 + 8, n580 + 14);
+														store64(p18 + 16, n579);
+														uint8_t n584 = tp_script_report_push_decimal(p18, n546);
+														n585 = n584;
 													}
 													break;
 												}
 												case 2: {
-													uint64_t n604, n605, n608;
-													uint64_t n601 = load64(p24 + 16);
-													uint64_t n602 = load64(p24 + 8);
-													if ((n601 - n602) < 17) {
-														bool b603 = tp_std_alloc_vec_Vec_grow_amortized_11(p24, 17);
-														if (!b603)
+													uint64_t n589, n590, n593;
+													uint64_t n586 = load64(p18 + 16);
+													uint64_t n587 = load64(p18 + 8);
+													if ((n586 - n587) < 17) {
+														bool b588 = tp_std_alloc_vec_Vec_grow_amortized_11(p18, 17);
+														if (!b588)
 															goto L32;
-														n604 = load64(p24 + 16);
-														n605 = load64(p24 + 8);
+														n589 = load64(p18 + 16);
+														n590 = load64(p18 + 8);
 													} else {
-														n604 = n601;
-														n605 = n602;
+														n589 = n586;
+														n590 = n587;
 													}
-													byte *p606 = loadptr(p24);
-													byte *p607 = at(p606, n605);
-													if (((uint64_t)(uintptr_t)p607 - (uint64_t)(uintptr_t)(byte *)tp_static_316) >= 17) {
-														memcpy(p607, (byte *)tp_static_316, 17);
+													byte *p591 = loadptr(p18);
+													byte *p592 = at(p591, n590);
+													if (((uint64_t)(uintptr_t)p592 - (uint64_t)(uintptr_t)(byte *)tp_static_316) >= 17) {
+														memcpy(p592, (byte *)tp_static_316, 17);
 														goto L40;
 													}
-													n608 = 0;
-													while (n608 != 17) {
-														store8(inside(p607, n608), load8(inside((byte *)tp_static_316, n608)));
-														n608 = n608 + 1;
+													n593 = 0;
+													while (n593 != 17) {
+														store8(inside(p592, n593), load8(inside((byte *)tp_static_316, n593)));
+														n593 = n593 + 1;
 													}
 L40:
 													{
-														storeptr(p24, p606);
-														store64(p24 + 8, n605 + 17);
-														store64(p24 + 16, n604);
-														uint8_t n609 = tp_script_report_push_decimal(p24, n561);
-														n600 = n609;
+														storeptr(p18, p591);
+														store64(p18 + 8, n590 + 17);
+														store64(p18 + 16, n589);
+														uint8_t n594 = tp_script_report_push_decimal(p18, n546);
+														n585 = n594;
 													}
 													break;
 												}
 												case 3: {
-													uint64_t n613, n614, n617;
-													uint64_t n610 = load64(p24 + 16);
-													uint64_t n611 = load64(p24 + 8);
-													if ((n610 - n611) < 21) {
-														bool b612 = tp_std_alloc_vec_Vec_grow_amortized_11(p24, 21);
-														if (!b612)
+													uint64_t n598, n599, n602;
+													uint64_t n595 = load64(p18 + 16);
+													uint64_t n596 = load64(p18 + 8);
+													if ((n595 - n596) < 21) {
+														bool b597 = tp_std_alloc_vec_Vec_grow_amortized_11(p18, 21);
+														if (!b597)
 															goto L32;
-														n613 = load64(p24 + 16);
-														n614 = load64(p24 + 8);
+														n598 = load64(p18 + 16);
+														n599 = load64(p18 + 8);
 													} else {
-														n613 = n610;
-														n614 = n611;
+														n598 = n595;
+														n599 = n596;
 													}
-													byte *p615 = loadptr(p24);
-													byte *p616 = at(p615, n614);
-													if (((uint64_t)(uintptr_t)p616 - (uint64_t)(uintptr_t)(byte *)tp_static_317) >= 21) {
-														memcpy(p616, (byte *)tp_static_317, 21);
+													byte *p600 = loadptr(p18);
+													byte *p601 = at(p600, n599);
+													if (((uint64_t)(uintptr_t)p601 - (uint64_t)(uintptr_t)(byte *)tp_static_317) >= 21) {
+														memcpy(p601, (byte *)tp_static_317, 21);
 														goto L41;
 													}
-													n617 = 0;
-													while (n617 != 21) {
-														store8(inside(p616, n617), load8(inside((byte *)tp_static_317, n617)));
-														n617 = n617 + 1;
+													n602 = 0;
+													while (n602 != 21) {
+														store8(inside(p601, n602), load8(inside((byte *)tp_static_317, n602)));
+														n602 = n602 + 1;
 													}
 L41:
 													{
-														storeptr(p24, p615);
-														store64(p24 + 8, n614 + 21);
-														store64(p24 + 16, n613);
-														uint8_t n618 = tp_script_report_push_decimal(p24, n561);
-														n600 = n618;
+														storeptr(p18, p600);
+														store64(p18 + 8, n599 + 21);
+														store64(p18 + 16, n598);
+														uint8_t n603 = tp_script_report_push_decimal(p18, n546);
+														n585 = n603;
 													}
 													break;
 												}
 												case 4: {
-													uint64_t n622, n623, n626;
-													uint64_t n619 = load64(p24 + 16);
-													uint64_t n620 = load64(p24 + 8);
-													if ((n619 - n620) < 23) {
-														bool b621 = tp_std_alloc_vec_Vec_grow_amortized_11(p24, 23);
-														if (!b621)
+													uint64_t n607, n608, n611;
+													uint64_t n604 = load64(p18 + 16);
+													uint64_t n605 = load64(p18 + 8);
+													if ((n604 - n605) < 23) {
+														bool b606 = tp_std_alloc_vec_Vec_grow_amortized_11(p18, 23);
+														if (!b606)
 															goto L32;
-														n622 = load64(p24 + 16);
-														n623 = load64(p24 + 8);
+														n607 = load64(p18 + 16);
+														n608 = load64(p18 + 8);
 													} else {
-														n622 = n619;
-														n623 = n620;
+														n607 = n604;
+														n608 = n605;
 													}
-													byte *p624 = loadptr(p24);
-													byte *p625 = at(p624, n623);
-													if (((uint64_t)(uintptr_t)p625 - (uint64_t)(uintptr_t)(byte *)tp_static_318) >= 23) {
-														memcpy(p625, (byte *)tp_static_318, 23);
+													byte *p609 = loadptr(p18);
+													byte *p610 = at(p609, n608);
+													if (((uint64_t)(uintptr_t)p610 - (uint64_t)(uintptr_t)(byte *)tp_static_318) >= 23) {
+														memcpy(p610, (byte *)tp_static_318, 23);
 														goto L42;
 													}
-													n626 = 0;
-													while (n626 != 23) {
-														store8(inside(p625, n626), load8(inside((byte *)tp_static_318, n626)));
-														n626 = n626 + 1;
+													n611 = 0;
+													while (n611 != 23) {
+														store8(inside(p610, n611), load8(inside((byte *)tp_static_318, n611)));
+														n611 = n611 + 1;
 													}
 L42:
 													{
-														storeptr(p24, p624);
-														store64(p24 + 8, n623 + 23);
-														store64(p24 + 16, n622);
-														uint8_t n627 = tp_script_report_push_decimal(p24, n561);
-														n600 = n627;
+														storeptr(p18, p609);
+														store64(p18 + 8, n608 + 23);
+														store64(p18 + 16, n607);
+														uint8_t n612 = tp_script_report_push_decimal(p18, n546);
+														n585 = n612;
 													}
 													break;
 												}
@@ -83979,23 +83809,23 @@ L42:
 													UNREACHABLE();
 												}
 												}
-												if ((n600 & 1) != 0)
+												if ((n585 & 1) != 0)
 													goto L32;
-												n589 = load64(p24 + 8);
-												n590 = load64(p24 + 16);
+												n574 = load64(p18 + 8);
+												n575 = load64(p18 + 16);
 L38:
 												{
-													uint64_t n629;
-													if (n590 == n589) {
-														bool b628 = tp_std_alloc_vec_Vec_grow_amortized_11(p24, 1);
-														if (!b628)
+													uint64_t n614;
+													if (n575 == n574) {
+														bool b613 = tp_std_alloc_vec_Vec_grow_amortized_11(p18, 1);
+														if (!b613)
 															goto L32;
-														n629 = load64(p24 + 8);
+														n614 = load64(p18 + 8);
 													} else {
-														n629 = n589;
+														n614 = n574;
 													}
-													store8(inside(loadptr(p24), n629), 10);
-													store64(p24 + 8, n629 + 1);
+													store8(inside(loadptr(p18), n614), 10);
+													store64(p18 + 8, n614 + 1);
 												}
 											}
 										}
@@ -84013,106 +83843,106 @@ L38:
 								}
 L33:
 								{
-									byte *p630 = loadptr(p23);
-									uint64_t n631 = load64(p23 + 8);
-									uint64_t n632 = 0;
+									byte *p615 = loadptr(p17);
+									uint64_t n616 = load64(p17 + 8);
+									uint64_t n617 = 0;
 									for (;;) {
-										if (n632 == n631) {
-											n543 = n546;
+										if (n617 == n616) {
+											n528 = n531;
 											break;
 										}
-										byte *p633 = at(p630, n632 << 6);
-										switch (MOSTLY_0(load8(p633))) {
+										byte *p618 = at(p615, n617 << 6);
+										switch (MOSTLY_0(load8(p618))) {
 										case 0: {
-											uint64_t n634 = load64(p633 + 8);
-											switch (MOSTLY_0(load8(p633 + 24))) {
+											uint64_t n619 = load64(p618 + 8);
+											switch (MOSTLY_0(load8(p618 + 24))) {
 											case 0: {
-												uint64_t n635 = load64(p633 + 40);
-												uint64_t n636 = load64(p22 + 8);
-												while (n636 <= n635) {
-													uint64_t n638;
-													if (load64(p22 + 16) == n636) {
-														bool b637 = tp_vec_Vec_grow_amortized(p22);
-														if (!b637)
+												uint64_t n620 = load64(p618 + 40);
+												uint64_t n621 = load64(p16 + 8);
+												while (n621 <= n620) {
+													uint64_t n623;
+													if (load64(p16 + 16) == n621) {
+														bool b622 = tp_vec_Vec_grow_amortized(p16);
+														if (!b622)
 															goto L32;
-														n638 = load64(p22 + 8);
+														n623 = load64(p16 + 8);
 													} else {
-														n638 = n636;
+														n623 = n621;
 													}
-													uint64_t n639 = n638 + 1;
-													memset(inside(loadptr(p22), n638 << 4), 0, 16);
-													store64(p22 + 8, n639);
-													n636 = n639;
+													uint64_t n624 = n623 + 1;
+													memset(inside(loadptr(p16), n623 << 4), 0, 16);
+													store64(p16 + 8, n624);
+													n621 = n624;
 												}
-												byte *p640 = at(loadptr(p22), n635 << 4);
-												store64u(p640, 1);
-												store64u(p640 + 8, n634);
+												byte *p625 = at(loadptr(p16), n620 << 4);
+												store64u(p625, 1);
+												store64u(p625 + 8, n619);
 												break;
 											}
 											case 1: {
-												uint64_t n641 = load64(p633 + 32);
-												uint64_t n642 = load64(p22 + 8);
-												while (n642 <= n641) {
-													uint64_t n644;
-													if (load64(p22 + 16) == n642) {
-														bool b643 = tp_vec_Vec_grow_amortized(p22);
-														if (!b643)
+												uint64_t n626 = load64(p618 + 32);
+												uint64_t n627 = load64(p16 + 8);
+												while (n627 <= n626) {
+													uint64_t n629;
+													if (load64(p16 + 16) == n627) {
+														bool b628 = tp_vec_Vec_grow_amortized(p16);
+														if (!b628)
 															goto L32;
-														n644 = load64(p22 + 8);
+														n629 = load64(p16 + 8);
 													} else {
-														n644 = n642;
+														n629 = n627;
 													}
-													uint64_t n645 = n644 + 1;
-													memset(inside(loadptr(p22), n644 << 4), 0, 16);
-													store64(p22 + 8, n645);
-													n642 = n645;
+													uint64_t n630 = n629 + 1;
+													memset(inside(loadptr(p16), n629 << 4), 0, 16);
+													store64(p16 + 8, n630);
+													n627 = n630;
 												}
-												byte *p646 = at(loadptr(p22), n641 << 4);
-												store64u(p646, 3);
-												store64u(p646 + 8, n546);
+												byte *p631 = at(loadptr(p16), n626 << 4);
+												store64u(p631, 3);
+												store64u(p631 + 8, n531);
 												break;
 											}
 											case 2: {
-												uint64_t n647 = load64(p633 + 40);
-												uint64_t n648 = load64(p22 + 8);
-												while (n648 <= n647) {
-													uint64_t n650;
-													if (load64(p22 + 16) == n648) {
-														bool b649 = tp_vec_Vec_grow_amortized(p22);
-														if (!b649)
+												uint64_t n632 = load64(p618 + 40);
+												uint64_t n633 = load64(p16 + 8);
+												while (n633 <= n632) {
+													uint64_t n635;
+													if (load64(p16 + 16) == n633) {
+														bool b634 = tp_vec_Vec_grow_amortized(p16);
+														if (!b634)
 															goto L32;
-														n650 = load64(p22 + 8);
+														n635 = load64(p16 + 8);
 													} else {
-														n650 = n648;
+														n635 = n633;
 													}
-													uint64_t n651 = n650 + 1;
-													memset(inside(loadptr(p22), n650 << 4), 0, 16);
-													store64(p22 + 8, n651);
-													n648 = n651;
+													uint64_t n636 = n635 + 1;
+													memset(inside(loadptr(p16), n635 << 4), 0, 16);
+													store64(p16 + 8, n636);
+													n633 = n636;
 												}
-												byte *p652 = at(loadptr(p22), n647 << 4);
-												store64u(p652, 1);
-												store64u(p652 + 8, n634);
-												uint64_t n653 = load64(p633 + 56);
-												uint64_t n654 = load64(p22 + 8);
-												while (n654 <= n653) {
-													uint64_t n656;
-													if (load64(p22 + 16) == n654) {
-														bool b655 = tp_vec_Vec_grow_amortized(p22);
-														if (!b655)
+												byte *p637 = at(loadptr(p16), n632 << 4);
+												store64u(p637, 1);
+												store64u(p637 + 8, n619);
+												uint64_t n638 = load64(p618 + 56);
+												uint64_t n639 = load64(p16 + 8);
+												while (n639 <= n638) {
+													uint64_t n641;
+													if (load64(p16 + 16) == n639) {
+														bool b640 = tp_vec_Vec_grow_amortized(p16);
+														if (!b640)
 															goto L32;
-														n656 = load64(p22 + 8);
+														n641 = load64(p16 + 8);
 													} else {
-														n656 = n654;
+														n641 = n639;
 													}
-													uint64_t n657 = n656 + 1;
-													memset(inside(loadptr(p22), n656 << 4), 0, 16);
-													store64(p22 + 8, n657);
-													n654 = n657;
+													uint64_t n642 = n641 + 1;
+													memset(inside(loadptr(p16), n641 << 4), 0, 16);
+													store64(p16 + 8, n642);
+													n639 = n642;
 												}
-												byte *p658 = at(loadptr(p22), n653 << 4);
-												store64u(p658, 4);
-												store64u(p658 + 8, n546);
+												byte *p643 = at(loadptr(p16), n638 << 4);
+												store64u(p643, 4);
+												store64u(p643 + 8, n531);
 												break;
 											}
 											case 3: {
@@ -84125,28 +83955,28 @@ L33:
 											break;
 										}
 										case 2: {
-											if (load8(p633 + 8) == 0) {
-												uint64_t n659 = load64(p633 + 16);
-												uint64_t n660 = load64(p633 + 40);
-												uint64_t n661 = load64(p22 + 8);
-												while (n661 <= n659) {
-													uint64_t n663;
-													if (load64(p22 + 16) == n661) {
-														bool b662 = tp_vec_Vec_grow_amortized(p22);
-														if (!b662)
+											if (load8(p618 + 8) == 0) {
+												uint64_t n644 = load64(p618 + 16);
+												uint64_t n645 = load64(p618 + 40);
+												uint64_t n646 = load64(p16 + 8);
+												while (n646 <= n644) {
+													uint64_t n648;
+													if (load64(p16 + 16) == n646) {
+														bool b647 = tp_vec_Vec_grow_amortized(p16);
+														if (!b647)
 															goto L32;
-														n663 = load64(p22 + 8);
+														n648 = load64(p16 + 8);
 													} else {
-														n663 = n661;
+														n648 = n646;
 													}
-													uint64_t n664 = n663 + 1;
-													memset(inside(loadptr(p22), n663 << 4), 0, 16);
-													store64(p22 + 8, n664);
-													n661 = n664;
+													uint64_t n649 = n648 + 1;
+													memset(inside(loadptr(p16), n648 << 4), 0, 16);
+													store64(p16 + 8, n649);
+													n646 = n649;
 												}
-												byte *p665 = at(loadptr(p22), n659 << 4);
-												store64u(p665, 2);
-												store64u(p665 + 8, n660);
+												byte *p650 = at(loadptr(p16), n644 << 4);
+												store64u(p650, 2);
+												store64u(p650 + 8, n645);
 											}
 											break;
 										}
@@ -84160,174 +83990,170 @@ L33:
 											UNREACHABLE();
 										}
 										}
-										n632 = n632 + 1;
+										n617 = n617 + 1;
 									}
 								}
 							}
-							p666 = loadptr(p24);
-							n667 = load64(p24 + 8);
-							n668 = load64(p24 + 16);
-							if (load64u(p23 + 16) != 0)
-								rattle_dealloc(loadptru(p23));
-							if (load64u(p22 + 16) != 0)
-								rattle_dealloc(loadptru(p22));
-							p669 = loadptru(p21 + 80);
-							n670 = load64u(p21 + 96);
-							p671 = loadptru(p21 + 208);
-							n672 = load64u(p21 + 224);
-							p673 = loadptru(p21 + 1328);
-							n674 = load64u(p21 + 1344);
-							if (load64u(p21 + 56) != 0)
-								rattle_dealloc(loadptru(p21 + 40));
-							if (n670 != 0)
-								rattle_dealloc(p669);
-							if (n672 != 0)
-								rattle_dealloc(p671);
-							if (n674 != 0)
-								rattle_dealloc(p673);
-							if (load64u(p21 + 1376) == 0) {
-								p675 = p666;
-								n676 = n667;
-								n677 = n668;
+							p651 = loadptr(p18);
+							n652 = load64(p18 + 8);
+							n653 = load64(p18 + 16);
+							if (load64u(p17 + 16) != 0)
+								rattle_dealloc(loadptru(p17));
+							if (load64u(p16 + 16) != 0)
+								rattle_dealloc(loadptru(p16));
+							p654 = loadptru(p15 + 80);
+							n655 = load64u(p15 + 96);
+							p656 = loadptru(p15 + 208);
+							n657 = load64u(p15 + 224);
+							p658 = loadptru(p15 + 1328);
+							n659 = load64u(p15 + 1344);
+							if (load64u(p15 + 56) != 0)
+								rattle_dealloc(loadptru(p15 + 40));
+							if (n655 != 0)
+								rattle_dealloc(p654);
+							if (n657 != 0)
+								rattle_dealloc(p656);
+							if (n659 != 0)
+								rattle_dealloc(p658);
+							if (load64u(p15 + 1376) == 0) {
+								p660 = p651;
+								n661 = n652;
+								n662 = n653;
 								goto L43;
 							}
-							rattle_dealloc(loadptru(p21 + 1360));
-							p675 = p666;
-							n676 = n667;
-							n677 = n668;
+							rattle_dealloc(loadptru(p15 + 1360));
+							p660 = p651;
+							n661 = n652;
+							n662 = n653;
 							goto L43;
 L32:
 							{
-								if (load64u(p24 + 16) != 0)
-									rattle_dealloc(loadptru(p24));
-								if (load64u(p23 + 16) != 0)
-									rattle_dealloc(loadptru(p23));
-								if (load64u(p22 + 16) != 0)
-									rattle_dealloc(loadptru(p22));
-								byte *p678 = loadptru(p21 + 80);
-								uint64_t n679 = load64u(p21 + 96);
-								byte *p680 = loadptru(p21 + 208);
-								uint64_t n681 = load64u(p21 + 224);
-								byte *p682 = loadptru(p21 + 1328);
-								uint64_t n683 = load64u(p21 + 1344);
-								if (load64u(p21 + 56) != 0)
-									rattle_dealloc(loadptru(p21 + 40));
-								if (n679 != 0)
-									rattle_dealloc(p678);
-								if (n681 != 0)
-									rattle_dealloc(p680);
-								if (n683 != 0)
-									rattle_dealloc(p682);
-								if (load64u(p21 + 1376) == 0) {
-									p675 = NULL;
-									n676 = 0;
-									n677 = 0;
+								if (load64u(p18 + 16) != 0)
+									rattle_dealloc(loadptru(p18));
+								if (load64u(p17 + 16) != 0)
+									rattle_dealloc(loadptru(p17));
+								if (load64u(p16 + 16) != 0)
+									rattle_dealloc(loadptru(p16));
+								byte *p663 = loadptru(p15 + 80);
+								uint64_t n664 = load64u(p15 + 96);
+								byte *p665 = loadptru(p15 + 208);
+								uint64_t n666 = load64u(p15 + 224);
+								byte *p667 = loadptru(p15 + 1328);
+								uint64_t n668 = load64u(p15 + 1344);
+								if (load64u(p15 + 56) != 0)
+									rattle_dealloc(loadptru(p15 + 40));
+								if (n664 != 0)
+									rattle_dealloc(p663);
+								if (n666 != 0)
+									rattle_dealloc(p665);
+								if (n668 != 0)
+									rattle_dealloc(p667);
+								if (load64u(p15 + 1376) == 0) {
+									p660 = NULL;
+									n661 = 0;
+									n662 = 0;
 								} else {
-									rattle_dealloc(loadptru(p21 + 1360));
-									p675 = NULL;
-									n676 = 0;
-									n677 = 0;
+									rattle_dealloc(loadptru(p15 + 1360));
+									p660 = NULL;
+									n661 = 0;
+									n662 = 0;
 								}
 							}
 L43:
 							{
-								if (!b541)
-									rattle_dealloc(p542);
-								if (b544)
+								if (!b526)
+									rattle_dealloc(p527);
+								if (b529)
 									goto L31;
-								n538 = n677;
-								n539 = n676;
-								p540 = p675;
+								n523 = n662;
+								n524 = n661;
+								p525 = p660;
 							}
 						}
 L30:
 						{
-							bool b689;
-							bool b684 = n538 == 0;
-							uint64_t n685 = 0;
-							while (n685 < n539) {
-								uint64_t n686 = n539 - n685;
-								uint64_t n687 = os_write(1, at(p540, n685), n686);
-								if ((int64_t)n687 < (int64_t)0) {
-									tp_error_last_error(p19);
+							bool b674;
+							bool b669 = n523 == 0;
+							uint64_t n670 = 0;
+							while (n670 < n524) {
+								uint64_t n671 = n524 - n670;
+								uint64_t n672 = os_write(1, at(p525, n670), n671);
+								if ((int64_t)n672 < (int64_t)0) {
+									tp_error_last_error(p13);
 									goto L44;
 								}
-								uint64_t n688 = umin64(n687, n686);
-								if (n688 == 0)
+								uint64_t n673 = umin64(n672, n671);
+								if (n673 == 0)
 									goto L44;
-								n685 = n685 + n688;
+								n670 = n670 + n673;
 							}
-							b689 = n539 != 0;
-							if (!b684)
-								rattle_dealloc(p540);
-							if (!b433)
-								rattle_dealloc(p431);
-							n690 = (uint8_t)b689;
+							b674 = n524 == 0;
+							if (!b669)
+								rattle_dealloc(p525);
+							if (!b418)
+								rattle_dealloc(p416);
+							n675 = (uint8_t)(b674 ? 0 : 2);
 							goto L45;
 L44:
 							{
 								store8(p2 + 1, 1);
-								if (!b684)
-									rattle_dealloc(p540);
-								if (b433) {
-									n691 = 3;
+								if (!b669)
+									rattle_dealloc(p525);
+								if (b418) {
+									n676 = 3;
 									goto L46;
 								}
-								rattle_dealloc(p431);
-								n691 = 3;
+								rattle_dealloc(p416);
+								n676 = 3;
 								goto L46;
 							}
 						}
 L31:
 						{
-							if (b433) {
-								n691 = 2;
+							if (b418) {
+								n676 = 2;
 							} else {
-								rattle_dealloc(p431);
-								n691 = 2;
+								rattle_dealloc(p416);
+								n676 = 2;
 							}
 						}
 					} else {
-						uint8_t n692 = load8(p34 + 1);
-						if (n422 != 0)
-							rattle_dealloc(p420);
-						if (n425 != 0)
-							rattle_dealloc(p423);
-						if (n428 == 0) {
-							n691 = n692;
+						uint8_t n677 = load8(p28 + 1);
+						if (n407 != 0)
+							rattle_dealloc(p405);
+						if (n410 != 0)
+							rattle_dealloc(p408);
+						if (n413 == 0) {
+							n676 = n677;
 						} else {
-							rattle_dealloc(p426);
-							n691 = n692;
+							rattle_dealloc(p411);
+							n676 = n677;
 						}
 					}
 L46:
 					{
-						tp_error_report_report_failure(n691, p3);
-						n690 = 2;
+						tp_timer_commands_ending_report_3(n676, p3);
+						n675 = 4;
 					}
 				} else {
-					store8(p16, load8(p36 + 1));
-					storeptru(p18, p16);
-					storeptru(p18 + 8, (byte *)tp_static_110);
-					store64u(p18 + 16, 1);
-					tp_io_traits_Write_write_fmt(p17, p3, p18);
-					n690 = 2;
+					uint8_t n678 = tp_timer_commands_ending_report_2(load8(p30 + 1), 4, p3);
+					n675 = n678;
 				}
 L45:
 				{
-					return n690;
+					n679 = n675;
+					goto L47;
 				}
 			}
-			n419 = 2;
+			n404 = 2;
 		}
-		store64(p13, 0);
-		store8(p13 + 1, n419);
-		store64(p13 + 8, 0);
-		storeptru(p15, p13);
-		storeptru(p15 + 8, (byte *)tp_static_110);
-		store64u(p15 + 16, 1);
-		tp_traits_Write_write_fmt(p14, p3, p15);
-		return 2;
+		store8(p32 + 1, n404);
+		tp_timer_commands_ending_report(p32, p3);
+		n679 = 5;
+L47:
+		{
+			return n679;
+		}
 	}
 	default: {
 		UNREACHABLE();
@@ -84384,7 +84210,7 @@ static inline uint32_t tp_timers_program_main(void)
 	ALIGN(1) byte p44[2];
 	uint64_t n47, n62, n73, n84;
 	byte *p61;
-	uint8_t n351;
+	uint8_t n352;
 	(void)os___sysv_signal(13, 1);
 	store16u(p44, 0);
 	store8(p43, 0);
@@ -85635,7 +85461,6 @@ L37:
 			}
 L36:
 			{
-				uint64_t n349;
 				store64u(p38, n341);
 				store8(p38 + 8, n342);
 				store64u(p38 + 16, n343);
@@ -85646,34 +85471,56 @@ L36:
 				memcpy(p38 + 96, p37, 40);
 				uint8_t n346 = tp_command_run_subcommand(p38, p44, p43);
 				uint8_t n347 = load8_volatile((byte *)tp_static);
-				if (n347 != 0) {
-					TRAP();
-					UNREACHABLE();
-				}
-				uint8_t n348 = load8_volatile((byte *)tp_static);
-				if (n348 != 0) {
-					TRAP();
-					UNREACHABLE();
-				}
-				if (n119 == 0)
-					goto L38;
-				n349 = 0;
-				while (n349 != n119) {
-					byte *p350 = inside(p124, n349 * 24);
-					if (load64u(p350 + 16) != 0)
-						rattle_dealloc(loadptru(p350));
-					n349 = n349 + 1;
-				}
+				if (n347 == 0) {
+					uint8_t n348;
+					uint64_t n350;
+					switch (MOSTLY_0(n346)) {
+					case 0: {
+						n348 = 0;
+						break;
+					}
+					case 1:
+					case 2:
+					case 3: {
+						n348 = 1;
+						break;
+					}
+					case 4:
+					case 5: {
+						n348 = 2;
+						break;
+					}
+					default: {
+						UNREACHABLE();
+					}
+					}
+					uint8_t n349 = load8_volatile((byte *)tp_static);
+					if (n349 != 0) {
+						TRAP();
+						UNREACHABLE();
+					}
+					if (n119 == 0)
+						goto L38;
+					n350 = 0;
+					while (n350 != n119) {
+						byte *p351 = inside(p124, n350 * 24);
+						if (load64u(p351 + 16) != 0)
+							rattle_dealloc(loadptru(p351));
+						n350 = n350 + 1;
+					}
 L38:
-				{
-					if (b123) {
-						n351 = n346;
+					{
+						if (b123) {
+							n352 = n348;
+							goto L39;
+						}
+						rattle_dealloc(p124);
+						n352 = n348;
 						goto L39;
 					}
-					rattle_dealloc(p124);
-					n351 = n346;
-					goto L39;
 				}
+				TRAP();
+				UNREACHABLE();
 			}
 		}
 	}
@@ -85726,8 +85573,8 @@ L12:
 			store32u(p2 + 104, 32);
 			memset(p2 + 108, 0, 12);
 			store64u(p2 + 120, UINT64_MAX);
-			uint8_t n352 = tp_AdapterWrite_write_str(p2, (byte *)tp_static_247, 13);
-			if ((n352 & 1) == 0) {
+			uint8_t n353 = tp_AdapterWrite_write_str(p2, (byte *)tp_static_247, 13);
+			if ((n353 & 1) == 0) {
 				store32u(p2 + 104, 32);
 				memset(p2 + 108, 0, 12);
 				store64u(p2 + 120, UINT64_MAX);
@@ -85737,7 +85584,7 @@ L12:
 					(void)tp_Formatter_write_indented(p2, (byte *)tp_static_110, 1);
 				}
 			}
-			n351 = 1;
+			n352 = 1;
 		} else {
 			store64u(p3, (uint64_t)(uintptr_t)p43);
 			memset(p3 + 8, 0, 96);
@@ -85745,28 +85592,38 @@ L12:
 			store32u(p3 + 104, 32);
 			memset(p3 + 108, 0, 12);
 			store64u(p3 + 120, UINT64_MAX);
-			(void)tp_AdapterWrite_write_str(p3, (byte *)tp_static_320, 32);
-			n351 = 2;
+			uint8_t n354 = tp_AdapterWrite_write_str(p3, (byte *)tp_static_320, 31);
+			if ((n354 & 1) == 0) {
+				store32u(p3 + 104, 32);
+				memset(p3 + 108, 0, 12);
+				store64u(p3 + 120, UINT64_MAX);
+				if (load64(p3 + 128) == 0) {
+					(void)tp_AdapterWrite_write_str(p3, (byte *)tp_static_110, 1);
+				} else {
+					(void)tp_Formatter_write_indented(p3, (byte *)tp_static_110, 1);
+				}
+			}
+			n352 = 2;
 		}
 	}
 L39:
 	{
-		uint8_t n353 = load8_volatile((byte *)tp_static);
-		if (n353 != 0) {
-			TRAP();
-			UNREACHABLE();
-		}
-		uint8_t n354 = load8_volatile((byte *)tp_static);
-		if (n354 != 0) {
-			TRAP();
-			UNREACHABLE();
-		}
 		uint8_t n355 = load8_volatile((byte *)tp_static);
 		if (n355 != 0) {
 			TRAP();
 			UNREACHABLE();
 		}
-		os__exit((uint32_t)n351);
+		uint8_t n356 = load8_volatile((byte *)tp_static);
+		if (n356 != 0) {
+			TRAP();
+			UNREACHABLE();
+		}
+		uint8_t n357 = load8_volatile((byte *)tp_static);
+		if (n357 != 0) {
+			TRAP();
+			UNREACHABLE();
+		}
+		os__exit((uint32_t)n352);
 		(void)load8_volatile((byte *)tp_static);
 		TRAP();
 		UNREACHABLE();
