@@ -13,10 +13,12 @@ use Rattle.std.specs.Net.Reader.{digit_count, read_number}
 use Rattle.std.proofs.NetLemmas.Numbers.{NoDigit, digit_count-append, digit_count_none, read_number_sound}
 use Rattle.std.proofs.NetLemmas.Options.{cond_some, cond_none, and_then_some, same_parts}
 use Rattle.timer_script.specs.Types.{LAST, MAX_TICKS, MAX_LINE, Event}
-use Rattle.timer_facility.specs.declared.event.Event.TheVariants.{Start, Stop, Restart, Ticks, Close}
+use Rattle.timer_facility.specs.declared.event.Event.TheVariants as Events
 use Rattle.timer_script.specs.Script.{AreFieldsInRange, line, HasNoFeed, BeginsNoLine}
 use Rattle.timer_script.proofs.FeedLemmas.{IsFed, fed, no_feed_long, at_feed}
-use Rattle.timer_script.specs.Lines.{◌>>=◌, or_try, has_word, strip, number_at, field_at, start_at, stop_at, restart_at, tick_at, other_at, line_at}
+use Rattle.timer_script.specs.Lines.{◌>>=◌, or_try, has_word, strip, number_at, field_at, count_at, other_at, line_at}
+-- made by tools/facts: imports of what readers compute
+use Rattle.timer_script.specs.Lines.{start_at, stop_at, restart_at, tick_at, close_at}
 
 -- ---- a word
 
@@ -130,12 +132,6 @@ field_again : (end n : ℕ) (rest : List ℕ) → n ≤ LAST → NoDigit 10 (end
 unfolding field_at
 field_again end n rest fits stop = rw (number_again n (end ∷ rest) fits stop, strip_again (end ∷ []) rest) refl
 
-spaced : (n : ℕ) (rest : List ℕ) → n ≤ LAST → field_at 32 (decimal n ++ (32 ∷ rest)) ≡ Some (n, rest)
-spaced n rest fits = field_again 32 n rest fits (lit≤ tt)
-
-ended : (n : ℕ) (rest : List ℕ) → n ≤ LAST → field_at 10 (decimal n ++ (10 ∷ rest)) ≡ Some (n, rest)
-ended n rest fits = field_again 10 n rest fits (lit≤ tt)
-
 field_sound : (end : ℕ) (bytes rest : List ℕ) (n : ℕ) → field_at end bytes ≡ Some (n, rest) → (n ≤ LAST) × (bytes ≡ decimal n ++ end ∷ rest)
 unfolding field_at
 field_sound end bytes rest n e =
@@ -145,18 +141,37 @@ field_sound end bytes rest n e =
     let is = number_sound bytes m.1 m.0 read in
     (rw (← value_is) is.0, rw (← value_is, ← rest_is) (is.1 ∙ ap (λ t. decimal m.0 ++ t) (strip_sound (end ∷ []) m.1 after found)))
 
--- ---- a line
+-- what was read after a field
+field_then : {A P : Type 0} (end : ℕ) (bytes : List ℕ) (f : ℕ × List ℕ → Option A) (y : A) → (field_at end bytes >>= f) ≡ Some y
+    → ((n : ℕ) (rest : List ℕ) → n ≤ LAST → bytes ≡ decimal n ++ end ∷ rest → f (n, rest) ≡ Some y → P) → P
+field_then end bytes f y e more =
+    and_then_some _ (field_at end bytes) _ e λ m read e₁.
+    let is = field_sound end bytes m.1 m.0 read in
+    more m.0 m.1 is.0 is.1 e₁
 
-pub line_again : (event : Event) (rest : List ℕ) → AreFieldsInRange event → line_at (line event ++ rest) ≡ Some (event, rest)
-unfolding line_at other_at start_at stop_at restart_at tick_at line has_word
-line_again (Start c n i a) rest fits =
-    simp append_assoc (rw (spaced c _ fits.0, spaced n _ fits.1, spaced i _ fits.2, ended a _ fits.3) refl)
-line_again (Stop c n s) rest fits = simp append_assoc (rw (spaced c _ fits.0, spaced n _ fits.1, ended s _ fits.2) refl)
-line_again (Restart c n s i a) rest fits = simp append_assoc
-    (rw (spaced c _ fits.0, spaced n _ fits.1, spaced s _ fits.2, spaced i _ fits.3, ended a _ fits.4) refl)
-line_again (Ticks k) rest fits = simp append_assoc
-    (rw (ended k _ (omega arith), and_from _ _ (le-leb 1 k fits.0) (le-leb k MAX_TICKS fits.1)) refl)
-line_again Close rest fits = refl
+-- ---- a count of ticks
+
+count_fits : {n : ℕ} → (1 ≤ n) × (n ≤ MAX_TICKS) → n ≤ LAST
+count_fits fits = omega (arith, fits.1)
+
+count_again : (end n : ℕ) (rest : List ℕ) → (1 ≤ n) × (n ≤ MAX_TICKS) → NoDigit 10 (end ∷ rest)
+    → count_at end (decimal n ++ (end ∷ rest)) ≡ Some (n, rest)
+unfolding count_at
+count_again end n rest fits stop =
+    rw (field_again end n rest (count_fits fits) stop, and_from _ _ (le-leb 1 n fits.0) (le-leb n MAX_TICKS fits.1)) refl
+
+-- what was read after a count
+count_then : {A P : Type 0} (end : ℕ) (bytes : List ℕ) (f : ℕ × List ℕ → Option A) (y : A) → (count_at end bytes >>= f) ≡ Some y
+    → ((n : ℕ) (rest : List ℕ) → (1 ≤ n) × (n ≤ MAX_TICKS) → bytes ≡ decimal n ++ end ∷ rest → f (n, rest) ≡ Some y → P) → P
+unfolding count_at
+count_then end bytes f y e more =
+    and_then_some _ (count_at end bytes) _ e λ m read e₁.
+    field_then end bytes _ m read λ n rest fits is e₂.
+    let (test, same) = cond_some _ _ _ e₂ in
+    let (low, high) = and_parts _ _ test in
+    more n rest (leb-true 1 n low, leb-true n MAX_TICKS high) is (ap f same ∙ e₁)
+
+-- ---- a line
 
 -- what was read of a line is the event and the rest that were wanted
 same_line : (word bytes rest after : List ℕ) (event read : Event)
@@ -166,56 +181,6 @@ same_line word bytes rest after event read e fits is =
     let (event_is, rest_is) = same_parts read event after rest e in
     subst (λ (x : Event). AreFieldsInRange x × (word ++ bytes ≡ line x ++ rest)) event_is
     (subst (λ (r : List ℕ). AreFieldsInRange read × (word ++ bytes ≡ line read ++ r)) rest_is (fits, is))
-
--- what was read after a field
-field_then : {A P : Type 0} (end : ℕ) (bytes : List ℕ) (f : ℕ × List ℕ → Option A) (y : A) → (field_at end bytes >>= f) ≡ Some y
-    → ((n : ℕ) (rest : List ℕ) → n ≤ LAST → bytes ≡ decimal n ++ end ∷ rest → f (n, rest) ≡ Some y → P) → P
-field_then end bytes f y e more =
-    and_then_some _ (field_at end bytes) _ e λ m read e₁.
-    let is = field_sound end bytes m.1 m.0 read in
-    more m.0 m.1 is.0 is.1 e₁
-
-start_sound : (bytes rest : List ℕ) (event : Event) → start_at bytes ≡ Some (event, rest)
-    → AreFieldsInRange event × (codes "start " ++ bytes ≡ line event ++ rest)
-unfolding start_at line
-start_sound bytes rest event e =
-    field_then 32 bytes _ _ e λ c r₁ fit_c is_c e₁.
-    field_then 32 r₁ _ _ e₁ λ n r₂ fit_n is_n e₂.
-    field_then 32 r₂ _ _ e₂ λ i r₃ fit_i is_i e₃.
-    field_then 10 r₃ _ _ e₃ λ a r₄ fit_a is_a e₄.
-    same_line (codes "start ") bytes rest r₄ event (Start c n i a) e₄ (fit_c, fit_n, fit_i, fit_a)
-    (rw (is_c, is_n, is_i, is_a) (simp append_assoc))
-
-stop_sound : (bytes rest : List ℕ) (event : Event) → stop_at bytes ≡ Some (event, rest)
-    → AreFieldsInRange event × (codes "stop " ++ bytes ≡ line event ++ rest)
-unfolding stop_at line
-stop_sound bytes rest event e =
-    field_then 32 bytes _ _ e λ c r₁ fit_c is_c e₁.
-    field_then 32 r₁ _ _ e₁ λ n r₂ fit_n is_n e₂.
-    field_then 10 r₂ _ _ e₂ λ s r₃ fit_s is_s e₃.
-    same_line (codes "stop ") bytes rest r₃ event (Stop c n s) e₃ (fit_c, fit_n, fit_s) (rw (is_c, is_n, is_s) (simp append_assoc))
-
-restart_sound : (bytes rest : List ℕ) (event : Event) → restart_at bytes ≡ Some (event, rest)
-    → AreFieldsInRange event × (codes "restart " ++ bytes ≡ line event ++ rest)
-unfolding restart_at line
-restart_sound bytes rest event e =
-    field_then 32 bytes _ _ e λ c r₁ fit_c is_c e₁.
-    field_then 32 r₁ _ _ e₁ λ n r₂ fit_n is_n e₂.
-    field_then 32 r₂ _ _ e₂ λ s r₃ fit_s is_s e₃.
-    field_then 32 r₃ _ _ e₃ λ i r₄ fit_i is_i e₄.
-    field_then 10 r₄ _ _ e₄ λ a r₅ fit_a is_a e₅.
-    same_line (codes "restart ") bytes rest r₅ event (Restart c n s i a) e₅ (fit_c, fit_n, fit_s, fit_i, fit_a)
-    (rw (is_c, is_n, is_s, is_i, is_a) (simp append_assoc))
-
-tick_sound : (bytes rest : List ℕ) (event : Event) → tick_at bytes ≡ Some (event, rest)
-    → AreFieldsInRange event × (codes "tick " ++ bytes ≡ line event ++ rest)
-unfolding tick_at line
-tick_sound bytes rest event e =
-    field_then 10 bytes _ _ e λ k r₁ fit_k is_k e₁.
-    let (test, e₂) = cond_some _ _ _ e₁ in
-    let (low, high) = and_parts _ _ test in
-    same_line (codes "tick ") bytes rest r₁ event (Ticks k) (ap Some e₂) (leb-true 1 k low, leb-true k MAX_TICKS high)
-    (rw (is_k) (simp append_assoc))
 
 -- a word is at the front, or not
 by_word : (word bytes rest : List ℕ) (event : Event) (f : List ℕ → Option (Event × List ℕ)) (other : Option (Event × List ℕ))
@@ -229,32 +194,111 @@ by_word word bytes rest event f other e some none = elim (cases_Bool (has_word w
   | inr not_so ↦ none (rw not_so at e)
 ]
 
-pub line_sound : (bytes rest : List ℕ) (event : Event) → line_at bytes ≡ Some (event, rest) → AreFieldsInRange event × (bytes ≡ line event ++ rest)
-unfolding line_at other_at line
+-- made by tools/facts: lemmas of lines
+-- the line of an event is read as that event
+pub line_again : (event : Event) (rest : List ℕ) → AreFieldsInRange event → line_at (line event ++ rest) ≡ Some (event, rest)
+unfolding line_at other_at start_at stop_at restart_at tick_at close_at line has_word
+line_again (Events.Start client number interval action) rest fits = simp append_assoc (rw (
+  field_again 32 client _ fits.0 (lit≤ tt),
+  field_again 32 number _ fits.1 (lit≤ tt),
+  field_again 32 interval _ fits.2 (lit≤ tt),
+  field_again 10 action _ fits.3 (lit≤ tt),
+) refl)
+line_again (Events.Stop client number serial) rest fits = simp append_assoc (rw (
+  field_again 32 client _ fits.0 (lit≤ tt),
+  field_again 32 number _ fits.1 (lit≤ tt),
+  field_again 10 serial _ fits.2 (lit≤ tt),
+) refl)
+line_again (Events.Restart client number serial interval action) rest fits = simp append_assoc (rw (
+  field_again 32 client _ fits.0 (lit≤ tt),
+  field_again 32 number _ fits.1 (lit≤ tt),
+  field_again 32 serial _ fits.2 (lit≤ tt),
+  field_again 32 interval _ fits.3 (lit≤ tt),
+  field_again 10 action _ fits.4 (lit≤ tt),
+) refl)
+line_again (Events.Ticks count) rest fits = simp append_assoc (rw (count_again 10 count _ fits (lit≤ tt)) refl)
+line_again Events.Close rest fits = refl
+
+start_sound : (bytes rest : List ℕ) (event : Event) → start_at bytes ≡ Some (event, rest)
+    → AreFieldsInRange event × (codes "start " ++ bytes ≡ line event ++ rest)
+unfolding start_at line
+start_sound bytes rest event e =
+    field_then 32 bytes _ _ e λ client r1 fits1 is1 e1.
+    field_then 32 r1 _ _ e1 λ number r2 fits2 is2 e2.
+    field_then 32 r2 _ _ e2 λ interval r3 fits3 is3 e3.
+    field_then 10 r3 _ _ e3 λ action r4 fits4 is4 e4.
+    same_line (codes "start ") bytes rest r4 event (Events.Start client number interval action) e4 (fits1, fits2, fits3, fits4)
+    (rw (is1, is2, is3, is4) (simp append_assoc))
+
+stop_sound : (bytes rest : List ℕ) (event : Event) → stop_at bytes ≡ Some (event, rest)
+    → AreFieldsInRange event × (codes "stop " ++ bytes ≡ line event ++ rest)
+unfolding stop_at line
+stop_sound bytes rest event e =
+    field_then 32 bytes _ _ e λ client r1 fits1 is1 e1.
+    field_then 32 r1 _ _ e1 λ number r2 fits2 is2 e2.
+    field_then 10 r2 _ _ e2 λ serial r3 fits3 is3 e3.
+    same_line (codes "stop ") bytes rest r3 event (Events.Stop client number serial) e3 (fits1, fits2, fits3)
+    (rw (is1, is2, is3) (simp append_assoc))
+
+restart_sound : (bytes rest : List ℕ) (event : Event) → restart_at bytes ≡ Some (event, rest)
+    → AreFieldsInRange event × (codes "restart " ++ bytes ≡ line event ++ rest)
+unfolding restart_at line
+restart_sound bytes rest event e =
+    field_then 32 bytes _ _ e λ client r1 fits1 is1 e1.
+    field_then 32 r1 _ _ e1 λ number r2 fits2 is2 e2.
+    field_then 32 r2 _ _ e2 λ serial r3 fits3 is3 e3.
+    field_then 32 r3 _ _ e3 λ interval r4 fits4 is4 e4.
+    field_then 10 r4 _ _ e4 λ action r5 fits5 is5 e5.
+    same_line (codes "restart ") bytes rest r5 event (Events.Restart client number serial interval action) e5 (fits1, fits2, fits3, fits4, fits5)
+    (rw (is1, is2, is3, is4, is5) (simp append_assoc))
+
+tick_sound : (bytes rest : List ℕ) (event : Event) → tick_at bytes ≡ Some (event, rest)
+    → AreFieldsInRange event × (codes "tick " ++ bytes ≡ line event ++ rest)
+unfolding tick_at line
+tick_sound bytes rest event e =
+    count_then 10 bytes _ _ e λ count r1 fits1 is1 e1.
+    same_line (codes "tick ") bytes rest r1 event (Events.Ticks count) e1 (fits1)
+    (rw (is1) (simp append_assoc))
+
+close_sound : (bytes rest : List ℕ) (event : Event) → close_at bytes ≡ Some (event, rest)
+    → AreFieldsInRange event × (codes "close\n" ++ bytes ≡ line event ++ rest)
+unfolding close_at line
+close_sound bytes rest event e =
+    same_line (codes "close\n") bytes rest bytes event Events.Close e tt
+    refl
+
+-- what is read is the line of that event
+pub line_sound : (bytes rest : List ℕ) (event : Event) → line_at bytes ≡ Some (event, rest)
+    → AreFieldsInRange event × (bytes ≡ line event ++ rest)
+unfolding line_at other_at
 line_sound bytes rest event e =
-    by_word (codes "start ") bytes rest event start_at _ e (λ s. start_sound s rest event) λ e₁.
-    by_word (codes "stop ") bytes rest event stop_at _ e₁ (λ s. stop_sound s rest event) λ e₂.
-    by_word (codes "close\n") bytes rest event (λ s. Some (Close, s)) _ e₂
-    (λ s is. same_line (codes "close\n") s rest s event Close is tt refl) λ e₃.
-    by_word (codes "tick ") bytes rest event tick_at _ e₃ (λ s. tick_sound s rest event) λ e₄.
-    by_word (codes "restart ") bytes rest event restart_at _ e₄ (λ s. restart_sound s rest event) λ e₅. absurd (none-some _ e₅)
+    by_word (codes "start ") bytes rest event start_at _ e (λ s. start_sound s rest event) λ e1.
+    by_word (codes "stop ") bytes rest event stop_at _ e1 (λ s. stop_sound s rest event) λ e2.
+    by_word (codes "close\n") bytes rest event close_at _ e2 (λ s. close_sound s rest event) λ e3.
+    by_word (codes "tick ") bytes rest event tick_at _ e3 (λ s. tick_sound s rest event) λ e4.
+    by_word (codes "restart ") bytes rest event restart_at _ e4 (λ s. restart_sound s rest event) λ e5.
+    absurd (none-some _ e5)
 
--- ---- where a line ends
-
+-- where the line of an event ends
 pub line_fed : (event : Event) → AreFieldsInRange event → IsFed (line event)
 unfolding line
-line_fed (Start c n i a) fits =
-    fed (codes "start") (c ∷ n ∷ i ∷ a ∷ []) (line (Start c n i a)) (search rules) (lit≤ tt)
+line_fed (Events.Start client number interval action) fits =
+    fed (codes "start") (client ∷ number ∷ interval ∷ action ∷ []) (line (Events.Start client number interval action)) (search rules) (lit≤ tt)
     (fits.0, (fits.1, (fits.2, (fits.3, tt)))) (simp append_assoc refl)
-line_fed (Stop c n s) fits =
-    fed (codes "stop") (c ∷ n ∷ s ∷ []) (line (Stop c n s)) (search rules) (lit≤ tt) (fits.0, (fits.1, (fits.2, tt))) (simp append_assoc refl)
-line_fed (Restart c n s i a) fits =
-    fed (codes "restart") (c ∷ n ∷ s ∷ i ∷ a ∷ []) (line (Restart c n s i a)) (search rules) (lit≤ tt)
+line_fed (Events.Stop client number serial) fits =
+    fed (codes "stop") (client ∷ number ∷ serial ∷ []) (line (Events.Stop client number serial)) (search rules) (lit≤ tt)
+    (fits.0, (fits.1, (fits.2, tt))) (simp append_assoc refl)
+line_fed (Events.Restart client number serial interval action) fits =
+    fed (codes "restart") (client ∷ number ∷ serial ∷ interval ∷ action ∷ []) (line (Events.Restart client number serial interval action)) (search rules) (lit≤ tt)
     (fits.0, (fits.1, (fits.2, (fits.3, (fits.4, tt))))) (simp append_assoc refl)
-line_fed (Ticks k) fits =
-    fed (codes "tick") (k ∷ []) (line (Ticks k)) (search rules) (lit≤ tt) (omega (arith, fits.1), tt) (simp append_assoc refl)
-line_fed Close fits = fed (codes "close") [] (line Close) (search rules) (lit≤ tt) tt refl
+line_fed (Events.Ticks count) fits =
+    fed (codes "tick") (count ∷ []) (line (Events.Ticks count)) (search rules) (lit≤ tt)
+    (count_fits fits, tt) (simp append_assoc refl)
+line_fed Events.Close fits =
+    fed (codes "close") ([]) (line Events.Close) (search rules) (lit≤ tt)
+    tt refl
 
+-- by hand
 -- bytes with no line feed begin no line, if they are all, or too many for a line
 pub bare_no_line : (xs more : List ℕ) → HasNoFeed xs → (more ≡ []) ⊎ (MAX_LINE ≤ length xs) → BeginsNoLine (xs ++ more)
 bare_no_line xs more none why event rest fits e =

@@ -6,7 +6,7 @@ use Rattle.std.specs.Net.Reader.{digit_count}
 use Rattle.std.specs.Str.Parse.{digits_value}
 use Rattle.std.specs.Borrow.{Bor}
 use Rattle.timer_script.specs.Types.{LAST, MAX_TICKS, Event, MOST_DIGITS}
-use Rattle.timer_facility.specs.declared.event.Event.TheVariants.{Start, Stop, Restart, Ticks, Close}
+use Rattle.timer_facility.specs.declared.event.Event.TheVariants as Events
 
 -- a value and the bytes after it
 abbrev pub Read : Type 0 → Type 0
@@ -46,24 +46,30 @@ number_at bytes =
 unfoldable pub field_at : ℕ → List ℕ → Read ℕ
 field_at end bytes = number_at bytes >>= λ n. strip (end ∷ []) n.1 >>= λ rest. Some (n.0, rest)
 
--- the fields after the word `start`
+-- a count of ticks, and what follows the byte that ends its field
+unfoldable pub count_at : ℕ → List ℕ → Read ℕ
+count_at end bytes =
+    field_at end bytes >>= λ n. if (nat_le 1 n.0 && nat_le n.0 MAX_TICKS) then Some n else None
+
+-- made by tools/facts: what readers compute
+-- what follows `start `
 unfoldable pub start_at : List ℕ → Read Event
 start_at bytes =
     field_at 32 bytes >>= λ client.
     field_at 32 client.1 >>= λ number.
     field_at 32 number.1 >>= λ interval.
     field_at 10 interval.1 >>= λ action.
-    Some (Start client.0 number.0 interval.0 action.0, action.1)
+    Some (Events.Start client.0 number.0 interval.0 action.0, action.1)
 
--- the fields after the word `stop`
+-- what follows `stop `
 unfoldable pub stop_at : List ℕ → Read Event
 stop_at bytes =
     field_at 32 bytes >>= λ client.
     field_at 32 client.1 >>= λ number.
     field_at 10 number.1 >>= λ serial.
-    Some (Stop client.0 number.0 serial.0, serial.1)
+    Some (Events.Stop client.0 number.0 serial.0, serial.1)
 
--- the fields after the word `restart`
+-- what follows `restart `
 unfoldable pub restart_at : List ℕ → Read Event
 restart_at bytes =
     field_at 32 bytes >>= λ client.
@@ -71,15 +77,20 @@ restart_at bytes =
     field_at 32 number.1 >>= λ serial.
     field_at 32 serial.1 >>= λ interval.
     field_at 10 interval.1 >>= λ action.
-    Some (Restart client.0 number.0 serial.0 interval.0 action.0, action.1)
+    Some (Events.Restart client.0 number.0 serial.0 interval.0 action.0, action.1)
 
--- the field after the word `tick`
+-- what follows `tick `
 unfoldable pub tick_at : List ℕ → Read Event
 tick_at bytes =
-    field_at 10 bytes >>= λ count.
-    if (nat_le 1 count.0 && nat_le count.0 MAX_TICKS) then Some (Ticks count.0, count.1) else None
+    count_at 10 bytes >>= λ count.
+    Some (Events.Ticks count.0, count.1)
 
--- the event of a line of `tick` or `restart`
+-- what follows `close\n`
+unfoldable pub close_at : List ℕ → Read Event
+close_at bytes =
+    Some (Events.Close, bytes)
+
+-- the event of another line
 unfoldable pub other_at : List ℕ → Read Event
 other_at bytes =
     or_try (strip (codes "tick ") bytes) tick_at
@@ -90,5 +101,4 @@ unfoldable pub line_at : List ℕ → Read Event
 line_at bytes =
     or_try (strip (codes "start ") bytes) start_at
     (or_try (strip (codes "stop ") bytes) stop_at
-    (or_try (strip (codes "close\n") bytes) (λ rest. Some (Close, rest))
-    (other_at bytes)))
+    (or_try (strip (codes "close\n") bytes) close_at (other_at bytes)))

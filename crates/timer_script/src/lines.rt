@@ -16,7 +16,9 @@ ghost use Rattle.std.specs.Int.{from_le_bytes, w32};
 ghost use Rattle.std.specs.Str.Parse.{AllDigits, digits_value};
 ghost use Rattle.timer_script.specs.declared.lines.TheConstants.{MOST_DIGITS};
 ghost use Rattle.timer_script.specs.Script.{HasNoFeed};
-ghost use Rattle.timer_script.specs.Lines.{read_view, has_word, number_at, field_at, start_at, stop_at, restart_at, tick_at, other_at, line_at};
+ghost use Rattle.timer_script.specs.Lines.{read_view, has_word, number_at, field_at, count_at, other_at, line_at};
+// made by tools/facts: imports of readers
+ghost use Rattle.timer_script.specs.Lines.{start_at, stop_at, restart_at, tick_at, close_at};
 
 use timer_base::LAST;
 use timer_facility::Event;
@@ -84,6 +86,19 @@ fn read_field(bytes: &[u8], end: u8) -> Option<(u64, &[u8])>
     Some((value, &rest[1..]))
 }
 
+/// A count of ticks, and what follows the byte that ends its field.
+#[inline(always)]
+#[tactic(auto, unfolding(crate::specs::Lines::count_at))]
+fn read_count(bytes: &[u8], end: u8) -> Option<(u64, &[u8])>
+    ensures { read_view (λ n. n) result ≡ count_at end bytes.now }
+{
+    let (count, rest) = read_field(bytes, end)?;
+    if count == 0 || count > MAX_TICKS {
+        return None;
+    }
+    Some((count, rest))
+}
+
 /// The first four bytes as one number.
 #[inline(always)]
 fn front(bytes: &[u8]) -> u32
@@ -106,7 +121,8 @@ fn has_word(bytes: &[u8], word: &[u8]) -> bool
     bytes[4..].starts_with(&word[4..])
 }
 
-/// What follows `start `.
+// made by tools/facts: readers of lines
+/// The event of a line, from what follows `start `.
 #[inline(always)]
 #[tactic(auto, unfolding(crate::specs::Lines::start_at))]
 fn read_start(bytes: &[u8]) -> Option<(Event, &[u8])>
@@ -125,7 +141,7 @@ fn read_start(bytes: &[u8]) -> Option<(Event, &[u8])>
     Some((event, rest))
 }
 
-/// What follows `stop `.
+/// The event of a line, from what follows `stop `.
 #[inline(always)]
 #[tactic(auto, unfolding(crate::specs::Lines::stop_at))]
 fn read_stop(bytes: &[u8]) -> Option<(Event, &[u8])>
@@ -142,7 +158,7 @@ fn read_stop(bytes: &[u8]) -> Option<(Event, &[u8])>
     Some((event, rest))
 }
 
-/// What follows `restart `. A call, as that of `tick ` is: with both inside, `read_line` is too large to be inlined.
+/// The event of a line, from what follows `restart `.
 #[inline(never)]
 #[tactic(auto, unfolding(crate::specs::Lines::restart_at))]
 fn read_restart(bytes: &[u8]) -> Option<(Event, &[u8])>
@@ -163,19 +179,28 @@ fn read_restart(bytes: &[u8]) -> Option<(Event, &[u8])>
     Some((event, rest))
 }
 
-/// What follows `tick `.
+/// The event of a line, from what follows `tick `.
 #[inline(never)]
 #[tactic(auto, unfolding(crate::specs::Lines::tick_at))]
 fn read_tick(bytes: &[u8]) -> Option<(Event, &[u8])>
     ensures { read_view (λ e. e) result ≡ tick_at bytes.now }
 {
-    let (count, rest) = read_field(bytes, b'\n')?;
-    if count == 0 || count > MAX_TICKS {
-        return None;
-    }
-    Some((Event::Ticks { count }, rest))
+    let (count, rest) = read_count(bytes, b'\n')?;
+    let event = Event::Ticks { count };
+    Some((event, rest))
 }
 
+/// The event of a line, from what follows `close\n`.
+#[inline(always)]
+#[tactic(auto, unfolding(crate::specs::Lines::close_at))]
+fn read_close(bytes: &[u8]) -> Option<(Event, &[u8])>
+    ensures { read_view (λ e. e) result ≡ close_at bytes.now }
+{
+    let event = Event::Close;
+    Some((event, bytes))
+}
+
+// by hand
 /// The event of a line of another kind. Inlined as a function of its own, so that the results of its calls take no time
 /// in lines of those kinds.
 #[inline(always)]
@@ -183,12 +208,14 @@ fn read_tick(bytes: &[u8]) -> Option<(Event, &[u8])>
 fn read_other(bytes: &[u8]) -> Option<(Event, &[u8])>
     ensures { read_view (λ e. e) result ≡ other_at bytes.now }
 {
+    // made by tools/facts: words that are read by calls
     if has_word(bytes, b"tick ") {
         return read_tick(&bytes[5..]);
     }
     if has_word(bytes, b"restart ") {
         return read_restart(&bytes[8..]);
     }
+    // by hand
     None
 }
 
@@ -199,6 +226,7 @@ fn read_other(bytes: &[u8]) -> Option<(Event, &[u8])>
 pub fn read_line(bytes: &[u8]) -> Option<(Event, &[u8])>
     ensures { read_view (λ e. e) result ≡ line_at bytes.now }
 {
+    // made by tools/facts: words that are read in place
     if has_word(bytes, b"start ") {
         return read_start(&bytes[6..]);
     }
@@ -206,8 +234,9 @@ pub fn read_line(bytes: &[u8]) -> Option<(Event, &[u8])>
         return read_stop(&bytes[5..]);
     }
     if has_word(bytes, b"close\n") {
-        return Some((Event::Close, &bytes[6..]));
+        return read_close(&bytes[6..]);
     }
+    // by hand
     read_other(bytes)
 }
 

@@ -1,0 +1,191 @@
+"""How lines of a script are read: readers in Rattle, what they compute, and the proof that this is right: facts/words.toml.
+
+All readers have one form. A field `count` is read by `read_count`, which computes `count_at`, and its lemmas are `count_again`,
+`count_then` and `count_fits`. Any other field has `read_field`, `field_at`, `field_again` and `field_then`, and fits as it is.
+"""
+from formats import FIELDS, WORDS
+
+
+class Line:
+    """A line of a script. Of each field: its name, what its readers are called by, and the byte that ends it."""
+
+    def __init__(self, word):
+        self.word = word
+        self.names = FIELDS[word]
+        self.fields = [(name, "count" if name == "count" else "field", " ") for name in self.names]
+        if self.fields:
+            self.fields[-1] = (*self.fields[-1][:2], "\\n")
+        self.front = f"{word} " if self.fields else f"{word}\\n"
+        self.event = WORDS["script"][word].get("event", word.capitalize())
+
+    def term(self, *parts):
+        """What is made of the event's name and its fields, in a specification."""
+        return f"({' '.join(parts)})" if len(parts) > 1 else parts[0]
+
+    def pattern(self):
+        return self.term(f"Events.{self.event}", *self.names)
+
+    def premises(self):
+        """The range of each field, in a premise that has them all."""
+        return ["fits"] if len(self.fields) == 1 else [f"fits.{at}" for at in range(len(self.fields))]
+
+
+CALLS = [Line(word) for word in WORDS["reading"]["by_calls"]]
+IN_PLACE = [Line(word) for word in WORDS["reading"]["in_place"]]
+LINES = [Line(word) for word in WORDS["script"]]
+
+
+def code(byte):
+    """The number of a byte that ends a field."""
+    return {" ": 32, "\\n": 10}[byte]
+
+
+def made_event(line):
+    """The statement that makes the event of its fields, as `rt fmt` lays it out."""
+    names = ", ".join(line.names)
+    if len(names) > 18:
+        yield from (f"    let event = Event::{line.event} {{", *(f"        {name}," for name in line.names), "    };")
+    else:
+        yield f"    let event = Event::{line.event}{f' {{ {names} }}' if names else ''};"
+
+
+def reader(line):
+    inlined = "always" if line.word in WORDS["reading"]["in_place"] else "never"
+    yield f"/// The event of a line, from what follows `{line.front}`."
+    yield f"#[inline({inlined})]"
+    yield f"#[tactic(auto, unfolding(crate::specs::Lines::{line.word}_at))]"
+    yield f"fn read_{line.word}(bytes: &[u8]) -> Option<(Event, &[u8])>"
+    yield f"    ensures {{ read_view (λ e. e) result ≡ {line.word}_at bytes.now }}"
+    yield "{"
+    rest = "bytes"
+    for name, kind, end in line.fields:
+        yield f"    let ({name}, rest) = read_{kind}({rest}, b'{end}')?;"
+        rest = "rest"
+    yield from made_event(line)
+    yield f"    Some((event, {rest}))"
+    yield "}"
+    yield ""
+
+
+def tests(lines):
+    """A test for each word, and the call of its reader."""
+    for line in lines:
+        yield f"    if has_word(bytes, b\"{line.front}\") {{"
+        yield f"        return read_{line.word}(&bytes[{len(line.word) + 1}..]);"
+        yield "    }"
+
+
+def specification(line):
+    yield f"-- what follows `{line.front}`"
+    yield f"unfoldable pub {line.word}_at : List ℕ → Read Event"
+    yield f"{line.word}_at bytes ="
+    rest = "bytes"
+    for name, kind, end in line.fields:
+        yield f"    {kind}_at {code(end)} {rest} >>= λ {name}."
+        rest = f"{name}.1"
+    event = line.term(f"Events.{line.event}", *(f"{name}.0" for name in line.names)).strip("()")
+    yield f"    Some ({event}, {rest})"
+    yield ""
+
+
+def choice(lines, otherwise):
+    """What the first of the words that is at the front leads to."""
+    for at, line in enumerate(lines):
+        last = f" {otherwise}{')' * at}" if line is lines[-1] else ""
+        yield f"    {'(' * (at > 0)}or_try (strip (codes \"{line.front}\") bytes) {line.word}_at{last}"
+
+
+def specifications():
+    for line in LINES:
+        yield from specification(line)
+    yield from ("-- the event of another line", "unfoldable pub other_at : List ℕ → Read Event", "other_at bytes =")
+    yield from choice(CALLS, "None")
+    yield ""
+    yield from ("-- the event whose line is at the front", "unfoldable pub line_at : List ℕ → Read Event", "line_at bytes =")
+    yield from choice(IN_PLACE, "(other_at bytes)")
+    yield ""
+
+
+def rewritten(before, steps, after):
+    """A term by rewriting, on a line for each step if there are more than one."""
+    if len(steps) > 1:
+        yield from (f"{before} (rw (", *(f"  {step}," for step in steps), f"){after})")
+    else:
+        yield f"{before} (rw ({steps[0]}){after})"
+
+
+def again(line):
+    """The line of an event is read as that event."""
+    front = f"line_again {line.pattern()} rest fits ="
+    steps = [f"{kind}_again {code(end)} {name} _ {fits} (lit≤ tt)" for (name, kind, end), fits in zip(line.fields, line.premises())]
+    yield from rewritten(f"{front} simp append_assoc", steps, " refl") if steps else [f"{front} refl"]
+
+
+def sound(line):
+    """What a reader reads is the line of the event that it returns."""
+    numbers = range(1, len(line.fields) + 1)
+    fits, parts = (", ".join(f"{name}{at}" for at in numbers) for name in ("fits", "is"))
+    last = len(line.fields) or ""
+    yield f"{line.word}_sound : (bytes rest : List ℕ) (event : Event) → {line.word}_at bytes ≡ Some (event, rest)"
+    yield f"    → AreFieldsInRange event × (codes \"{line.front}\" ++ bytes ≡ line event ++ rest)"
+    yield f"unfolding {line.word}_at line"
+    yield f"{line.word}_sound bytes rest event e ="
+    for at, (name, kind, end) in zip(numbers, line.fields):
+        rest = f"r{at - 1}" if at > 1 else "bytes"
+        yield f"    {kind}_then {code(end)} {rest} _ _ e{at - 1 or ''} λ {name} r{at} fits{at} is{at} e{at}."
+    rest = f"r{last}" if line.fields else "bytes"
+    yield f"    same_line (codes \"{line.front}\") bytes rest {rest} event {line.pattern()} e{last} {f'({fits})' if fits else 'tt'}"
+    yield f"    {f'(rw ({parts}) (simp append_assoc))' if parts else 'refl'}"
+    yield ""
+
+
+def fed(line):
+    """The only line feed of a line is its last byte."""
+    numbers = "".join(f"{name} ∷ " for name in line.names) + "[]"
+    fits = [f"count_fits {premise}" if kind == "count" else premise for (_, kind, _), premise in zip(line.fields, line.premises())]
+    all_fit = "".join(f"({fit}, " for fit in fits) + "tt" + ")" * len(fits)
+    yield f"line_fed {line.pattern()} fits ="
+    yield f"    fed (codes \"{line.word}\") ({numbers}) (line {line.pattern()}) (search rules) (lit≤ tt)"
+    yield f"    {all_fit} {'(simp append_assoc refl)' if fits else 'refl'}"
+
+
+def lemmas():
+    yield "-- the line of an event is read as that event"
+    yield "pub line_again : (event : Event) (rest : List ℕ) → AreFieldsInRange event → line_at (line event ++ rest) ≡ Some (event, rest)"
+    yield f"unfolding line_at other_at {' '.join(f'{line.word}_at' for line in LINES)} line has_word"
+    for line in LINES:
+        yield from again(line)
+    yield ""
+    for line in LINES:
+        yield from sound(line)
+    yield "-- what is read is the line of that event"
+    yield "pub line_sound : (bytes rest : List ℕ) (event : Event) → line_at bytes ≡ Some (event, rest)"
+    yield "    → AreFieldsInRange event × (bytes ≡ line event ++ rest)"
+    yield "unfolding line_at other_at"
+    yield "line_sound bytes rest event e ="
+    for at, line in enumerate(IN_PLACE + CALLS, start=1):
+        yield (f"    by_word (codes \"{line.front}\") bytes rest event {line.word}_at _ e{at - 1 or ''}"
+               f" (λ s. {line.word}_sound s rest event) λ e{at}.")
+    yield f"    absurd (none-some _ e{len(LINES)})"
+    yield ""
+    yield "-- where the line of an event ends"
+    yield "pub line_fed : (event : Event) → AreFieldsInRange event → IsFed (line event)"
+    yield "unfolding line"
+    for line in LINES:
+        yield from fed(line)
+    yield ""
+
+
+def imports(use, end=""):
+    yield f"{use} Rattle.timer_script.specs.Lines.{{{', '.join(f'{line.word}_at' for line in LINES)}}}{end}"
+
+
+LISTS = {
+    "imports of readers": lambda: imports("ghost use", ";"),
+    "readers of lines": lambda: (row for line in LINES for row in reader(line)),
+    "words that are read in place": lambda: tests(IN_PLACE),
+    "words that are read by calls": lambda: tests(CALLS),
+    "what readers compute": specifications,
+    "imports of what readers compute": lambda: imports("use"),
+    "lemmas of lines": lemmas,
+}
