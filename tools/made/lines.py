@@ -1,7 +1,8 @@
 """How lines of a script are read: readers in Rattle, what they compute, and the proof that this is right: facts/words.toml.
 
-All readers have one form. A field `count` is read by `read_count`, which computes `count_at`, and its lemmas are `count_again`,
-`count_then` and `count_fits`. Any other field has `read_field`, `field_at`, `field_again` and `field_then`, and fits as it is.
+All readers have one form. A field `count` is read by `read_tick_count`, which computes `tick_count_at`. Its lemmas are
+`tick_count_again`, `tick_count_then` and `tick_count_fits`. Any other field has `read_field`, `field_at`, `field_again` and
+`field_then`. A word's readers and lemmas are named by the word.
 """
 from formats import FIELDS, WORDS
 
@@ -12,22 +13,14 @@ class Line:
     def __init__(self, word):
         self.word = word
         self.names = FIELDS[word]
-        self.fields = [(name, "count" if name == "count" else "field", " ") for name in self.names]
-        if self.fields:
-            self.fields[-1] = (*self.fields[-1][:2], "\\n")
+        ends = [" "] * (len(self.names) - 1) + ["\\n"]
+        self.fields = [(name, "tick_count" if name == "count" else "field", end) for name, end in zip(self.names, ends)]
         self.front = f"{word} " if self.fields else f"{word}\\n"
         self.event = WORDS["script"][word].get("event", word.capitalize())
 
-    def term(self, *parts):
-        """What is made of the event's name and its fields, in a specification."""
-        return f"({' '.join(parts)})" if len(parts) > 1 else parts[0]
-
-    def pattern(self):
-        return self.term(f"Events.{self.event}", *self.names)
-
-    def premises(self):
-        """The range of each field, in a premise that has them all."""
-        return ["fits"] if len(self.fields) == 1 else [f"fits.{at}" for at in range(len(self.fields))]
+        # In specifications and proofs: the event of its fields, and the range of each in a premise that has them all.
+        self.made = f"(Events.{self.event} {' '.join(self.names)})" if self.names else f"Events.{self.event}"
+        self.ranges = [f"fits.{at}" for at in range(len(self.names))] if len(self.names) > 1 else ["fits"]
 
 
 CALLS = [Line(word) for word in WORDS["reading"]["by_calls"]]
@@ -83,8 +76,7 @@ def specification(line):
     for name, kind, end in line.fields:
         yield f"    {kind}_at {code(end)} {rest} >>= λ {name}."
         rest = f"{name}.1"
-    event = line.term(f"Events.{line.event}", *(f"{name}.0" for name in line.names)).strip("()")
-    yield f"    Some ({event}, {rest})"
+    yield f"    Some ({' '.join([f'Events.{line.event}', *(f'{name}.0' for name in line.names)])}, {rest})"
     yield ""
 
 
@@ -106,19 +98,14 @@ def specifications():
     yield ""
 
 
-def rewritten(before, steps, after):
-    """A term by rewriting, on a line for each step if there are more than one."""
-    if len(steps) > 1:
-        yield from (f"{before} (rw (", *(f"  {step}," for step in steps), f"){after})")
-    else:
-        yield f"{before} (rw ({steps[0]}){after})"
-
-
 def again(line):
     """The line of an event is read as that event."""
-    front = f"line_again {line.pattern()} rest fits ="
-    steps = [f"{kind}_again {code(end)} {name} _ {fits} (lit≤ tt)" for (name, kind, end), fits in zip(line.fields, line.premises())]
-    yield from rewritten(f"{front} simp append_assoc", steps, " refl") if steps else [f"{front} refl"]
+    front = f"line_again {line.made} rest fits ="
+    steps = [f"{kind}_again {code(end)} {name} _ {fits} (lit≤ tt)" for (name, kind, end), fits in zip(line.fields, line.ranges)]
+    if len(steps) > 1:
+        yield from (f"{front} simp append_assoc (rw (", *(f"  {step}," for step in steps), ") refl)")
+    else:
+        yield f"{front} simp append_assoc (rw ({steps[0]}) refl)" if steps else f"{front} refl"
 
 
 def sound(line):
@@ -134,7 +121,7 @@ def sound(line):
         rest = f"r{at - 1}" if at > 1 else "bytes"
         yield f"    {kind}_then {code(end)} {rest} _ _ e{at - 1 or ''} λ {name} r{at} fits{at} is{at} e{at}."
     rest = f"r{last}" if line.fields else "bytes"
-    yield f"    same_line (codes \"{line.front}\") bytes rest {rest} event {line.pattern()} e{last} {f'({fits})' if fits else 'tt'}"
+    yield f"    same_line (codes \"{line.front}\") bytes rest {rest} event {line.made} e{last} {f'({fits})' if fits else 'tt'}"
     yield f"    {f'(rw ({parts}) (simp append_assoc))' if parts else 'refl'}"
     yield ""
 
@@ -142,16 +129,17 @@ def sound(line):
 def fed(line):
     """The only line feed of a line is its last byte."""
     numbers = "".join(f"{name} ∷ " for name in line.names) + "[]"
-    fits = [f"count_fits {premise}" if kind == "count" else premise for (_, kind, _), premise in zip(line.fields, line.premises())]
+    fits = [f"tick_count_fits {fit}" if kind == "tick_count" else fit for (_, kind, _), fit in zip(line.fields, line.ranges)]
     all_fit = "".join(f"({fit}, " for fit in fits) + "tt" + ")" * len(fits)
-    yield f"line_fed {line.pattern()} fits ="
-    yield f"    fed (codes \"{line.word}\") ({numbers}) (line {line.pattern()}) (search rules) (lit≤ tt)"
+    yield f"line_fed {line.made} fits ="
+    yield f"    fed (codes \"{line.word}\") ({numbers}) (line {line.made}) (search rules) (lit≤ tt)"
     yield f"    {all_fit} {'(simp append_assoc refl)' if fits else 'refl'}"
 
 
 def lemmas():
     yield "-- the line of an event is read as that event"
-    yield "pub line_again : (event : Event) (rest : List ℕ) → AreFieldsInRange event → line_at (line event ++ rest) ≡ Some (event, rest)"
+    yield "pub line_again : (event : Event) (rest : List ℕ) → AreFieldsInRange event"
+    yield "    → line_at (line event ++ rest) ≡ Some (event, rest)"
     yield f"unfolding line_at other_at {' '.join(f'{line.word}_at' for line in LINES)} line has_word"
     for line in LINES:
         yield from again(line)

@@ -1,9 +1,10 @@
 -- The notices of every run are what is owed for it.
-use Rattle.std.proofs.Common.{◌≡◌, ◌<◌, ◌≤◌, ◌+◌, ℕ, zero, suc, Bool, true, false, List, [], ◌∷◌, ◌++◌, inl, inr, refl, sym, ◌∙◌, ap, subst, arith, append-nil, append_assoc}
+use Rattle.std.proofs.Common.{◌≡◌, ◌<◌, ◌≤◌, ◌+◌, ℕ, zero, suc, true, false, List, [], ◌∷◌, ◌++◌, inl, inr, refl, sym, ◌∙◌, ap, subst, arith, append-nil, append_assoc}
 use Rattle.std.specs.Prelude.{take, map, filter, Option, Some, None}
 use Rattle.std.specs.List.{AllByRecursion}
 use Rattle.std.proofs.lemmas.Bool.{cases_lt, or_right}
 use Rattle.std.proofs.lemmas.Bool.Decides.{nat_tests}
+use Rattle.timer_base.proofs.Basics.{either}
 use Rattle.timer_base.specs.Order.{IsMember, AreDistinct}
 use Rattle.timer_base.proofs.OrderLaws.{All-weaken, filter_all, filter_none}
 use Rattle.timer_facility.specs.Types.{Timer, Notice, TickFault, Expired, Returned}
@@ -27,6 +28,11 @@ KeepsStep s r ns event st = Keeps s (and_then r (read_one (record { event = even
 keeps_read : {s : FacilityState} {r r' : Reading} {ns ns' : List Notice} {c : FacilityState} → r' ≡ r → ns' ≡ ns → Keeps s r ns c
     → Keeps s r' ns' c
 keeps_read e f k = rw (e, f) k
+
+-- an event that says nothing of timers, ticks or a close keeps it
+keeps_idle : {s : FacilityState} {r : Reading} {ns : List Notice} {c : FacilityState} → Keeps s r ns c
+    → Keeps s (and_then r nothing_read) (ns ++ []) c
+keeps_idle {r = r} {ns = ns} k = keeps_read (then_nothing r) (append-nil ns) k
 
 -- the timer in an answer
 timer_is : {c : FacilityState} {client number action : ℕ} {t : Timer} (place : ℕ) → IsNew c client number action t
@@ -54,7 +60,7 @@ keeps_request : (s : FacilityState) (r : Reading) (ns : List Notice) (c : Facili
     → KeepsStep s r ns (Asked client number request)
     (answered client number (answer_to old new place) (due_at_start c new) (after_request old new place c))
 keeps_request s r ns c client number request None None place among is not_past k o =
-    keeps_read (then_nothing r) (append-nil ns) (keeps-numbered client number k)
+    keeps_idle (keeps-numbered client number k)
 keeps_request s r ns c client number request (Some old) None place among is not_past k o =
     keeps_read (reading_is (append-nil r.started) refl (omega arith) (or_false r.is_closed)) (append-nil ns)
     (keeps-numbered client number (keeps-stop old k o (among old refl)))
@@ -81,15 +87,15 @@ keeps_asked : (s : FacilityState) (r : Reading) (ns : List Notice) (c : Facility
     → KeepsStep s r ns (Asked client number request) (step c (Asked client number request) place)
 keeps_asked s r ns c client number request place k =
     by_verdict (KeepsStep s r ns (Asked client number request)) c client number request place
-    (λ reason. keeps_read (then_nothing r) (append-nil ns) k)
-    (λ reason taken. keeps_read (then_nothing r) (append-nil ns) (keeps-numbered client number k))
+    (λ reason. keeps_idle k)
+    (λ reason taken. keeps_idle (keeps-numbered client number k))
     (λ taken ok. keeps_request s r ns c client number request (timer_stopped c client request)
     (timer_started c client number request) place (stopped-among c client request) (started-new c client number request)
     (started-not_past c client number request) k (not_closed k (takable c client number taken).is_open))
 
 keeps_ticked : (s : FacilityState) (r : Reading) (ns : List Notice) (c : FacilityState) (v : Option TickFault) → tick_refusal c ≡ v
     → Keeps s r ns c → KeepsStep s r ns Tick (step_of_tick c v)
-keeps_ticked s r ns c (Some fault) e k = keeps_read (then_nothing r) (append-nil ns) k
+keeps_ticked s r ns c (Some fault) e k = keeps_idle k
 keeps_ticked s r ns c None e k = rw (
   notices_in-map (λ t. Expired t) (expired_next c),
   serials_told-map (λ t. Expired t) (expired_next c),
@@ -100,10 +106,10 @@ keeps_ticked s r ns c None e k = rw (
   or_false r.is_closed,
 ) (keeps-tick k (not_closed k (ticking c e).is_open))
 
-keeps_closed : (s : FacilityState) (r : Reading) (ns : List Notice) (c : FacilityState) (v : Bool) → c.is_closed ≡ v → Keeps s r ns c
-    → KeepsStep s r ns Close (step_of_close c v)
-keeps_closed s r ns c true e k = keeps_read (then_nothing r) (append-nil ns) k
-keeps_closed s r ns c false e k =
+-- the first close
+keeps_closed : {s : FacilityState} {r : Reading} {ns : List Notice} {c : FacilityState} → Keeps s r ns c → c.is_closed ≡ false
+    → KeepsStep s r ns Close (step_of_close c false)
+keeps_closed {r = r} {c = c} k e =
     let no_tick : r.ticks + 0 ≡ r.ticks = omega arith in
     rw (
       notices_in-map (λ t. Returned t) (timers_of c.pending),
@@ -118,12 +124,15 @@ keeps_step : (s : FacilityState) (r : Reading) (ns : List Notice) (c : FacilityS
     → KeepsStep s r ns event (step c event place)
 keeps_step s r ns c (Asked client number request) place k = keeps_asked s r ns c client number request place k
 keeps_step s r ns c Tick place k = keeps_ticked s r ns c (tick_refusal c) refl k
-keeps_step s r ns c Close place k = keeps_closed s r ns c c.is_closed refl k
+keeps_step s r ns c event place k = elim (either c.is_closed) [
+  | inl h ↦ rw h (keeps_idle (rw h at k))
+  | inr h ↦ let now = rw h at k in rw h (search (keeps_idle, keeps_closed, now))
+]
 
 -- and so does a whole run
 keeps_run : (s : FacilityState) (r : Reading) (ns : List Notice) (c : FacilityState) (ps : List PlacedEvent) → Keeps s r ns c
     → Keeps s (and_then r (reading (history c ps))) (ns ++ notices (history c ps)) (state_after c ps)
-keeps_run s r ns c [] k = keeps_read (then_nothing r) (append-nil ns) k
+keeps_run s r ns c [] k = keeps_idle k
 keeps_run s r ns c (p ∷ ps) k =
     let st : StepResult = step c p.event p.place in
     let rest : List Notice = notices (history st.state ps) in

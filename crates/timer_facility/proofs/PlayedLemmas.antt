@@ -1,5 +1,5 @@
 -- Runs that go on, and the outs of a close.
-use Rattle.std.proofs.Common.{◌≡◌, ℕ, true, false, List, [], ◌∷◌, ◌++◌, length, refl, sym, ◌∙◌, ap, subst, append-nil, append_assoc, inl, inr}
+use Rattle.std.proofs.Common.{◌≡◌, ℕ, Bool, true, false, List, [], ◌∷◌, ◌++◌, length, refl, sym, ◌∙◌, ap, subst, append-nil, append_assoc, inl, inr}
 use Rattle.std.specs.Prelude.{map, Some, None, Result, Ok, Err, OnErr}
 use Rattle.std.proofs.lemmas.List.{length-map}
 use Rattle.timer_base.specs.Pending.{timers_of, timer_of}
@@ -16,7 +16,7 @@ use Rattle.timer_facility.specs.declared.event.Out.TheVariants as Outs
 use Rattle.timer_facility.specs.State.{FacilityState, IsSound, After, ByHandle, BySerial, Start, Stop, Restart, SingleEvent, Asked, Close}
 use Rattle.timer_facility.specs.Verdict.{not_taken, first_refusal, name_refusal, interval_refusal}
 use Rattle.timer_facility.specs.Step.{StepResult, step, step_of_close}
-use Rattle.timer_facility.specs.Run.{PlacedEvent, history, state_after, outs_of}
+use Rattle.timer_facility.specs.Run.{PlacedEvent, history, state_after, outs_of, run}
 use Rattle.timer_facility.specs.Facility.{FacilityView, view_after, model_of, event_of_request, notice_outs, place_in, IsTaken, IsNotTaken, MakesTimer, WhyNotTaken}
 use Rattle.timer_facility.specs.Played.{singles_of, ArePlaced, IsRun, IsPlayed, MakesStep, AddsRun}
 
@@ -186,8 +186,38 @@ outs-close_refused s h = ap (λ b. (step_of_close s b).outs) h
 pub state-close_refused : (s : FacilityState) → s.is_closed ≡ true → (step s Close 0).state ≡ s
 state-close_refused s h = ap (λ b. (step_of_close s b).state) h
 
--- so it adds that out, and leaves the state
-pub adds_close_refused : (s t : FacilityState) → s ≡ t → s.is_closed ≡ true → AddsRun t Events.Close [] (Outs.CloseRefused ∷ []) t
-adds_close_refused s t same closed = subst (λ u. AddsRun u Events.Close [] (Outs.CloseRefused ∷ []) u) same
-    (AddsRun-step Events.Close {made = Close} Close refl (λ place. refl)
-    (record { place = 0; appended = sym (outs-close_refused s closed); left = sym (state-close_refused s closed) }))
+-- An event that has one out, and changes nothing.
+
+-- an event at which no timer is started
+abbrev pub at_no_place : SingleEvent → PlacedEvent
+at_no_place single = record { event = single; place = 0 }
+
+at_no_place-events : (singles : List SingleEvent) → map (λ (p : PlacedEvent). p.event) (map at_no_place singles) ≡ singles
+at_no_place-events [] = refl
+at_no_place-events (single ∷ singles) = ap (λ more. single ∷ more) (at_no_place-events singles)
+
+-- what the single events of an event lead to, if they start no timer
+abbrev pub plain_run : FacilityState → Event → StepResult
+plain_run s event = run s (map at_no_place (singles_of s event))
+
+adds_plain : (s : FacilityState) (event : Event) (outs : List Out) → plain_run s event ≡ record { outs = outs; state = s }
+    → AddsRun s event [] outs s
+adds_plain s event outs is =
+    let placed : List PlacedEvent = map at_no_place (singles_of s event) in record {
+      more = outs;
+      appended = refl;
+      runs = record {
+        placed = placed;
+        singles = (placed, [], sym (append-nil placed), at_no_place-events (singles_of s event), refl);
+        outs_are = ap (λ (st : StepResult). st.outs) (sym is);
+        after_is = ap (λ (st : StepResult). st.state) (sym is);
+      };
+    }
+
+-- a step computes if it is known whether the facility is closed
+pub adds_unchanged : (s t : FacilityState) (closed : Bool) (event : Event) (out : Out) → s ≡ t → s.is_closed ≡ closed
+    → plain_run (record s { is_closed = closed }) event ≡ record { outs = out ∷ []; state = record s { is_closed = closed } }
+    → AddsRun t event [] (out ∷ []) t
+adds_unchanged s t closed event out same is plain =
+    let here : record s { is_closed = closed } ≡ s = ap (λ b. record s { is_closed = b }) (sym is) in
+    subst (λ u. AddsRun u event [] (out ∷ []) u) (here ∙ same) (adds_plain _ event (out ∷ []) plain)

@@ -222,7 +222,7 @@ impl<W: Wheel + Drop> Player<W> {
 
     /// The out of a close, if it is refused: the facility is closed already. Does not allocate.
     #[inline(always)]
-    #[tactic(auto, using(crate::proofs::PlayedLemmas::adds_close_refused))]
+    #[tactic(auto, using(crate::proofs::PlayedLemmas::adds_unchanged))]
     pub fn refused_close(&self) -> Option<Out>
         ensures { IfSome result (λ out. AddsRun self.now Event.Close [] (out ∷ []) self.now) }
     {

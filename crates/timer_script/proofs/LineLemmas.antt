@@ -16,7 +16,7 @@ use Rattle.timer_script.specs.Types.{LAST, MAX_TICKS, MAX_LINE, Event}
 use Rattle.timer_facility.specs.declared.event.Event.TheVariants as Events
 use Rattle.timer_script.specs.Script.{AreFieldsInRange, line, HasNoFeed, BeginsNoLine}
 use Rattle.timer_script.proofs.FeedLemmas.{IsFed, fed, no_feed_long, at_feed}
-use Rattle.timer_script.specs.Lines.{◌>>=◌, or_try, has_word, strip, number_at, field_at, count_at, other_at, line_at}
+use Rattle.timer_script.specs.Lines.{◌>>=◌, or_try, has_word, strip, number_at, field_at, tick_count_at, other_at, line_at}
 -- made by tools/facts: imports of what readers compute
 use Rattle.timer_script.specs.Lines.{start_at, stop_at, restart_at, tick_at, close_at}
 
@@ -151,21 +151,21 @@ field_then end bytes f y e more =
 
 -- ---- a count of ticks
 
-count_fits : {n : ℕ} → (1 ≤ n) × (n ≤ MAX_TICKS) → n ≤ LAST
-count_fits fits = omega (arith, fits.1)
+tick_count_fits : {n : ℕ} → (1 ≤ n) × (n ≤ MAX_TICKS) → n ≤ LAST
+tick_count_fits fits = omega (arith, fits.1)
 
-count_again : (end n : ℕ) (rest : List ℕ) → (1 ≤ n) × (n ≤ MAX_TICKS) → NoDigit 10 (end ∷ rest)
-    → count_at end (decimal n ++ (end ∷ rest)) ≡ Some (n, rest)
-unfolding count_at
-count_again end n rest fits stop =
-    rw (field_again end n rest (count_fits fits) stop, and_from _ _ (le-leb 1 n fits.0) (le-leb n MAX_TICKS fits.1)) refl
+tick_count_again : (end n : ℕ) (rest : List ℕ) → (1 ≤ n) × (n ≤ MAX_TICKS) → NoDigit 10 (end ∷ rest)
+    → tick_count_at end (decimal n ++ (end ∷ rest)) ≡ Some (n, rest)
+unfolding tick_count_at
+tick_count_again end n rest fits stop =
+    rw (field_again end n rest (tick_count_fits fits) stop, and_from _ _ (le-leb 1 n fits.0) (le-leb n MAX_TICKS fits.1)) refl
 
 -- what was read after a count
-count_then : {A P : Type 0} (end : ℕ) (bytes : List ℕ) (f : ℕ × List ℕ → Option A) (y : A) → (count_at end bytes >>= f) ≡ Some y
+tick_count_then : {A P : Type 0} (end : ℕ) (bytes : List ℕ) (f : ℕ × List ℕ → Option A) (y : A) → (tick_count_at end bytes >>= f) ≡ Some y
     → ((n : ℕ) (rest : List ℕ) → (1 ≤ n) × (n ≤ MAX_TICKS) → bytes ≡ decimal n ++ end ∷ rest → f (n, rest) ≡ Some y → P) → P
-unfolding count_at
-count_then end bytes f y e more =
-    and_then_some _ (count_at end bytes) _ e λ m read e₁.
+unfolding tick_count_at
+tick_count_then end bytes f y e more =
+    and_then_some _ (tick_count_at end bytes) _ e λ m read e₁.
     field_then end bytes _ m read λ n rest fits is e₂.
     let (test, same) = cond_some _ _ _ e₂ in
     let (low, high) = and_parts _ _ test in
@@ -196,7 +196,8 @@ by_word word bytes rest event f other e some none = elim (cases_Bool (has_word w
 
 -- made by tools/facts: lemmas of lines
 -- the line of an event is read as that event
-pub line_again : (event : Event) (rest : List ℕ) → AreFieldsInRange event → line_at (line event ++ rest) ≡ Some (event, rest)
+pub line_again : (event : Event) (rest : List ℕ) → AreFieldsInRange event
+    → line_at (line event ++ rest) ≡ Some (event, rest)
 unfolding line_at other_at start_at stop_at restart_at tick_at close_at line has_word
 line_again (Events.Start client number interval action) rest fits = simp append_assoc (rw (
   field_again 32 client _ fits.0 (lit≤ tt),
@@ -216,7 +217,7 @@ line_again (Events.Restart client number serial interval action) rest fits = sim
   field_again 32 interval _ fits.3 (lit≤ tt),
   field_again 10 action _ fits.4 (lit≤ tt),
 ) refl)
-line_again (Events.Ticks count) rest fits = simp append_assoc (rw (count_again 10 count _ fits (lit≤ tt)) refl)
+line_again (Events.Ticks count) rest fits = simp append_assoc (rw (tick_count_again 10 count _ fits (lit≤ tt)) refl)
 line_again Events.Close rest fits = refl
 
 start_sound : (bytes rest : List ℕ) (event : Event) → start_at bytes ≡ Some (event, rest)
@@ -256,7 +257,7 @@ tick_sound : (bytes rest : List ℕ) (event : Event) → tick_at bytes ≡ Some 
     → AreFieldsInRange event × (codes "tick " ++ bytes ≡ line event ++ rest)
 unfolding tick_at line
 tick_sound bytes rest event e =
-    count_then 10 bytes _ _ e λ count r1 fits1 is1 e1.
+    tick_count_then 10 bytes _ _ e λ count r1 fits1 is1 e1.
     same_line (codes "tick ") bytes rest r1 event (Events.Ticks count) e1 (fits1)
     (rw (is1) (simp append_assoc))
 
@@ -293,7 +294,7 @@ line_fed (Events.Restart client number serial interval action) fits =
     (fits.0, (fits.1, (fits.2, (fits.3, (fits.4, tt))))) (simp append_assoc refl)
 line_fed (Events.Ticks count) fits =
     fed (codes "tick") (count ∷ []) (line (Events.Ticks count)) (search rules) (lit≤ tt)
-    (count_fits fits, tt) (simp append_assoc refl)
+    (tick_count_fits fits, tt) (simp append_assoc refl)
 line_fed Events.Close fits =
     fed (codes "close") ([]) (line Events.Close) (search rules) (lit≤ tt)
     tt refl

@@ -47,8 +47,8 @@ unfoldable pub field_at : ℕ → List ℕ → Read ℕ
 field_at end bytes = number_at bytes >>= λ n. strip (end ∷ []) n.1 >>= λ rest. Some (n.0, rest)
 
 -- a count of ticks, and what follows the byte that ends its field
-unfoldable pub count_at : ℕ → List ℕ → Read ℕ
-count_at end bytes =
+unfoldable pub tick_count_at : ℕ → List ℕ → Read ℕ
+tick_count_at end bytes =
     field_at end bytes >>= λ n. if (nat_le 1 n.0 && nat_le n.0 MAX_TICKS) then Some n else None
 
 -- made by tools/facts: what readers compute
@@ -82,7 +82,7 @@ restart_at bytes =
 -- what follows `tick `
 unfoldable pub tick_at : List ℕ → Read Event
 tick_at bytes =
-    count_at 10 bytes >>= λ count.
+    tick_count_at 10 bytes >>= λ count.
     Some (Events.Ticks count.0, count.1)
 
 -- what follows `close\n`

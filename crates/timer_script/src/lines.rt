@@ -16,7 +16,7 @@ ghost use Rattle.std.specs.Int.{from_le_bytes, w32};
 ghost use Rattle.std.specs.Str.Parse.{AllDigits, digits_value};
 ghost use Rattle.timer_script.specs.declared.lines.TheConstants.{MOST_DIGITS};
 ghost use Rattle.timer_script.specs.Script.{HasNoFeed};
-ghost use Rattle.timer_script.specs.Lines.{read_view, has_word, number_at, field_at, count_at, other_at, line_at};
+ghost use Rattle.timer_script.specs.Lines.{read_view, has_word, number_at, field_at, tick_count_at, other_at, line_at};
 // made by tools/facts: imports of readers
 ghost use Rattle.timer_script.specs.Lines.{start_at, stop_at, restart_at, tick_at, close_at};
 
@@ -88,9 +88,9 @@ fn read_field(bytes: &[u8], end: u8) -> Option<(u64, &[u8])>
 
 /// A count of ticks, and what follows the byte that ends its field.
 #[inline(always)]
-#[tactic(auto, unfolding(crate::specs::Lines::count_at))]
-fn read_count(bytes: &[u8], end: u8) -> Option<(u64, &[u8])>
-    ensures { read_view (λ n. n) result ≡ count_at end bytes.now }
+#[tactic(auto, unfolding(crate::specs::Lines::tick_count_at))]
+fn read_tick_count(bytes: &[u8], end: u8) -> Option<(u64, &[u8])>
+    ensures { read_view (λ n. n) result ≡ tick_count_at end bytes.now }
 {
     let (count, rest) = read_field(bytes, end)?;
     if count == 0 || count > MAX_TICKS {
@@ -185,7 +185,7 @@ fn read_restart(bytes: &[u8]) -> Option<(Event, &[u8])>
 fn read_tick(bytes: &[u8]) -> Option<(Event, &[u8])>
     ensures { read_view (λ e. e) result ≡ tick_at bytes.now }
 {
-    let (count, rest) = read_count(bytes, b'\n')?;
+    let (count, rest) = read_tick_count(bytes, b'\n')?;
     let event = Event::Ticks { count };
     Some((event, rest))
 }
@@ -201,8 +201,8 @@ fn read_close(bytes: &[u8]) -> Option<(Event, &[u8])>
 }
 
 // by hand
-/// The event of a line of another kind. Inlined as a function of its own, so that the results of its calls take no time
-/// in lines of those kinds.
+/// The event of a line whose word is read by a call. Inlined as a function of its own, so that the results of its calls
+/// take no time in lines of other kinds. With all readers in place, `read_line` would be too large to be inlined.
 #[inline(always)]
 #[tactic(auto, unfolding(crate::specs::Lines::other_at))]
 fn read_other(bytes: &[u8]) -> Option<(Event, &[u8])>
