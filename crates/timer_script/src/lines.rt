@@ -1,12 +1,8 @@
 //! One line of a script, read from the front of the bytes; and where it ends.
 //!
-//!     start CLIENT NUMBER INTERVAL ACTION   the client's request NUMBER starts a timer
-//!     stop CLIENT NUMBER SERIAL             the client's request NUMBER stops a timer
-//!     restart CLIENT NUMBER SERIAL INTERVAL ACTION
-//!                                           the client's request NUMBER stops a timer and starts another
-//!     tick COUNT                            that many ticks, 1 to 1,000,000
-//!     close                                 the close
+//!     start 0 1 130 7    client 0's request 1 starts a timer that expires after 130 ticks, with action 7
 //!
+//! docs/formats.md lists the lines. The word of a line leads to the reader of its fields, which returns the event.
 //! Fields are separated by one space, and a line feed ends the line. A number is at most `LAST` and
 //! has no sign and no leading zero. Each reader returns what it read and the bytes after it, so no line
 //! is copied.
