@@ -12,7 +12,12 @@ setup_file() {
 }
 
 needs_venv() { "$python" -c 'import ensurepip, venv' 2> /dev/null || skip "no $python with venv"; }
-new_venv() { "$python" -m venv "$work/$1"; }
+# new_venv NAME: with no pip of its own; pip_in NAME WORD..: that of the first one, for this one
+new_venv() {
+    [ -e "$work/pip" ] || "$python" -m venv "$work/pip"
+    "$python" -m venv --without-pip "$work/$1"
+}
+pip_in() { "$work/pip/bin/pip" --python "$work/$1/bin/python" "${@:2}"; }
 in_package() { (cd / && PYTHONPATH=$work/python "${@:1}"); }
 wheels_of() { "$python" -c "import sys; sys.path[:0] = ['$1']; import backend; print(backend.build_wheel('$2'))"; }
 
@@ -48,13 +53,16 @@ wheels_of() { "$python" -c "import sys; sys.path[:0] = ['$1']; import backend; p
     [ "$status" -eq 1 ]
 }
 
-# Built by one Python, used by the others: those of the path and Debian's, each under one of its names.
+# Built by one Python, with which the tests above have used it, and used by the others: those of the path and Debian's, each
+# under one of its names.
 @test "one extension module works in each Python from 3.11 on" {
     needs_python_package
-    local other executable tried=" "
+    executable_of() { "$1" -c 'import os, sys; print(os.path.realpath(sys.executable))'; }
+    local other executable tried
+    tried=" $(executable_of "$python") "
     for other in python3 /usr/bin/python3 python3.{11..15}; do
         "$other" -c 'import sys; sys.exit(sys.version_info < (3, 11))' 2> /dev/null || continue
-        executable=$("$other" -c 'import os, sys; print(os.path.realpath(sys.executable))')
+        executable=$(executable_of "$other")
         [[ $tried != *" $executable "* ]] || continue
         tried+="$executable "
         in_package "$other" -c 'import sys, timers; print(sys.version.split()[0], timers.Timers())'
@@ -107,14 +115,14 @@ wheels_of() { "$python" -c "import sys; sys.path[:0] = ['$1']; import backend; p
     needs_python_package
     needs_venv
     new_venv installed
-    CFLAGS=-O0 "$work/installed/bin/pip" install ./bindings/python
+    CFLAGS=-O0 pip_in installed install ./bindings/python
     printf '240: egg\n300: tea\n' | diff - <(cd / && "$work/installed/bin/python" "$OLDPWD/examples/c/first.py")
 }
 @test "the wheel names what it is for and what it is, and is removed again" {
     [ -e "$work/installed" ] || skip "nothing was installed"
     package=$(cd / && "$work/installed/bin/python" -c 'import os, timers; print(os.path.dirname(timers.__file__))')
     cmp generated/NOTICE "$package"/../timers-*.dist-info/licenses/NOTICE
-    "$work/installed/bin/pip" show --files timers > "$work/shown"
+    pip_in installed show --files timers > "$work/shown"
     for line in "Version: $(cat tools/install/version)" "Summary: Timers on hierarchical timing wheels.*" '  timers/_timers.abi3.so' \
         '  timers/py.typed' '  timers/_timers.pyi' '  timers/desk.py' '  timers/asyncio.py'; do
         grep -x "$line" "$work/shown"
@@ -125,7 +133,7 @@ wheels_of() { "$python" -c "import sys; sys.path[:0] = ['$1']; import backend; p
     grep -q "^# timers" "$package"/../timers-*.dist-info/METADATA
     is_hardened "$package/_timers.abi3.so"
     [ "$(nm -D --defined-only "$package/_timers.abi3.so" | sed 's/.* //')" = PyInit__timers ]
-    "$work/installed/bin/pip" uninstall --yes timers
+    pip_in installed uninstall --yes timers
     [ ! -e "$package" ]
 }
 @test "the source distribution alone builds, and has its tests" {
@@ -135,7 +143,7 @@ wheels_of() { "$python" -c "import sys; sys.path[:0] = ['$1']; import backend; p
     mkdir -p "$work/sdist"
     "$python" -c "import sys; sys.path[:0] = ['bindings/python']; import backend; backend.build_sdist('$work/sdist')"
     new_venv "from sources"
-    (cd / && "$work/from sources/bin/pip" install "$work"/sdist/timers-*.tar.gz)
+    (cd / && pip_in "from sources" install "$work"/sdist/timers-*.tar.gz)
     tar -xf "$work"/sdist/timers-*.tar.gz -C "$work/sdist"
     (cd / && "$work/from sources/bin/python" "$work"/sdist/timers-*/tests/desk_test.py)
     cmp "$work"/sdist/timers-*/c/timers.c generated/timers.c
@@ -147,7 +155,7 @@ wheels_of() { "$python" -c "import sys; sys.path[:0] = ['$1']; import backend; p
     needs_venv
     copy_tree "$work/tree"
     new_venv editable
-    (cd / && CFLAGS=-O0 "$work/editable/bin/pip" install --editable "$work/tree/bindings/python")
+    (cd / && CFLAGS=-O0 pip_in editable install --editable "$work/tree/bindings/python")
     echo 'CHANGED = 1' >> "$work/tree/bindings/python/src/timers/__init__.py"
     (cd / && "$work/editable/bin/python" -c 'import timers; assert timers.CHANGED and timers.Timers().start(1, 2)')
 }

@@ -5,6 +5,7 @@
 Some of them look at the real clock. So those that have failed run once more, by themselves.
 """
 import asyncio
+import gc
 import importlib
 import sys
 import unittest
@@ -40,7 +41,9 @@ def cases(suite):
 
 def run(tests):
     """Those that have failed."""
-    result = unittest.TextTestRunner(verbosity=0).run(unittest.TestSuite(tests))
+    suite = unittest.TestSuite(tests)
+    gc.freeze()  # hundreds of tests collect what they leave, and need not look for it in all that was there before
+    result = unittest.TextTestRunner(verbosity=0).run(suite)
     return {getattr(test, "test_case", test).id() for test, _ in result.failures + result.errors}
 
 
@@ -56,7 +59,7 @@ def load(names):
 
 def main(names):
     use_the_wheel()
-    failed = run(load(names))
+    failed = set().union(*(run(load([name])) for name in names))
     again = [test for test in load(names) if test.id() in failed]
     sys.exit(bool(failed) and (len(again) < len(failed) or bool(run(again))))
 

@@ -579,10 +579,10 @@ def refuse_memory():
         more, failed = 0, True
         while failed or more < 4:  # the call runs again, with one more allocation before that which is refused
             timers = Timers(first_tick=1000)
-            for number in range(300):  # numbers up to 256 need no memory
+            for number in range(260):  # numbers up to 256 need no memory
                 timers.stop(timers.start(1, number))
             handle = [timers.start_at(number % 3, Action()) for number in range(20)][0]
-            for number in range(200):
+            for number in range(80):  # with the others more than a batch of 64
                 timers.start(1 + number, Action())
             _testcapi.set_nomemory(more, more + 1)
             try:
