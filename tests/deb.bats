@@ -10,6 +10,8 @@ setup_file() {
     version=$(cat tools/install/version)
     architecture=$(dpkg --print-architecture)
     export version architecture work=$BATS_FILE_TMPDIR root=$BATS_FILE_TMPDIR/root
+    # What is packed is optimized as little as Debian's hardening, for which lintian looks, lets it be.
+    export DEB_CFLAGS_APPEND="-O1 -g1"
 }
 
 needs_debian() { needs dpkg-buildpackage dh; }
@@ -83,7 +85,7 @@ EOT
     debian/rules override_dh_auto_install
     [ -x debian/tmp/usr/bin/timers ]
     sed -i '/timers_take;/d' tools/install/timers.map
-    tools/lib build/lib
+    CFLAGS=-O0 tools/lib build/lib
     cp "build/lib/libtimers.so.$version" debian/libtimers1/usr/lib/*/
     run dh_makeshlibs --package=libtimers1
     [ "$status" -ne 0 ]
@@ -102,7 +104,7 @@ EOT
 
 @test "packages for arm64 are made" {
     needs_cross
-    tools/deb arm64
+    DEB_CFLAGS_APPEND=-O0 tools/deb arm64
     has_its_packages build/deb-arm64 arm64
 }
 
@@ -124,10 +126,12 @@ EOT
     qemu-aarch64-static -L /usr/aarch64-linux-gnu "$work/arm64/usr/bin/timers" < examples/one_timer | diff examples/one_timer.stdout -
 }
 
+# Their source is the one above.
 @test "lintian finds no error in them" {
     needs_cross
     needs lintian
-    lintian --fail-on error --allow-root build/deb-arm64/*.changes
+    cmp build/deb/timers_*.dsc build/deb-arm64/timers_*.dsc
+    lintian --fail-on error --allow-root build/deb-arm64/*.deb
 }
 
 inside() { timeout 120 chroot "$root" /usr/bin/env -i PATH=/usr/sbin:/usr/bin:/sbin:/bin DEBIAN_FRONTEND=noninteractive "$@"; }
