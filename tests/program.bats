@@ -17,21 +17,27 @@ setup() {
 
 # In arguments, inputs and outputs names as {NoSuch} and {LAST} stand for words and limits.
 put_names() { LC_ALL=C sed -f "$BATS_FILE_TMPDIR/names" "$@"; }
-# named FILE WANTED: the file has this text
-named() { cmp "$1" <(put_names "$2"); }
+# with_names TEXT: the text, its escapes read. Most have no name, and thousands are written.
+with_names() {
+    if [[ $1 == *{* ]]; then printf '%b' "$1" | put_names; else printf '%b' "$1"; fi
+}
+# named FILE TEXT: the file has this text
+named() { cmp "$1" <(with_names "$2"); }
 # leaves STATUS ARGUMENTS OUTPUT ERRORS: a call that reads the file has this status and writes these texts
 leaves() {
-    local status=0
-    # shellcheck disable=SC2046,SC2086  # words
-    "$TIMERS" $(put_names <<< "$2") < input > output 2> errors || status=$?
-    [ "$status" -eq "$(put_names <<< "$1")" ] && named output <(printf '%b' "$3") && named errors <(printf '%b' "$4") && return
+    local status=0 wanted=$1 arguments=$2
+    [[ $1 != *{* ]] || wanted=$(put_names <<< "$1")
+    [[ $2 != *{* ]] || arguments=$(put_names <<< "$2")
+    # shellcheck disable=SC2086  # words
+    "$TIMERS" $arguments < input > output 2> errors || status=$?
+    [ "$status" -eq "$wanted" ] && named output "$3" && named errors "$4" && return
     echo "timers $2: status $status"
     return 1
 }
 
 # gives STATUS ARGUMENTS INPUT OUTPUT [ERRORS]: the same with this input
 gives() {
-    printf '%b' "$3" | put_names > input
+    with_names "$3" > input
     leaves "$1" "$2" "$4" "${5:-}" && return
     echo "for $3"
     return 1
@@ -553,7 +559,7 @@ help_of() {
         local status=0
         # shellcheck disable=SC2086  # words
         "$TIMERS" $1 > /dev/full 2> errors || status=$?
-        [ "$status" -eq "$(put_names <<< "{FAILED}")" ] && named errors <(echo "{Write}")
+        [ "$status" -eq "$(put_names <<< "{FAILED}")" ] && named errors "{Write}\n"
     }
     for words in --help help; do whole "$words" "Plays a script" "$(last_of SCRIPTS)"; done
     for words in "play --help" "help play"; do whole "$words" "Plays the script" "$(last_of SCHEMES)"; done
