@@ -13,6 +13,13 @@ small="-std=c11 -Wall -Wextra -Werror -pedantic -DTIMERS_NO_MALLOC -DTIMERS_NO_D
 arm="arm-linux-gnueabihf-gcc -static"
 needs_arm() { needs arm-linux-gnueabihf-gcc qemu-arm-static; }
 
+# by COMPILER: names the library's object, which is made once
+by() {
+    local object=$work/${1%% *}.o
+    [ -e "$object" ] || $1 $small -c -o "$object" generated/timers.c
+    echo "$object"
+}
+
 # rows HEADING: those of the page's table below the heading, with a space between two cells, and without commas
 rows() { sed -n "/^## $1\$/,/^## /p" "$page" | sed -nE 's/^\| (.*) \|$/\1/p' | tr -d '`,' | sed 's/ | / /g'; }
 # at_most BOUND NUMBER NAME
@@ -47,7 +54,7 @@ int main(void)
     return timers_new(&timers, TIMERS_WIDE, 0) != TIMERS_NO_MEMORY;
 }
 EOT
-    cc $small -o "$work/none" "$work/none.c" generated/timers.c
+    cc $small -o "$work/none" "$work/none.c" "$(by cc)"
     "$work/none"
     run nm -u "$work/none"
     [[ $output != *alloc* ]]
@@ -65,12 +72,12 @@ EOT
 }
 @test "the example runs in a static buffer" {
     needs cc
-    cc $small -o "$work/static" examples/c/static_memory.c generated/timers.c
+    cc $small -o "$work/static" examples/c/static_memory.c "$(by cc)"
     "$work/static" | diff examples/c/static_memory.stdout -
 }
 @test "and on armhf" {
     needs_arm
-    $arm $small -o "$work/static" examples/c/static_memory.c generated/timers.c
+    $arm $small -o "$work/static" examples/c/static_memory.c "$(by "$arm")"
     qemu-arm-static "$work/static" | diff examples/c/static_memory.stdout -
 }
 
@@ -89,13 +96,13 @@ EOT
 
 @test "the wheels take the memory that the page says, with 10, 100 and 1,000 timers" {
     needs cc
-    cc $small -o "$work/small" tests/c/small.c generated/timers.c
+    cc $small -o "$work/small" tests/c/small.c "$(by cc)"
     "$work/small" memory > "$work/memory"
     rows Memory | sed -n 's/^TIMERS_[A-Z0-9]* //p' | diff - "$work/memory"
 }
 @test "and on armhf, too" {
     needs_arm
-    $arm $small -o "$work/small" tests/c/small.c generated/timers.c
+    $arm $small -o "$work/small" tests/c/small.c "$(by "$arm")"
     qemu-arm-static "$work/small" memory > "$work/memory"
     rows Memory | sed -n 's/^TIMERS_[A-Z0-9]* //p' | diff - "$work/memory"
 }
@@ -169,11 +176,12 @@ int main(void)
     return 0;
 }
 EOT
-    for flags in "-O2 -Werror" "-O1 -fsanitize=undefined -fno-sanitize-recover=all"; do
+    for flags in "-O2 -Werror" "-O0 -fsanitize=undefined -fno-sanitize-recover=all"; do
         flags="-std=c11 -Wall -Wextra -pedantic $flags -DTIMERS_NO_SMOOTH -Iinclude -pthread"
-        cc $flags -o "$work/none" "$work/none.c" generated/timers.c
+        cc $flags -c -o "$work/no_smooth.o" generated/timers.c
+        cc $flags -o "$work/none" "$work/none.c" "$work/no_smooth.o"
         "$work/none"
-        cc $flags -o "$work/stress" tests/c/stress.c generated/timers.c
+        cc $flags -o "$work/stress" tests/c/stress.c "$work/no_smooth.o"
         "$work/stress" 200000 3
     done
 }
@@ -195,17 +203,18 @@ takes() {
     $arm -O2 $small -o "$work/small" tests/c/small.c generated/timers.c
     none=0
     none=$(takes nothing)
-    for name in tick wakeup start stop restart take; do
+    for name in tick wakeup stop restart take start; do
         bound=$(rows Time | sed -nE "s/^timers_$name( .*)? ([0-9]+)$/\2/p")
-        at_most "$bound" "$(takes $name)" $name
         at_most "$bound" "$(takes $name 1000)" "$name, of 1,000"
+        taken=$(takes $name)
+        at_most "$bound" "$taken" $name
     done
-    at_most "$(rows Time | sed -n 's/^each timer that moves to a lower wheel //p')" "$(($(takes start+move) - $(takes start)))" "a move"
+    at_most "$(rows Time | sed -n 's/^each timer that moves to a lower wheel //p')" "$(($(takes start+move) - taken))" "a move, which follows a start"
 }
 
 @test "a program that has another header with the guard TIMERS_H gets this one" {
     needs cc
     printf '#define TIMERS_H\n#include <timers.h>\nint main(void) { return timers_version() != TIMERS_VERSION_NUMBER; }\n' > "$work/guard.c"
-    cc $small -o "$work/guard" "$work/guard.c" generated/timers.c
+    cc $small -o "$work/guard" "$work/guard.c" "$(by cc)"
     "$work/guard"
 }

@@ -241,14 +241,18 @@ EOT
     done
 }
 
-# The comment beside each misuse is part of what the compiler says.
+# The comment beside each misuse is part of what the compiler says. It reads what all have, the headers, once.
 @test "misuses in C++ don't compile" {
     needs "$CXX"
     sed -n 's/^#.*if MISUSE == [0-9]* *\/\* \(.*\) \*\/$/\1/p' bindings/cpp/misuse.cpp > "$work/misuses"
     [ "$(wc -l < "$work/misuses")" -eq 16 ]
     for compiler in g++ clang++; do
         command -v "$compiler" || continue
-        misuse() { "$compiler" -std=c++17 -DMISUSE="$1" -Werror -Wall -Wextra -Iinclude -fsyntax-only bindings/cpp/misuse.cpp; }
+        mkdir "$work/$compiler"
+        grep '^#include' bindings/cpp/misuse.cpp > "$work/$compiler/headers.hpp"
+        with_flags() { "$compiler" -std=c++17 -Werror -Wall -Wextra -Iinclude "$@"; }
+        with_flags -x c++-header -o "$work/$compiler/headers.hpp.gch" "$work/$compiler/headers.hpp"
+        misuse() { with_flags -DMISUSE="$1" -include "$work/$compiler/headers.hpp" -fsyntax-only bindings/cpp/misuse.cpp; }
         misuse 0
         number=0
         while read -r text; do says "$text" misuse $((++number)); done < "$work/misuses"
