@@ -3,6 +3,7 @@
 import os
 import random
 import subprocess
+import sys
 
 import cases
 
@@ -83,7 +84,7 @@ def compile_module(clang, folder):
 
 
 def translate(tools, module, kind='test'):
-    return subprocess.run([f'{tools}/translate', kind, module], capture_output=True, text=True)
+    return subprocess.run([sys.executable, f'{tools}/translate', kind, module], capture_output=True, text=True)
 
 
 def compare(tools, folder, *compiler):
@@ -106,13 +107,46 @@ def translated(tools, folder, text, kind='test'):
     return translate(tools, f'{folder}/text.ll', kind)
 
 
-def is_refused(tools, folder, text, line):
-    """Whether a module is refused with this line, and what was said."""
-    done = translated(tools, folder, text)
-    return done.returncode != 0 and f' line {line}: ' in done.stderr and 'Traceback' not in done.stderr, done.stderr
+# Runs tools/translate over each file named. Each has a process of its own, which begins with the translator read, and writes its
+# status, what it printed and its errors.
+EACH = '''import os, runpy, sys
+tools, *paths = sys.argv[1:]
+sys.path.insert(0, tools)
+import translator.file
+for path in paths:
+    child = os.fork()
+    if child == 0:
+        for end, to in (".c", 1), (".errors", 2):
+            os.dup2(os.open(path + end, os.O_WRONLY | os.O_CREAT | os.O_TRUNC), to)
+        sys.argv = [tools + "/translate", "test", path]
+        runpy.run_path(sys.argv[0], run_name="__main__")
+        sys.exit()
+    with open(path + ".status", "w") as file:
+        file.write(str(os.waitstatus_to_exitcode(os.waitpid(child, 0)[1])))
+'''
 
 
-def has_all(tools, folder, text, *wanted):
-    """Whether a module's translation has these texts."""
-    done = translated(tools, folder, text)
-    return done.returncode == 0 and all(word in done.stdout for word in wanted)
+def read(path):
+    with open(path, encoding='ascii') as file:
+        return file.read()
+
+
+def translations(tools, folder, texts):
+    """The status, output and errors of each text."""
+    paths = [f'{folder}/text{number}.ll' for number in range(len(texts))]
+    for path, text in zip(paths, texts):
+        write(path, text)
+        write(f'{path}.status', '')
+    subprocess.run([sys.executable, '-c', EACH, tools, *paths], capture_output=True)
+    return [[read(path + end) for end in ('.status', '.c', '.errors')] if read(f'{path}.status') else ['', '', 'Traceback'] for path in paths]
+
+
+def texts_seen(tools, folder):
+    """Of each text of cases.py what is wanted, whether the translation has it or is refused at its line, and what was said."""
+    cases_of_text = cases.EXPECTED + cases.REFUSED
+    for (text, *wanted), (status, output, errors) in zip(cases_of_text, translations(tools, folder, [text for text, *_ in cases_of_text])):
+        if isinstance(wanted[0], int):
+            refused = status != '0' and f' line {wanted[0]}: ' in errors and 'Traceback' not in errors
+            yield f'refused: {text.splitlines()[wanted[0] - 1].strip()}', refused, errors
+        else:
+            yield f'written: {wanted[0]}', status == '0' and all(word in output for word in wanted), errors
