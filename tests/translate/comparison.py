@@ -1,5 +1,6 @@
 """Compiles the module of cases.py as it is, and translated by gcc or clang, and compares the results of all calls."""
 # SPDX-License-Identifier: MIT OR Apache-2.0
+import json
 import os
 import random
 import subprocess
@@ -107,46 +108,41 @@ def translated(tools, folder, text, kind='test'):
     return translate(tools, f'{folder}/text.ll', kind)
 
 
-# Runs tools/translate over each file named. Each has a process of its own, which begins with the translator read, and writes its
-# status, what it printed and its errors.
-EACH = '''import os, runpy, sys
+# Runs tools/translate over each file named, and prints what each printed and the error with which it ended. It has read the
+# translator once, which keeps nothing of a module.
+EACH = '''import contextlib, io, json, runpy, sys, traceback
 tools, *paths = sys.argv[1:]
 sys.path.insert(0, tools)
-import translator.file
+ends = []
 for path in paths:
-    child = os.fork()
-    if child == 0:
-        for end, to in (".c", 1), (".errors", 2):
-            os.dup2(os.open(path + end, os.O_WRONLY | os.O_CREAT | os.O_TRUNC), to)
-        sys.argv = [tools + "/translate", "test", path]
-        runpy.run_path(sys.argv[0], run_name="__main__")
-        sys.exit()
-    with open(path + ".status", "w") as file:
-        file.write(str(os.waitstatus_to_exitcode(os.waitpid(child, 0)[1])))
+    sys.argv, error = [tools + "/translate", "test", path], None
+    with contextlib.redirect_stdout(io.StringIO()) as output:
+        try:
+            runpy.run_path(sys.argv[0], run_name="__main__")
+        except SystemExit as exit:
+            error = str(exit.code)
+        except Exception:
+            error = traceback.format_exc()
+    ends.append([output.getvalue(), error])
+print(json.dumps(ends))
 '''
 
 
-def read(path):
-    with open(path, encoding='ascii') as file:
-        return file.read()
-
-
 def translations(tools, folder, texts):
-    """The status, output and errors of each text."""
+    """What is written of each text, and the error that ends it, or None."""
     paths = [f'{folder}/text{number}.ll' for number in range(len(texts))]
     for path, text in zip(paths, texts):
         write(path, text)
-        write(f'{path}.status', '')
-    subprocess.run([sys.executable, '-c', EACH, tools, *paths], capture_output=True)
-    return [[read(path + end) for end in ('.status', '.c', '.errors')] if read(f'{path}.status') else ['', '', 'Traceback'] for path in paths]
+    done = subprocess.run([sys.executable, '-c', EACH, tools, *paths], capture_output=True, text=True)
+    return json.loads(done.stdout) if done.returncode == 0 else [['', done.stderr]] * len(texts)
 
 
 def texts_seen(tools, folder):
     """Of each text of cases.py what is wanted, whether the translation has it or is refused at its line, and what was said."""
     cases_of_text = cases.EXPECTED + cases.REFUSED
-    for (text, *wanted), (status, output, errors) in zip(cases_of_text, translations(tools, folder, [text for text, *_ in cases_of_text])):
+    for (text, *wanted), (output, error) in zip(cases_of_text, translations(tools, folder, [text for text, *_ in cases_of_text])):
         if isinstance(wanted[0], int):
-            refused = status != '0' and f' line {wanted[0]}: ' in errors and 'Traceback' not in errors
-            yield f'refused: {text.splitlines()[wanted[0] - 1].strip()}', refused, errors
+            refused = error is not None and f' line {wanted[0]}: ' in error and 'Traceback' not in error
+            yield f'refused: {text.splitlines()[wanted[0] - 1].strip()}', refused, error or ''
         else:
-            yield f'written: {wanted[0]}', status == '0' and all(word in output for word in wanted), errors
+            yield f'written: {wanted[0]}', error is None and all(word in output for word in wanted), error or ''
