@@ -195,7 +195,7 @@ EOT
 int main() { for (std::uint64_t t, r; std::cin >> t >> r; ) std::cout << timing::desk::config(1, t, r).room << "\n"; }
 EOT
     rooms runs
-    needs_python_package
+    CFLAGS=-O0 needs_python_package
     PYTHONPATH=$work/python rooms python3 -B -c '
 import sys, timers.desk
 for line in sys.stdin:
