@@ -16,18 +16,18 @@ setup() {
 }
 
 # In arguments, inputs and outputs names as {NoSuch} and {LAST} stand for words and limits.
-put_names() { LC_ALL=C sed -f "$BATS_FILE_TMPDIR/names" "$@"; }
+put_names() { LC_ALL=C sed -f "$BATS_FILE_TMPDIR/names"; }
 # with_names TEXT: the text, its escapes read. Most have no name, and thousands are written.
 with_names() {
-    if [[ $1 == *{* ]]; then printf '%b' "$1" | put_names; else printf '%b' "$1"; fi
+    if [[ $1 == *"{"* ]]; then printf '%b' "$1" | put_names; else printf '%b' "$1"; fi
 }
 # named FILE TEXT: the file has this text
 named() { cmp "$1" <(with_names "$2"); }
 # leaves STATUS ARGUMENTS OUTPUT ERRORS: a call that reads the file has this status and writes these texts
 leaves() {
     local status=0 wanted=$1 arguments=$2
-    [[ $1 != *{* ]] || wanted=$(put_names <<< "$1")
-    [[ $2 != *{* ]] || arguments=$(put_names <<< "$2")
+    [[ $1 != *"{"* ]] || wanted=$(put_names <<< "$1")
+    [[ $2 != *"{"* ]] || arguments=$(put_names <<< "$2")
     # shellcheck disable=SC2086  # words
     "$TIMERS" $arguments < input > output 2> errors || status=$?
     [ "$status" -eq "$wanted" ] && named output "$3" && named errors "$4" && return
