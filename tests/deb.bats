@@ -10,8 +10,6 @@ setup_file() {
     version=$(cat tools/install/version)
     architecture=$(dpkg --print-architecture)
     export version architecture work=$BATS_FILE_TMPDIR root=$BATS_FILE_TMPDIR/root
-    # What is packed is optimized as little as Debian's hardening, for which lintian looks, lets it be.
-    export DEB_CFLAGS_APPEND="-O1 -g1"
 }
 
 needs_debian() { needs dpkg-buildpackage dh; }

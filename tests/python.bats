@@ -53,16 +53,13 @@ wheels_of() { "$python" -c "import sys; sys.path[:0] = ['$1']; import backend; p
     [ "$status" -eq 1 ]
 }
 
-# Built by one Python, with which the tests above have used it, and used by the others: those of the path and Debian's, each
-# under one of its names.
+# Built by one Python, used by the others: those of the path and Debian's, each under one of its names.
 @test "one extension module works in each Python from 3.11 on" {
     needs_python_package
-    executable_of() { "$1" -c 'import os, sys; print(os.path.realpath(sys.executable))'; }
-    local other executable tried
-    tried=" $(executable_of "$python") "
+    local other executable tried=" "
     for other in python3 /usr/bin/python3 python3.{11..15}; do
         "$other" -c 'import sys; sys.exit(sys.version_info < (3, 11))' 2> /dev/null || continue
-        executable=$(executable_of "$other")
+        executable=$("$other" -c 'import os, sys; print(os.path.realpath(sys.executable))')
         [[ $tried != *" $executable "* ]] || continue
         tried+="$executable "
         in_package "$other" -c 'import sys, timers; print(sys.version.split()[0], timers.Timers())'

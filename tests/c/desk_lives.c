@@ -170,6 +170,7 @@ int main(int argc, char **argv)
 	timers_desk_free(&d);
 	printf("%zu numbers, %" PRIu64 " lives each: %" PRIu64 " clients received all their words, ", clients, lives, had_all);
 	printf("%" PRIu64 " words in all, %" PRIu64 " timers stopped\n", words, stopped);
-	CHECK(clients * lives < 20 || (had_all > 0 && stopped > 0));
+	/* Of many clients some do each, however busy the machine is; of thirty perhaps none. */
+	CHECK(clients * lives < 200 || (had_all > 0 && stopped > 0));
 	return 0;
 }
