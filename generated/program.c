@@ -44425,29 +44425,29 @@ static NOINLINE void tp_lines_read_tick(byte *p1, byte *p2, uint64_t n3)
 	uint64_t n4 = 0;
 	uint64_t n5 = 0;
 	for (;;) {
-		if (n4 == n3) {
+		if (n5 == n3) {
 			n6 = n3;
 			break;
 		}
-		uint8_t n7 = load8(at(p2, n4));
+		uint8_t n7 = load8(at(p2, n5));
 		if ((uint8_t)(n7 - 48) >= 10) {
-			n6 = n4;
+			n6 = n5;
 			break;
 		}
-		n4 = n4 + 1;
-		n5 = (n5 * 10) + (uint64_t)(uint8_t)(n7 & 15);
+		n4 = (n4 * 10) + (uint64_t)(uint8_t)(n7 & 15);
+		n5 = n5 + 1;
 	}
 	switch (n6) {
 	case 0: {
 		goto L1;
 	}
 	case 1: {
-		if (n5 > UINT64_C(1152921504606846975))
+		if (n4 > UINT64_C(1152921504606846975))
 			goto L1;
 		break;
 	}
 	default: {
-		if (((int)(load8(p2) == 48) | (int)(n6 > 19)) || (n5 > UINT64_C(1152921504606846975)))
+		if (((int)(load8(p2) == 48) | (int)(n6 > 19)) || (n4 > UINT64_C(1152921504606846975)))
 			goto L1;
 		break;
 	}
@@ -44455,17 +44455,15 @@ static NOINLINE void tp_lines_read_tick(byte *p1, byte *p2, uint64_t n3)
 	p8 = at(p2, n6);
 	if (n3 != n6) {
 		if (load8(p8) == 10) {
-			if ((n5 - 1000001) < UINT64_C(18446744073708551616)) {
-				memset(p1, 0, 72);
+			if ((n4 - 1000001) >= UINT64_C(18446744073708551616)) {
+				store64u(p1, 1);
+				store64u(p1 + 8, 3);
+				store64u(p1 + 16, n4);
+				memset(p1 + 24, 0, 32);
+				storeptru(p1 + 56, p8 + 1);
+				store64u(p1 + 64, n3 + (n6 ^ UINT64_MAX));
 				return;
 			}
-			store64u(p1, 1);
-			store64u(p1 + 8, 3);
-			store64u(p1 + 16, n5);
-			memset(p1 + 24, 0, 32);
-			storeptru(p1 + 56, p8 + 1);
-			store64u(p1 + 64, n3 + (n6 ^ UINT64_MAX));
-			return;
 		}
 	}
 L1:
@@ -51690,8 +51688,8 @@ L2:
 			store64(p2 + 72, n20);
 			if (load8(at(at(p11, n15), UINT64_MAX)) == 10) {
 				uint32_t n38;
-				uint64_t n70, n71, n72, n73, n74, n75, n95, n96, n97, n98, n99, n100;
-				uint8_t n94;
+				uint64_t n70, n71, n72, n73, n75, n94, n97, n98, n99, n100;
+				uint8_t n74, n95, n96;
 				uint8_t n29 = load8(p2);
 				uint64_t n30 = load64(p2 + 80);
 				memset(p9, 0, 16);
@@ -51979,9 +51977,9 @@ L2:
 					if ((int)((int)b89 | (int)b91) | (int)b93)
 						goto L3;
 					tp_lines_read_tick(p8, p25 + 5, n28 - 5);
-					n94 = load8(p8);
-					n95 = load64u(p8 + 8);
-					n96 = load64u(p8 + 16);
+					n94 = load64u(p8 + 16);
+					n95 = load8(p8);
+					n96 = load8(p8 + 8);
 					n97 = load64u(p8 + 24);
 					n98 = load64u(p8 + 32);
 					n99 = load64u(p8 + 40);
@@ -52004,22 +52002,22 @@ L2:
 					if ((int)b102 | (int)b104)
 						goto L3;
 					tp_lines_read_restart(p8, p25 + 8, n28 - 8);
-					n94 = load8(p8);
-					n95 = load64u(p8 + 8);
-					n96 = load64u(p8 + 16);
+					n94 = load64u(p8 + 16);
+					n95 = load8(p8);
+					n96 = load8(p8 + 8);
 					n97 = load64u(p8 + 24);
 					n98 = load64u(p8 + 32);
 					n99 = load64u(p8 + 40);
 					n100 = load64u(p8 + 48);
 				}
-				if (n94 != 1)
+				if (n95 != 1)
 					goto L6;
 				n70 = n100;
 				n71 = n99;
 				n72 = n98;
 				n73 = n97;
-				n74 = n95;
-				n75 = n96;
+				n74 = n96;
+				n75 = n94;
 				goto L7;
 L5:
 				{
@@ -52140,7 +52138,7 @@ L5:
 L7:
 				{
 					uint64_t n126;
-					uint64_t n123 = n74 & 255;
+					uint64_t n123 = (uint64_t)n74;
 					uint64_t n124 = load64(p2 + 16);
 					if (load64(p2 + 24) == n124) {
 						bool b125 = tp_std_alloc_vec_Vec_grow_amortized_5(p2 + 8);
@@ -53285,9 +53283,9 @@ L1:
 					goto L9;
 L5:
 					{
-						uint8_t n174;
-						uint64_t n175, n176, n177, n178, n179, n180, n182, n183, n185;
-						byte *p181;
+						byte *p174;
+						uint64_t n175, n176, n179, n180, n181, n182, n183, n185;
+						uint8_t n177, n178;
 						bool b184, b186;
 						memset(p48, 0, 72);
 						uint32_t n167 = ((((uint32_t)load8(p84 + 3) << 24) | ((uint32_t)load8(p84 + 2) << 16)) | ((uint32_t)load8(p84 + 1) << 8)) | (uint32_t)load8(p84);
@@ -53314,15 +53312,15 @@ L5:
 							}
 							if (!((int)((int)b169 | (int)b171) | (int)b173)) {
 								tp_lines_read_tick(p48, p84 + 5, n85 - 5);
-								n174 = load8(p48);
-								n175 = load64u(p48 + 8);
+								p174 = loadptru(p48 + 56);
+								n175 = load64u(p48 + 64);
 								n176 = load64u(p48 + 16);
-								n177 = load64u(p48 + 24);
-								n178 = load64u(p48 + 32);
-								n179 = load64u(p48 + 40);
-								n180 = load64u(p48 + 48);
-								p181 = loadptru(p48 + 56);
-								n182 = load64u(p48 + 64);
+								n177 = load8(p48);
+								n178 = load8(p48 + 8);
+								n179 = load64u(p48 + 24);
+								n180 = load64u(p48 + 32);
+								n181 = load64u(p48 + 40);
+								n182 = load64u(p48 + 48);
 								goto L10;
 							}
 						}
@@ -53343,54 +53341,54 @@ L5:
 						if ((int)b184 | (int)b186)
 							goto L4;
 						tp_lines_read_restart(p48, p84 + 8, n85 - 8);
-						n174 = load8(p48);
-						n175 = load64u(p48 + 8);
+						p174 = loadptru(p48 + 56);
+						n175 = load64u(p48 + 64);
 						n176 = load64u(p48 + 16);
-						n177 = load64u(p48 + 24);
-						n178 = load64u(p48 + 32);
-						n179 = load64u(p48 + 40);
-						n180 = load64u(p48 + 48);
-						p181 = loadptru(p48 + 56);
-						n182 = load64u(p48 + 64);
+						n177 = load8(p48);
+						n178 = load8(p48 + 8);
+						n179 = load64u(p48 + 24);
+						n180 = load64u(p48 + 32);
+						n181 = load64u(p48 + 40);
+						n182 = load64u(p48 + 48);
 L10:
 						{
-							if (n174 != 1)
+							if (n177 != 1)
 								goto L6;
-							switch (MOSTLY_0((uint8_t)n175)) {
+							switch (MOSTLY_0(n178)) {
 							case 0: {
-								p124 = p181;
-								n125 = n182;
+								p124 = p174;
+								n125 = n175;
 								n126 = n176;
-								n127 = n177;
-								n128 = n178;
-								n129 = n179;
+								n127 = n179;
+								n128 = n180;
+								n129 = n181;
 								goto L7;
 							}
 							case 1: {
-								p162 = p181;
-								n163 = n182;
+								p162 = p174;
+								n163 = n175;
 								n164 = n176;
-								n165 = n177;
-								n166 = n178;
+								n165 = n179;
+								n166 = n180;
 								goto L9;
 							}
 							case 2: {
-								uint8_t n187 = tp_timer_script_script_run_answer_restart_3(p50, n176, n177, n178, n179, n180, p51);
-								p188 = p181;
-								n189 = n182;
+								uint8_t n187 = tp_timer_script_script_run_answer_restart_3(p50, n176, n179, n180, n181, n182, p51);
+								p188 = p174;
+								n189 = n175;
 								n190 = n187;
 								goto L11;
 							}
 							case 3: {
 								uint8_t n191 = tp_timer_script_script_run_answer_ticks_3(p50, n176, p49, p51);
-								p188 = p181;
-								n189 = n182;
+								p188 = p174;
+								n189 = n175;
 								n190 = n191;
 								goto L11;
 							}
 							case 4: {
-								p142 = p181;
-								n143 = n182;
+								p142 = p174;
+								n143 = n175;
 								break;
 							}
 							default: {
@@ -59042,9 +59040,9 @@ L1:
 					goto L9;
 L5:
 					{
-						uint8_t n182;
-						uint64_t n183, n184, n185, n186, n187, n188, n190, n191, n193;
-						byte *p189;
+						byte *p182;
+						uint64_t n183, n184, n187, n188, n189, n190, n191, n193;
+						uint8_t n185, n186;
 						bool b192, b194;
 						memset(p50, 0, 72);
 						uint32_t n175 = ((((uint32_t)load8(p92 + 3) << 24) | ((uint32_t)load8(p92 + 2) << 16)) | ((uint32_t)load8(p92 + 1) << 8)) | (uint32_t)load8(p92);
@@ -59071,15 +59069,15 @@ L5:
 							}
 							if (!((int)((int)b177 | (int)b179) | (int)b181)) {
 								tp_lines_read_tick(p50, p92 + 5, n93 - 5);
-								n182 = load8(p50);
-								n183 = load64u(p50 + 8);
+								p182 = loadptru(p50 + 56);
+								n183 = load64u(p50 + 64);
 								n184 = load64u(p50 + 16);
-								n185 = load64u(p50 + 24);
-								n186 = load64u(p50 + 32);
-								n187 = load64u(p50 + 40);
-								n188 = load64u(p50 + 48);
-								p189 = loadptru(p50 + 56);
-								n190 = load64u(p50 + 64);
+								n185 = load8(p50);
+								n186 = load8(p50 + 8);
+								n187 = load64u(p50 + 24);
+								n188 = load64u(p50 + 32);
+								n189 = load64u(p50 + 40);
+								n190 = load64u(p50 + 48);
 								goto L10;
 							}
 						}
@@ -59100,54 +59098,54 @@ L5:
 						if ((int)b192 | (int)b194)
 							goto L4;
 						tp_lines_read_restart(p50, p92 + 8, n93 - 8);
-						n182 = load8(p50);
-						n183 = load64u(p50 + 8);
+						p182 = loadptru(p50 + 56);
+						n183 = load64u(p50 + 64);
 						n184 = load64u(p50 + 16);
-						n185 = load64u(p50 + 24);
-						n186 = load64u(p50 + 32);
-						n187 = load64u(p50 + 40);
-						n188 = load64u(p50 + 48);
-						p189 = loadptru(p50 + 56);
-						n190 = load64u(p50 + 64);
+						n185 = load8(p50);
+						n186 = load8(p50 + 8);
+						n187 = load64u(p50 + 24);
+						n188 = load64u(p50 + 32);
+						n189 = load64u(p50 + 40);
+						n190 = load64u(p50 + 48);
 L10:
 						{
-							if (n182 != 1)
+							if (n185 != 1)
 								goto L6;
-							switch (MOSTLY_0((uint8_t)n183)) {
+							switch (MOSTLY_0(n186)) {
 							case 0: {
-								p132 = p189;
-								n133 = n190;
+								p132 = p182;
+								n133 = n183;
 								n134 = n184;
-								n135 = n185;
-								n136 = n186;
-								n137 = n187;
+								n135 = n187;
+								n136 = n188;
+								n137 = n189;
 								goto L7;
 							}
 							case 1: {
-								p170 = p189;
-								n171 = n190;
+								p170 = p182;
+								n171 = n183;
 								n172 = n184;
-								n173 = n185;
-								n174 = n186;
+								n173 = n187;
+								n174 = n188;
 								goto L9;
 							}
 							case 2: {
-								uint8_t n195 = tp_timer_script_script_run_answer_restart_2(p52, n184, n185, n186, n187, n188, p53);
-								p196 = p189;
-								n197 = n190;
+								uint8_t n195 = tp_timer_script_script_run_answer_restart_2(p52, n184, n187, n188, n189, n190, p53);
+								p196 = p182;
+								n197 = n183;
 								n198 = n195;
 								goto L11;
 							}
 							case 3: {
 								uint8_t n199 = tp_timer_script_script_run_answer_ticks_2(p52, n184, p51, p53);
-								p196 = p189;
-								n197 = n190;
+								p196 = p182;
+								n197 = n183;
 								n198 = n199;
 								goto L11;
 							}
 							case 4: {
-								p150 = p189;
-								n151 = n190;
+								p150 = p182;
+								n151 = n183;
 								break;
 							}
 							default: {
@@ -66595,9 +66593,9 @@ L1:
 					goto L9;
 L5:
 					{
-						uint8_t n194;
-						uint64_t n195, n196, n197, n198, n199, n200, n202, n203, n205;
-						byte *p201;
+						byte *p194;
+						uint64_t n195, n196, n199, n200, n201, n202, n203, n205;
+						uint8_t n197, n198;
 						bool b204, b206;
 						memset(p55, 0, 72);
 						uint32_t n187 = ((((uint32_t)load8(p104 + 3) << 24) | ((uint32_t)load8(p104 + 2) << 16)) | ((uint32_t)load8(p104 + 1) << 8)) | (uint32_t)load8(p104);
@@ -66624,15 +66622,15 @@ L5:
 							}
 							if (!((int)((int)b189 | (int)b191) | (int)b193)) {
 								tp_lines_read_tick(p55, p104 + 5, n105 - 5);
-								n194 = load8(p55);
-								n195 = load64u(p55 + 8);
+								p194 = loadptru(p55 + 56);
+								n195 = load64u(p55 + 64);
 								n196 = load64u(p55 + 16);
-								n197 = load64u(p55 + 24);
-								n198 = load64u(p55 + 32);
-								n199 = load64u(p55 + 40);
-								n200 = load64u(p55 + 48);
-								p201 = loadptru(p55 + 56);
-								n202 = load64u(p55 + 64);
+								n197 = load8(p55);
+								n198 = load8(p55 + 8);
+								n199 = load64u(p55 + 24);
+								n200 = load64u(p55 + 32);
+								n201 = load64u(p55 + 40);
+								n202 = load64u(p55 + 48);
 								goto L10;
 							}
 						}
@@ -66653,54 +66651,54 @@ L5:
 						if ((int)b204 | (int)b206)
 							goto L4;
 						tp_lines_read_restart(p55, p104 + 8, n105 - 8);
-						n194 = load8(p55);
-						n195 = load64u(p55 + 8);
+						p194 = loadptru(p55 + 56);
+						n195 = load64u(p55 + 64);
 						n196 = load64u(p55 + 16);
-						n197 = load64u(p55 + 24);
-						n198 = load64u(p55 + 32);
-						n199 = load64u(p55 + 40);
-						n200 = load64u(p55 + 48);
-						p201 = loadptru(p55 + 56);
-						n202 = load64u(p55 + 64);
+						n197 = load8(p55);
+						n198 = load8(p55 + 8);
+						n199 = load64u(p55 + 24);
+						n200 = load64u(p55 + 32);
+						n201 = load64u(p55 + 40);
+						n202 = load64u(p55 + 48);
 L10:
 						{
-							if (n194 != 1)
+							if (n197 != 1)
 								goto L6;
-							switch (MOSTLY_0((uint8_t)n195)) {
+							switch (MOSTLY_0(n198)) {
 							case 0: {
-								p144 = p201;
-								n145 = n202;
+								p144 = p194;
+								n145 = n195;
 								n146 = n196;
-								n147 = n197;
-								n148 = n198;
-								n149 = n199;
+								n147 = n199;
+								n148 = n200;
+								n149 = n201;
 								goto L7;
 							}
 							case 1: {
-								p182 = p201;
-								n183 = n202;
+								p182 = p194;
+								n183 = n195;
 								n184 = n196;
-								n185 = n197;
-								n186 = n198;
+								n185 = n199;
+								n186 = n200;
 								goto L9;
 							}
 							case 2: {
-								uint8_t n207 = tp_timer_script_script_run_answer_restart(p57, n196, n197, n198, n199, n200, p58);
-								p208 = p201;
-								n209 = n202;
+								uint8_t n207 = tp_timer_script_script_run_answer_restart(p57, n196, n199, n200, n201, n202, p58);
+								p208 = p194;
+								n209 = n195;
 								n210 = n207;
 								goto L11;
 							}
 							case 3: {
 								uint8_t n211 = tp_timer_script_script_run_answer_ticks(p57, n196, p56, p58);
-								p208 = p201;
-								n209 = n202;
+								p208 = p194;
+								n209 = n195;
 								n210 = n211;
 								goto L11;
 							}
 							case 4: {
-								p162 = p201;
-								n163 = n202;
+								p162 = p194;
+								n163 = n195;
 								break;
 							}
 							default: {
@@ -73511,9 +73509,9 @@ L1:
 					goto L9;
 L5:
 					{
-						uint8_t n184;
-						uint64_t n185, n186, n187, n188, n189, n190, n192, n193, n195;
-						byte *p191;
+						byte *p184;
+						uint64_t n185, n186, n189, n190, n191, n192, n193, n195;
+						uint8_t n187, n188;
 						bool b194, b196;
 						memset(p51, 0, 72);
 						uint32_t n177 = ((((uint32_t)load8(p94 + 3) << 24) | ((uint32_t)load8(p94 + 2) << 16)) | ((uint32_t)load8(p94 + 1) << 8)) | (uint32_t)load8(p94);
@@ -73540,15 +73538,15 @@ L5:
 							}
 							if (!((int)((int)b179 | (int)b181) | (int)b183)) {
 								tp_lines_read_tick(p51, p94 + 5, n95 - 5);
-								n184 = load8(p51);
-								n185 = load64u(p51 + 8);
+								p184 = loadptru(p51 + 56);
+								n185 = load64u(p51 + 64);
 								n186 = load64u(p51 + 16);
-								n187 = load64u(p51 + 24);
-								n188 = load64u(p51 + 32);
-								n189 = load64u(p51 + 40);
-								n190 = load64u(p51 + 48);
-								p191 = loadptru(p51 + 56);
-								n192 = load64u(p51 + 64);
+								n187 = load8(p51);
+								n188 = load8(p51 + 8);
+								n189 = load64u(p51 + 24);
+								n190 = load64u(p51 + 32);
+								n191 = load64u(p51 + 40);
+								n192 = load64u(p51 + 48);
 								goto L10;
 							}
 						}
@@ -73569,54 +73567,54 @@ L5:
 						if ((int)b194 | (int)b196)
 							goto L4;
 						tp_lines_read_restart(p51, p94 + 8, n95 - 8);
-						n184 = load8(p51);
-						n185 = load64u(p51 + 8);
+						p184 = loadptru(p51 + 56);
+						n185 = load64u(p51 + 64);
 						n186 = load64u(p51 + 16);
-						n187 = load64u(p51 + 24);
-						n188 = load64u(p51 + 32);
-						n189 = load64u(p51 + 40);
-						n190 = load64u(p51 + 48);
-						p191 = loadptru(p51 + 56);
-						n192 = load64u(p51 + 64);
+						n187 = load8(p51);
+						n188 = load8(p51 + 8);
+						n189 = load64u(p51 + 24);
+						n190 = load64u(p51 + 32);
+						n191 = load64u(p51 + 40);
+						n192 = load64u(p51 + 48);
 L10:
 						{
-							if (n184 != 1)
+							if (n187 != 1)
 								goto L6;
-							switch (MOSTLY_0((uint8_t)n185)) {
+							switch (MOSTLY_0(n188)) {
 							case 0: {
-								p134 = p191;
-								n135 = n192;
+								p134 = p184;
+								n135 = n185;
 								n136 = n186;
-								n137 = n187;
-								n138 = n188;
-								n139 = n189;
+								n137 = n189;
+								n138 = n190;
+								n139 = n191;
 								goto L7;
 							}
 							case 1: {
-								p172 = p191;
-								n173 = n192;
+								p172 = p184;
+								n173 = n185;
 								n174 = n186;
-								n175 = n187;
-								n176 = n188;
+								n175 = n189;
+								n176 = n190;
 								goto L9;
 							}
 							case 2: {
-								uint8_t n197 = tp_script_run_answer_restart(p53, n186, n187, n188, n189, n190, p54);
-								p198 = p191;
-								n199 = n192;
+								uint8_t n197 = tp_script_run_answer_restart(p53, n186, n189, n190, n191, n192, p54);
+								p198 = p184;
+								n199 = n185;
 								n200 = n197;
 								goto L11;
 							}
 							case 3: {
 								uint8_t n201 = tp_script_run_answer_ticks(p53, n186, p52, p54);
-								p198 = p191;
-								n199 = n192;
+								p198 = p184;
+								n199 = n185;
 								n200 = n201;
 								goto L11;
 							}
 							case 4: {
-								p152 = p191;
-								n153 = n192;
+								p152 = p184;
+								n153 = n185;
 								break;
 							}
 							default: {
@@ -83289,9 +83287,9 @@ L22:
 							goto L27;
 L25:
 							{
-								uint8_t n506;
-								uint64_t n507, n508, n509, n510, n511, n512, n514, n515, n517;
-								byte *p513;
+								byte *p506;
+								uint64_t n507, n508, n511, n512, n513, n514, n515, n517;
+								uint8_t n509, n510;
 								bool b516, b518;
 								memset(p19, 0, 72);
 								uint32_t n499 = ((((uint32_t)load8(p420 + 3) << 24) | ((uint32_t)load8(p420 + 2) << 16)) | ((uint32_t)load8(p420 + 1) << 8)) | (uint32_t)load8(p420);
@@ -83318,15 +83316,15 @@ L25:
 									}
 									if (!((int)((int)b501 | (int)b503) | (int)b505)) {
 										tp_lines_read_tick(p19, p420 + 5, n421 - 5);
-										n506 = load8(p19);
-										n507 = load64u(p19 + 8);
+										p506 = loadptru(p19 + 56);
+										n507 = load64u(p19 + 64);
 										n508 = load64u(p19 + 16);
-										n509 = load64u(p19 + 24);
-										n510 = load64u(p19 + 32);
-										n511 = load64u(p19 + 40);
-										n512 = load64u(p19 + 48);
-										p513 = loadptru(p19 + 56);
-										n514 = load64u(p19 + 64);
+										n509 = load8(p19);
+										n510 = load8(p19 + 8);
+										n511 = load64u(p19 + 24);
+										n512 = load64u(p19 + 32);
+										n513 = load64u(p19 + 40);
+										n514 = load64u(p19 + 48);
 										goto L28;
 									}
 								}
@@ -83347,28 +83345,28 @@ L25:
 								if ((int)b516 | (int)b518)
 									goto L24;
 								tp_lines_read_restart(p19, p420 + 8, n421 - 8);
-								n506 = load8(p19);
-								n507 = load64u(p19 + 8);
+								p506 = loadptru(p19 + 56);
+								n507 = load64u(p19 + 64);
 								n508 = load64u(p19 + 16);
-								n509 = load64u(p19 + 24);
-								n510 = load64u(p19 + 32);
-								n511 = load64u(p19 + 40);
-								n512 = load64u(p19 + 48);
-								p513 = loadptru(p19 + 56);
-								n514 = load64u(p19 + 64);
+								n509 = load8(p19);
+								n510 = load8(p19 + 8);
+								n511 = load64u(p19 + 24);
+								n512 = load64u(p19 + 32);
+								n513 = load64u(p19 + 40);
+								n514 = load64u(p19 + 48);
 L28:
 								{
-									if (n506 != 1)
+									if (n509 != 1)
 										goto L26;
 									n460 = load64(p20 + 8);
-									n461 = n512;
-									n462 = n511;
-									n463 = n510;
-									n464 = n509;
-									n465 = n507 & 255;
+									n461 = n514;
+									n462 = n513;
+									n463 = n512;
+									n464 = n511;
+									n465 = (uint64_t)n510;
 									n466 = n508;
-									n467 = n514;
-									p468 = p513;
+									n467 = n507;
+									p468 = p506;
 								}
 							}
 L27:
