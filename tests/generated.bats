@@ -1,6 +1,6 @@
 #!/usr/bin/env bats
 # What generated/ says of itself; builds it as other projects do: by hand, with CMake and with Meson. No command here sees the
-# toolchain. tests/platforms does so for other processors and systems, and optimizes as users do.
+# toolchain. tests/platforms does so for other processors and systems.
 # shellcheck disable=SC2013,SC2030,SC2031,SC2034,SC2086,SC2143,SC2154
 load helpers
 
@@ -61,8 +61,8 @@ by_hand() {
     $1 -Wall -Wextra -Werror -Iinclude -o "$work/first" "${@:2}"
     prints_first "$work/first"
 }
-@test "gcc builds a program of it as C99" { by_hand "gcc -std=c99 -pedantic -Wconversion -O0" examples/c/first.c generated/timers.c; }
-@test "clang builds a program of it as C99" { by_hand "clang -std=c99 -pedantic -O0" examples/c/first.c generated/timers.c; }
+@test "gcc builds a program of it as C99" { by_hand "gcc -std=c99 -pedantic -Wconversion -O2" examples/c/first.c generated/timers.c; }
+@test "clang builds a program of it as C99" { by_hand "clang -std=c99 -pedantic -O2" examples/c/first.c generated/timers.c; }
 @test "g++ builds a program in C++ of it" {
     needs g++
     g++ -std=c++17 -Wall -Wextra -Werror -Iinclude -o "$work/cpp" examples/c/first.cpp generated/timers.c
@@ -78,14 +78,14 @@ by_hand() {
 @test "a program may include it, in C and in C++" {
     needs gcc g++
     cat generated/timers.c examples/c/first.c > "$work/whole.c"
-    by_hand "gcc -O0 -DTIMERS_NO_DESK" "$work/whole.c"
+    by_hand "gcc -O2 -DTIMERS_NO_DESK" "$work/whole.c"
     by_hand "gcc -O2 -std=c99 -DTIMERS_STATIC" "$work/whole.c"
     [ -z "$(nm --extern-only --defined-only "$work/first" | grep ' timers_')" ]
-    by_hand "g++ -O0 -DTIMERS_NO_DESK" "$work/whole.c"
-    by_hand "g++ -O0 -DTIMERS_STATIC" "$work/whole.c"
+    by_hand "g++ -O2 -DTIMERS_NO_DESK" "$work/whole.c"
+    by_hand "g++ -O2 -DTIMERS_STATIC" "$work/whole.c"
 }
 @test "the C around the translation allocates as it says" {
-    build heap.c -O0 && runs
+    build heap.c && runs
     needs tcc
     tcc -DTIMERS_NO_DESK -Iinclude -o "$work/heap" tests/c/heap.c
     "$work/heap"
@@ -143,7 +143,7 @@ link_time() {
 
 @test "musl-gcc builds a static program of it" {
     needs musl-gcc
-    musl-gcc -static -O0 -Wall -Wextra -Werror -Iinclude -o "$work/first" examples/c/first.c generated/timers.c
+    musl-gcc -static -O2 -Wall -Wextra -Werror -Iinclude -o "$work/first" examples/c/first.c generated/timers.c
     prints_first "$work/first"
 }
 @test "musl-gcc builds the program" {

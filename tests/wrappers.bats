@@ -7,7 +7,7 @@ setup_file() {
     cd "$BATS_TEST_DIRNAME/.." || return
     hide_toolchain
     export work=$BATS_FILE_TMPDIR lib=${LIB:-$PWD/build/lib}
-    # The C of a packed crate is compiled as users compile it, for its own tests; elsewhere it is not optimized.
+    # The C of a packed crate is compiled as users compile it; elsewhere it is not optimized.
     export CARGO_HOME=$work/cargo_home CARGO_TARGET_DIR=$work/cargo CFLAGS=-O0
 }
 
@@ -109,7 +109,7 @@ unpacks_crate() {
     mkdir -p "$work/app/src"
     cp bindings/rust/examples/first.rs "$work/app/src/main.rs"
     printf '[package]\nname = "app"\nversion = "1.0.0"\nedition = "2021"\n[dependencies]\ntimers = { path = "%s" }\n' "$crate" > "$work/app/Cargo.toml"
-    CFLAGS=-O0 cargo run --quiet --offline --manifest-path "$work/app/Cargo.toml" > "$work/out"
+    cargo run --quiet --offline --manifest-path "$work/app/Cargo.toml" > "$work/out"
     egg_and_tea | diff - "$work/out"
 }
 
@@ -229,7 +229,7 @@ x86_64-pc-windows-gnu x86_64-w64-mingw32-gcc
 EOT
     printf '#!/bin/sh\necho "$@" > "%s/asked"\nexec aarch64-linux-gnu-gcc "$@"\n' "$work" > "$work/given"
     chmod 755 "$work/given"
-    CC=false TARGET_CC=false CC_aarch64_unknown_linux_gnu=$work/given CFLAGS="-O0 -DONE -DTWO" AR_aarch64_unknown_linux_gnu=aarch64-linux-gnu-ar "$work/build" > "$work/out"
+    CC=false TARGET_CC=false CC_aarch64_unknown_linux_gnu=$work/given CFLAGS="-DONE -DTWO" AR_aarch64_unknown_linux_gnu=aarch64-linux-gnu-ar "$work/build" > "$work/out"
     grep -e '-DONE -DTWO .*generated/timers.c' "$work/asked"
     run env AR=false "$work/build"
     [ "$status" -ne 0 ]
