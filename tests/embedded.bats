@@ -203,6 +203,7 @@ takes() {
     $arm -O2 $small -o "$work/small" tests/c/small.c generated/timers.c
     none=0
     none=$(takes nothing)
+    # A start comes last, since a move below is what comes on top of it.
     for name in tick wakeup stop restart take start; do
         bound=$(rows Time | sed -nE "s/^timers_$name( .*)? ([0-9]+)$/\2/p")
         at_most "$bound" "$(takes $name 1000)" "$name, of 1,000"
