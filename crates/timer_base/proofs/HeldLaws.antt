@@ -20,7 +20,7 @@ held_when_none_due handle w e =
 
 -- A stop.
 
-has_serial_of : (handle : Handle) (x : Entry) → has_handle handle x ≡ true → x.timer.serial ≡ handle.serial
+pub has_serial_of : (handle : Handle) (x : Entry) → has_handle handle x ≡ true → x.timer.serial ≡ handle.serial
 has_serial_of handle x h = eqb-true x.timer.serial handle.serial
     (and_parts (x.place == handle.place) (x.timer.serial == handle.serial) h).1
 
@@ -30,7 +30,7 @@ other_serial handle x n = elim (either (x.place == handle.place)) [
   | inr k ↦ rw k refl
 ]
 
-no_handle : (handle : Handle) (es : List Entry) → IsNotAmong handle.serial (timers_of es)
+pub no_handle : (handle : Handle) (es : List Entry) → IsNotAmong handle.serial (timers_of es)
     → without_handle handle es ≡ es
 no_handle handle [] n = refl
 no_handle handle (x ∷ xs) n = rw (other_serial handle x n.0) (ap (λ (r : List Entry). x ∷ r) (no_handle handle xs n.1))

@@ -1,6 +1,7 @@
 -- The lemmas that the proofs of this crate and of those above share.
 pub mod Basics
 pub mod OrderLaws
+pub mod Members
 pub mod OneOrder
 pub mod TickLaws
 pub mod HeldLaws
@@ -9,4 +10,3 @@ pub mod PlainExpiries
 pub mod PlainJumps
 pub mod PlainHeld
 pub mod PlainSteps
-pub mod PlainNewest

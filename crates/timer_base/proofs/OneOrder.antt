@@ -132,23 +132,23 @@ same_members xs ys p = record {
 
 -- A permutation of distinct timers is distinct: each serial occurs in it as often.
 
-abbrev one_at : ℕ → ℕ → ℕ
+abbrev pub one_at : ℕ → ℕ → ℕ
 one_at k n = if n == k then 1 else 0
 
-abbrev times_of : {X : Type 0} → (X → Timer) → ℕ → List X → ℕ
+abbrev pub times_of : {X : Type 0} → (X → Timer) → ℕ → List X → ℕ
 times_of timer k xs = sum_by (λ z. one_at k (timer z).serial) xs
 
-one_same : (k n : ℕ) → n ≡ k → one_at k n ≡ 1
+pub one_same : (k n : ℕ) → n ≡ k → one_at k n ≡ 1
 one_same k n h = grind (arith, nat_tests)
 
-one_other : (k n : ℕ) → n ≢ k → one_at k n ≡ 0
+pub one_other : (k n : ℕ) → n ≢ k → one_at k n ≡ 0
 one_other k n h = grind (arith, nat_tests)
 
-times-cons : {X : Type 0} (timer : X → Timer) (k : ℕ) (x : X) (xs : List X)
+pub times-cons : {X : Type 0} (timer : X → Timer) (k : ℕ) (x : X) (xs : List X)
     → times_of timer k (x ∷ xs) ≡ one_at k (timer x).serial + times_of timer k xs
 times-cons timer k x xs = sum_by-cons (λ z. one_at k (timer z).serial) x xs
 
-no_times : {X : Type 0} (timer : X → Timer) (k : ℕ) (xs : List X) → IsNotAmong k (map timer xs)
+pub no_times : {X : Type 0} (timer : X → Timer) (k : ℕ) (xs : List X) → IsNotAmong k (map timer xs)
     → times_of timer k xs ≡ 0
 no_times timer k [] n = refl
 no_times timer k (x ∷ xs) n = omega (
@@ -158,7 +158,7 @@ no_times timer k (x ∷ xs) n = omega (
   no_times timer k xs n.1,
 )
 
-once_at_most : {X : Type 0} (timer : X → Timer) (k : ℕ) (xs : List X) → AreDistinct (map timer xs)
+pub once_at_most : {X : Type 0} (timer : X → Timer) (k : ℕ) (xs : List X) → AreDistinct (map timer xs)
     → times_of timer k xs ≤ 1
 once_at_most timer k [] d = omega arith
 once_at_most timer k (x ∷ xs) d = elim (either ((timer x).serial == k)) [
@@ -174,7 +174,7 @@ once_at_most timer k (x ∷ xs) d = elim (either ((timer x).serial == k)) [
   )
 ]
 
-not_among_from : {X : Type 0} (timer : X → Timer) (k : ℕ) (xs : List X) → times_of timer k xs ≡ 0
+pub not_among_from : {X : Type 0} (timer : X → Timer) (k : ℕ) (xs : List X) → times_of timer k xs ≡ 0
     → IsNotAmong k (map timer xs)
 not_among_from timer k [] z = tt
 not_among_from timer k (x ∷ xs) z = (
@@ -182,7 +182,7 @@ not_among_from timer k (x ∷ xs) z = (
   not_among_from timer k xs (omega (arith, z, times-cons timer k x xs)),
 )
 
-distinct_from : {X : Type 0} (timer : X → Timer) (xs : List X) → ((k : ℕ) → times_of timer k xs ≤ 1)
+pub distinct_from : {X : Type 0} (timer : X → Timer) (xs : List X) → ((k : ℕ) → times_of timer k xs ≤ 1)
     → AreDistinct (map timer xs)
 distinct_from timer [] a = tt
 distinct_from timer (x ∷ xs) a = (

@@ -1,12 +1,12 @@
 -- Lemmas about the order of anything that has a timer.
-use Rattle.std.proofs.Common.{sym, ◌∙◌, ap, inl, inr, arith, ◌≡◌, ◌≢◌, ◌<◌, ℕ, suc, Bool, true, false, ◌==◌, nat_lt, if◌then◌else◌, List, [], ◌∷◌, ◌++◌, length, filter, map, refl, append-nil}
+use Rattle.std.proofs.Common.{sym, ◌∙◌, ap, inl, inr, arith, ◌≡◌, ◌≢◌, ◌<◌, ◌+◌, ℕ, suc, Bool, true, false, ◌==◌, nat_lt, if◌then◌else◌, List, [], ◌∷◌, ◌++◌, length, filter, map, refl, append-nil, length-append}
 use Rattle.std.specs.List.{AllByRecursion}
 use Rattle.std.proofs.lemmas.Bool.{eqb-true}
 use Rattle.std.proofs.lemmas.Bool.Decides.{nat_tests}
 use Rattle.timer_base.proofs.Basics.{either}
 use Rattle.timer_base.specs.Types.{Timer}
-use Rattle.timer_base.specs.Order.{is_before, insert_in_order, in_order, insert_by_deadline, itself, IsFirst, IsOrdered, IsNotAmong, AreRising, AreBelow}
-pub use Rattle.timer_base.specs.WellFormed.{All-in_order, All-filter, IsFirst-weaken, IsOrdered-in_order, AreRising-prop, AreRising-weaken, AreRising-filter, IsNotAmong-in_order, AreDistinct-in_order, AreDistinct-rising}
+use Rattle.timer_base.specs.Order.{is_before, insert_in_order, in_order, insert_by_deadline, itself, IsFirst, IsOrdered, IsNotAmong, AreRising, AreNumberedFrom, AreNumbered, AreBelow}
+pub use Rattle.timer_base.specs.WellFormed.{All-in_order, All-filter, IsFirst-weaken, IsOrdered-insert_in_order, IsOrdered-in_order, IsNotAmong-rising, AreRising-prop, AreRising-weaken, AreRising-filter, IsNotAmong-in_order, AreDistinct-in_order, AreDistinct-rising}
 use Rattle.timer_base.specs.WellFormed.{all_timers, map-itself}
 
 -- Of two timers at most one comes first.
@@ -138,7 +138,7 @@ insert_front : {X : Type 0} (timer : X → Timer) (x y : X) (zs : List X) → is
 insert_front timer x y [] h f = refl
 insert_front timer x y (z ∷ zs) h f = rw (strictly_through (timer x) (timer y) (timer z) h f.0) refl
 
-IsFirst-filter : {X : Type 0} (timer : X → Timer) (p : X → Bool) (t : Timer) (ys : List X)
+pub IsFirst-filter : {X : Type 0} (timer : X → Timer) (p : X → Bool) (t : Timer) (ys : List X)
     → IsFirst t (map timer ys)
     → IsFirst t (map timer (filter p ys))
 IsFirst-filter timer p t [] f = tt
@@ -207,6 +207,36 @@ pub AreRising-append : (low : ℕ) (e : Timer) (ts : List Timer) → AreRising l
     → AreRising low (ts ++ e ∷ [])
 AreRising-append low e [] r b h = (h, tt)
 AreRising-append low e (t ∷ ts) r b h = (r.0, AreRising-append t.serial e ts r.1 b.1 b.0)
+
+-- Serials one after another.
+
+numbered_last : (n : ℕ) (ts : List Timer) (t : Timer) → AreNumberedFrom n ts → t.serial ≡ n + length ts
+    → AreNumberedFrom n (ts ++ t ∷ [])
+numbered_last n [] t a e = (omega (arith, e), tt)
+numbered_last n (u ∷ us) t a e = (a.0, numbered_last (n + 1) us t a.1 (omega (arith, e)))
+
+-- one more, with the next serial
+pub AreNumbered-append : (first : ℕ) (ts : List Timer) (next : ℕ) (t : Timer) → AreNumbered first ts next → t.serial ≡ next
+    → AreNumbered first (ts ++ t ∷ []) (next + 1)
+AreNumbered-append first ts next t a e = record {
+  each = numbered_last first ts t a.each (e ∙ a.next_is);
+  next_is = omega (arith, a.next_is, length-append ts (t ∷ []));
+}
+
+pub AreNumberedFrom-rising : (low n : ℕ) (ts : List Timer) → low < n → AreNumberedFrom n ts → AreRising low ts
+AreNumberedFrom-rising low n [] h a = tt
+AreNumberedFrom-rising low n (t ∷ ts) h a =
+    let e : t.serial ≡ n = a.0 in
+    (omega (arith, e), AreNumberedFrom-rising t.serial (n + 1) ts (omega (arith, e)) a.1)
+
+pub AreNumberedFrom-below : (n : ℕ) (ts : List Timer) → AreNumberedFrom n ts → AreBelow (n + length ts) ts
+AreNumberedFrom-below n [] a = tt
+AreNumberedFrom-below n (t ∷ ts) a =
+    let e : t.serial ≡ n = a.0 in (
+      omega (arith, e),
+      All-weaken (λ u. u.serial < n + 1 + length ts) (λ u. u.serial < n + suc (length ts)) ts (λ u l. omega (arith, l))
+          (AreNumberedFrom-below (n + 1) ts a.1),
+    )
 
 -- timers of one deadline in order of starting are in order
 abbrev pub AllAt : ℕ → List Timer → Type 0

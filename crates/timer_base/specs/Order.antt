@@ -1,5 +1,5 @@
 -- The order of timers: by deadline, and then by serial. It orders lists of anything that has a timer.
-use Rattle.std.specs.Prelude.{◌≡◌, ◌≢◌, ◌<◌, ◌⊎◌, ℕ, Bool, false, ◌||◌, ◌&&◌, ◌==◌, nat_lt, if◌then◌else◌, List, [], ◌∷◌}
+use Rattle.std.specs.Prelude.{◌≡◌, ◌≢◌, ◌<◌, ◌⊎◌, ℕ, ◌+◌, Bool, false, ◌||◌, ◌&&◌, ◌==◌, nat_lt, if◌then◌else◌, List, [], ◌∷◌, length}
 use Rattle.std.specs.List.{AllByRecursion}
 use Rattle.timer_base.specs.Types.{Timer}
 
@@ -47,6 +47,16 @@ AreDistinct (t ∷ ts) = IsNotAmong t.serial ts × AreDistinct ts
 abbrev pub AreRising : ℕ → List Timer → Type 0
 AreRising low [] = Unit {0}
 AreRising low (t ∷ ts) = (low < t.serial) × AreRising t.serial ts
+
+-- each has the serial after that of the one before it, the first has this one
+abbrev pub AreNumberedFrom : ℕ → List Timer → Type 0
+AreNumberedFrom serial [] = Unit {0}
+AreNumberedFrom serial (t ∷ ts) = (t.serial ≡ serial) × AreNumberedFrom (serial + 1) ts
+
+-- their serials are those from the first up to the next one, in order
+pub record AreNumbered (first : ℕ) (ts : List Timer) (next : ℕ) : Type 0 where
+  pub each : AreNumberedFrom first ts
+  pub next_is : next ≡ first + length ts
 
 -- each serial is below high
 abbrev pub AreBelow : ℕ → List Timer → Type 0

@@ -1,7 +1,7 @@
 -- The wheel state of a list of timers in order of starting: those after now are pending, and those at now are
 -- due.
 use Rattle.std.specs.List.{AllByRecursion}
-use Rattle.std.proofs.Common.{◌<◌, ◌≤◌, ◌+◌, ◌-◌, ℕ, Bool, nat_lt, nat_le, min, if◌then◌else◌, List, [], ◌∷◌, Option, Some, None, map, filter, length}
+use Rattle.std.proofs.Common.{◌<◌, ◌≤◌, ◌+◌, ◌-◌, ℕ, Bool, nat_lt, min, if◌then◌else◌, List, [], ◌∷◌, Option, Some, None, map, filter, length}
 use Rattle.timer_base.specs.Types.{LAST, Timer}
 use Rattle.timer_base.specs.Layout.{NoSlots}
 use Rattle.timer_base.specs.Order.{in_order, itself}
@@ -11,10 +11,6 @@ use Rattle.timer_base.specs.WheelState.{WheelState}
 -- the deadline is after the tick
 abbrev pub is_after : ℕ → Timer → Bool
 is_after tick t = nat_lt tick t.deadline
-
--- the serial is this one or a later one
-abbrev pub is_since : ℕ → Timer → Bool
-is_since serial t = nat_le serial t.serial
 
 -- every timer has place 0
 abbrev pub at_first_place : Timer → Entry

@@ -73,7 +73,7 @@ IsFirst-insert_in_order timer t x (y ∷ ys) h f = elim (either (is_before (time
   | inr k ↦ rw k (f.0, IsFirst-insert_in_order timer t x ys h f.1)
 ]
 
-IsOrdered-insert_in_order : {X : Type 0} (timer : X → Timer) (x : X) (ys : List X) → IsOrdered (map timer ys)
+pub IsOrdered-insert_in_order : {X : Type 0} (timer : X → Timer) (x : X) (ys : List X) → IsOrdered (map timer ys)
     → IsOrdered (map timer (insert_in_order timer x ys))
 IsOrdered-insert_in_order timer x [] o = (tt, tt)
 IsOrdered-insert_in_order timer x (y ∷ ys) o = elim (either (is_before (timer x) (timer y))) [
@@ -134,7 +134,7 @@ AreDistinct-in_order timer (x ∷ xs) d =
     AreDistinct-insert_in_order timer x (in_order timer xs)
     (IsNotAmong-in_order timer (timer x).serial xs d.0) (AreDistinct-in_order timer xs d.1)
 
-IsNotAmong-rising : (s low : ℕ) (ts : List Timer) → s ≤ low → AreRising low ts → IsNotAmong s ts
+pub IsNotAmong-rising : (s low : ℕ) (ts : List Timer) → s ≤ low → AreRising low ts → IsNotAmong s ts
 IsNotAmong-rising s low [] h r = tt
 IsNotAmong-rising s low (t ∷ ts) h r =
     let r0 : low < t.serial = r.0 in

@@ -7,7 +7,6 @@
 //! `laws` has the lemmas that hold for every wheel.
 #![tactic(auto)]
 
-mod ahead;
 mod fault;
 pub mod laws;
 mod limits;
@@ -16,7 +15,6 @@ mod plain;
 mod timer;
 mod wheel;
 
-pub use ahead::MovesAhead;
 pub use fault::{MakeFault, OutOfMemory};
 pub use limits::LAST;
 pub use order::{earlier, sort_timers};

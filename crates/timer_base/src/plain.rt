@@ -14,15 +14,15 @@
 //!       5   1:5 3:5                               1:5 3:5
 //!
 //! Each handle has place 0: the serial alone identifies the timer.
-ghost use Rattle.std.specs.Prelude.{◌≡◌, ◌≤◌, ◌<◌, ◌+◌, ◌↔◌, ◌++◌, [], IfOk, IfErr, IsErr, Some, length, filter, find, not, drop, vec_len, vec_capacity};
+ghost use Rattle.std.specs.Prelude.{◌≡◌, ◌≤◌, ◌<◌, ◌+◌, ◌↔◌, ◌++◌, [], IfOk, IfErr, IsErr, Some, length, filter, find, not, vec_len, vec_capacity};
 ghost use Rattle.std.proofs.Math.Nat.{ℕ_set};
 ghost use Rattle.std.specs.List.{AllByRecursion};
 ghost use Rattle.timer_base.specs.Types.{LAST};
 ghost use Rattle.timer_base.specs.Layout.{NoSlots};
 ghost use Rattle.timer_base.specs.Order.{AreRising};
 ghost use Rattle.timer_base.specs.WellFormed.{AreRising-prop, IsKept-prop, plain_state-well_formed, with_room-well_formed};
-ghost use Rattle.timer_base.specs.Pending.{has_serial, is_due_at, timers_of};
-ghost use Rattle.timer_base.specs.PlainState.{IsKept, AreDueAfter, IsJump, is_after, is_since, due_count, first_after, plain_state};
+ghost use Rattle.timer_base.specs.Pending.{has_serial, is_due_at};
+ghost use Rattle.timer_base.specs.PlainState.{IsKept, AreDueAfter, IsJump, is_after, due_count, first_after, plain_state};
 ghost use Rattle.timer_base.specs.WakeUps.{IsQuietUntil, next_deadline};
 ghost use Rattle.timer_base.specs.WheelState.{empty_wheel, with_room};
 
@@ -72,21 +72,6 @@ impl PlainWheel {
             due: 0,
             room: 0,
         })
-    }
-
-    /// The pending timers with this serial or a later one, by deadline and then serial. The only error is out of memory.
-    ///
-    /// They are the last of all timers, so it looks at one before them at most.
-    pub fn list_since(&self, serial: u64) -> Result<Vec<Timer>, OutOfMemory>
-        ensures { IfOk result (λ timers. timers.items
-            ≡ filter (is_since serial) (timers_of (⟦<PlainWheel as Wheel>⟧.state self.entry.now).pending)) }
-    {
-        let timers = self.timers.as_slice();
-        let newest = &timers[first_since(timers, serial)..];
-        let mut listed = Vec::with_capacity(*self.timers.allocator(), newest.len())?;
-        copy_pending(newest, self.now, &mut listed);
-        sort_timers(&mut listed);
-        Ok(listed)
     }
 
     /// How far the clock can jump: to the first pending deadline, or by `most` ticks if that is nearer.
@@ -282,22 +267,6 @@ fn find_serial(timers: &[Timer], serial: u64) -> Option<Timer>
     ensures { result ≡ find (has_serial serial) timers.now }
 {
     timers.iter().copied().find(|t| t.serial == serial)
-}
-
-/// The index of the first of the timers with the serial or a later one, or their number.
-fn first_since(timers: &[Timer], serial: u64) -> usize
-    requires { AreRising 0 timers.now }
-    ensures in_range { result ≤ length timers.now }
-    ensures since { drop result timers.now ≡ filter (is_since serial) timers.now }
-{
-    let mut first = timers.len();
-    for step in 0..timers.len() {
-        if timers[first - 1].serial < serial {
-            return first;
-        }
-        first -= 1;
-    }
-    first
 }
 
 /// Removes the timer with the serial, and keeps the order of the others.

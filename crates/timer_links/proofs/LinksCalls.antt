@@ -8,11 +8,11 @@ use Rattle.slab.specs.Slab.{Slab, get, slab_len, with_value, ContainsKey, Update
 use Rattle.timer_base.proofs.Basics.{some_same, some_none}
 use Rattle.timer_base.proofs.OrderLaws.{All-append, All-weaken}
 use Rattle.timer_links.specs.Types.{Node, Neighbours, INDEXES}
-use Rattle.timer_links.specs.Lists.{node_in, node_at, first_key, last_key, list_at, row_count, without_key, with_row, moved_back, first_row_moved, front_moved, appended, IsAloneIn, KeyedLists, Row, Rows}
-use Rattle.timer_links.specs.Ring.{neighbours_at, key_of, neighbour_on_both_sides, AreJoined, Joins, JoinsLast, IsGrown}
+use Rattle.timer_links.specs.Lists.{node_in, node_at, first_key, list_at, row_count, without_key, with_row, moved_back, first_row_moved, front_moved, appended, IsAloneIn, KeyedLists, Row, Rows}
+use Rattle.timer_links.specs.Ring.{neighbours_at, key_of, neighbour_on_both_sides, Joins, JoinsLast, IsGrown}
 use Rattle.timer_links.specs.Links.{LeadsOver, AreRings, IsLinked}
-use Rattle.timer_links.proofs.Rows.{none_is, IsAbsent, look, ending, last_key-end, node_in-absent, node_in-other, node_in-append, length_split, StandsIn, stands_in, without_none, node_at-none, node_at-set, row_count-set}
-use Rattle.timer_links.proofs.Rings.{parts, before_end, after_start, ring_at, leads_renamed, leads_same, rings_set, around, apart_here, not_elsewhere, is_alone, node_at-here, without_is, detached, absent, attached, rings_appended}
+use Rattle.timer_links.proofs.Rows.{none_is, IsAbsent, look, node_in-absent, node_in-other, node_in-append, length_split, StandsIn, stands_in, without_none, node_at-none, node_at-set, row_count-set}
+use Rattle.timer_links.proofs.Rings.{before_end, after_start, ring_at, leads_renamed, leads_same, rings_set, around, apart_here, not_elsewhere, is_alone, node_at-here, without_is, detached, absent, attached, rings_appended}
 use Rattle.timer_links.proofs.Room.{counted}
 use Rattle.timer_links.proofs.UniqueLists.{root_low, key_high, held_from}
 
@@ -138,26 +138,6 @@ module _ (n : ℕ) (nodes : Slab Node) (s : List Neighbours) (v : KeyedLists) (h
       → list_at l v ≡ front ++ (key, node) ∷ rest → key_of n (neighbours_at s (n + key)).after ≡ first_key rest
   next_key key l front node rest d e =
       let b : l < n = low l d in key_after (n + key) l rest b (around n s v h.rings key l front node rest b e).1
-
-  -- the last row before an index has the key that is read off the index before it
-  key_before : (l q : ℕ) (rows : Rows) → l < n → LeadsOver n s l rows q → key_of n (neighbours_at s q).before ≡ last_key rows
-  key_before l q rows b c = elim (ending rows) [
-    | inl e ↦
-        let d : AreJoined s l q = rw e at c in
-        ap (key_of n) d.back_to ∙ root_low n l b ∙ sym (ap last_key e)
-    | inr w ↦
-        let d : LeadsOver n s l (w.front ++ w.row ∷ []) q = rw w.is at c in
-        let j : AreJoined s (n + w.row.0) q = (parts n s l q w.row [] w.front d).1 in
-        ap (key_of n) j.back_to ∙ key_high n w.row.0 ∙ sym (ap last_key w.is ∙ last_key-end w.front w.row)
-  ]
-
-  pub last_row_key : (l : ℕ) → l < length v → key_of n (neighbours_at s l).before ≡ last_key (list_at l v)
-  last_row_key l d = let b : l < n = low l d in key_before l l (list_at l v) b (h.rings l b)
-
-  pub previous_key : (key l : ℕ) (front : Rows) (node : Node) (rest : Rows) → l < length v
-      → list_at l v ≡ front ++ (key, node) ∷ rest → key_of n (neighbours_at s (n + key)).before ≡ last_key front
-  previous_key key l front node rest d e =
-      let b : l < n = low l d in key_before l (n + key) front b (around n s v h.rings key l front node rest b e).0
 
   -- a list is empty if its root is its own neighbour
   pub root_alone : (l : ℕ) (x : Neighbours) → l < length v → x ≡ slice_index_or s l x

@@ -31,7 +31,7 @@ avoid_key : (n key : ℕ) (rows : Rows) → IsAbsent key rows → Avoid n (n + k
 avoid_key n key rows a = All-weaken (λ r. r.0 ≢ key) (λ r. n + r.0 ≢ n + key) rows (λ r o e. o (omega arith)) a
 
 module _ (n : ℕ) (s : List Neighbours) where
-  pub parts : (p l : ℕ) (r : Row) (rest front : Rows) → LeadsOver n s p (front ++ r ∷ rest) l
+  parts : (p l : ℕ) (r : Row) (rest front : Rows) → LeadsOver n s p (front ++ r ∷ rest) l
       → LeadsOver n s p front (n + r.0) × LeadsOver n s (n + r.0) rest l
   parts p l r rest [] c = c
   parts p l r rest (x ∷ xs) c = let q = parts (n + x.0) l r rest xs c.1 in ((c.0, q.0), q.1)

@@ -2,10 +2,9 @@
 use Rattle.std.proofs.Common.{◌≡◌, ◌≢◌, ◌<◌, ◌≤◌, ◌+◌, ℕ, ◌⊎◌, zero, suc, [], ◌∷◌, ◌++◌, length, refl, sym, ◌∙◌, ap, inl, inr, arith, map, length-append, Some, None, IsSome, slice_set}
 use Rattle.std.specs.List.{AllByRecursion}
 use Rattle.std.proofs.lemmas.Bool.{cases_eq, eq-eqb, ne_eqb}
-use Rattle.std.proofs.lemmas.List.{reverse-append}
 use Rattle.timer_base.proofs.Basics.{some_same, some_none}
 use Rattle.timer_links.specs.Types.{Node}
-use Rattle.timer_links.specs.Lists.{node_in, node_at, first_key, last_key, list_at, row_count, without_key, KeyedLists, Row, Rows}
+use Rattle.timer_links.specs.Lists.{node_in, node_at, list_at, row_count, without_key, KeyedLists, Row, Rows}
 
 pub none_is : IsSome {T = Node} None → ⊥
 none_is h = cc
@@ -59,23 +58,6 @@ once key node rest (x ∷ xs) same =
       ),
       p.1,
     )
-
--- the rows before the last one, and that row
-pub record EndsWith (rows : Rows) : Type 0 where
-  pub front : Rows
-  pub row : Row
-  pub is : rows ≡ front ++ row ∷ []
-
--- there is no row, or a last one
-pub ending : (rows : Rows) → (rows ≡ []) ⊎ EndsWith rows
-ending [] = inl refl
-ending (x ∷ xs) = elim (ending xs) [
-  | inl e ↦ inr (record { front = []; row = x; is = ap (λ (r : Rows). x ∷ r) e })
-  | inr w ↦ inr (record { front = x ∷ w.front; row = w.row; is = ap (λ (r : Rows). x ∷ r) w.is })
-]
-
-pub last_key-end : (front : Rows) (row : Row) → last_key (front ++ row ∷ []) ≡ Some row.0
-last_key-end front row = ap first_key (reverse-append front (row ∷ []))
 
 pub without_absent : (key : ℕ) (rows : Rows) → IsAbsent key rows → without_key key rows ≡ rows
 without_absent key [] a = refl

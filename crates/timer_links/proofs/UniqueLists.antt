@@ -59,7 +59,7 @@ module _ (n : ℕ) (nodes : Slab Node) (s : List Neighbours) (v : KeyedLists) (h
 
 -- the lists of a value, which is open
 pub opened : {N Z : Type 0} (node_of : N → Node) (n room ready : ℕ) (kept : Slab N) (neighbours : Vec Neighbours Z) (v : LinksState)
-    → record { lists = lists_of n (nodes_of node_of kept) neighbours.items; room = room } ≡ v
+    → record { lists = lists_of n (nodes_of node_of kept) neighbours.items; room = room; ready = ready } ≡ v
     → IsLinked n (nodes_of node_of kept) neighbours.items (lists_of n (nodes_of node_of kept) neighbours.items)
     × HasRoom room n kept.capacity (vec_capacity neighbours) × IsReady ready n kept.capacity (vec_len neighbours)
     → IsLinked n (nodes_of node_of kept) neighbours.items v.lists
@@ -91,9 +91,11 @@ written n room ready capacity new neighbours ws v r k same e h =
     stands n room ready new (with_items neighbours ws) v (subst P (sym (with_items_is neighbours ws e)) h)
     (room_stays room n _ _ _ _ r same refl) (ready_kept ready n _ _ _ _ k (omega arith) (omega arith))
 
--- the value of these fields is the state with these lists and this room
-pub state_is : (w : LinksState) (x : KeyedLists) (room : ℕ) → x ≡ w.lists → room ≡ w.room → record { lists = x; room = room } ≡ w
-state_is w x room e k =
-    let f : KeyedLists → LinksState = λ y. record { lists = y; room = room } in
-    let g : ℕ → LinksState = λ y. record { lists = w.lists; room = y } in
-    ap f e ∙ ap g k
+-- the value of these fields is the state with these lists, this room, and so many keys ready
+pub state_is : (w : LinksState) (x : KeyedLists) (room ready : ℕ) → x ≡ w.lists → room ≡ w.room → ready ≡ w.ready
+    → record { lists = x; room = room; ready = ready } ≡ w
+state_is w x room ready e k r =
+    let f : KeyedLists → LinksState = λ y. record { lists = y; room = room; ready = ready } in
+    let g : ℕ → LinksState = λ y. record { lists = w.lists; room = y; ready = ready } in
+    let h : ℕ → LinksState = λ y. record { lists = w.lists; room = w.room; ready = y } in
+    ap f e ∙ (ap g k ∙ ap h r)

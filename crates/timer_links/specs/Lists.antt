@@ -1,5 +1,5 @@
 -- Lists of nodes, each under its key: all that a layer above knows of `Links`.
-use Rattle.std.specs.Prelude.{◌≡◌, ◌<◌, ◌≤◌, ℕ, ◌+◌, not, ◌==◌, if◌then◌else◌, List, [], ◌∷◌, ◌++◌, length, map, filter, reverse, Option, Some, None, IsSome, slice_index_or, slice_set}
+use Rattle.std.specs.Prelude.{◌≡◌, ◌<◌, ◌≤◌, ℕ, ◌+◌, not, ◌==◌, if◌then◌else◌, List, [], ◌∷◌, ◌++◌, length, map, filter, Option, Some, None, IsSome, slice_index_or, slice_set}
 use Rattle.timer_links.specs.Types.{Node}
 
 -- a key and the node under it
@@ -14,10 +14,11 @@ Rows = List Row
 abbrev pub KeyedLists : Type 0
 KeyedLists = List Rows
 
--- the lists, and for how many nodes at one time room was made
+-- the lists, for how many nodes at one time room was made, and below which key each next one is added in constant time
 pub record LinksState : Type 0 where
   pub lists : KeyedLists
   pub room : ℕ
+  pub ready : ℕ
 
 -- the node under a key of one list
 abbrev pub node_in : ℕ → Rows → Option Node
@@ -38,10 +39,6 @@ node_at key (rows ∷ lists) = first_of (node_in key rows) (node_at key lists)
 abbrev pub first_key : Rows → Option ℕ
 first_key [] = None
 first_key (row ∷ rest) = Some row.0
-
--- the key of the last row
-abbrev pub last_key : Rows → Option ℕ
-last_key rows = first_key (reverse rows)
 
 -- the rows with other keys
 abbrev pub without_key : ℕ → Rows → Rows
@@ -92,12 +89,6 @@ abbrev pub IsNext : ℕ → KeyedLists → Option ℕ → Type 0
 IsNext key lists found =
     (l : ℕ) (front : Rows) (node : Node) (rest : Rows)
     → l < length lists → list_at l lists ≡ front ++ (key, node) ∷ rest → found ≡ first_key rest
-
--- wherever the key stands, this is the key before it, or none if it is the first one
-abbrev pub IsPrevious : ℕ → KeyedLists → Option ℕ → Type 0
-IsPrevious key lists found =
-    (l : ℕ) (front : Rows) (node : Node) (rest : Rows)
-    → l < length lists → list_at l lists ≡ front ++ (key, node) ∷ rest → found ≡ last_key front
 
 -- wherever the key stands, its node has these rounds, and all else stays
 abbrev pub SetsRounds : ℕ → ℕ → KeyedLists → KeyedLists → Type 0

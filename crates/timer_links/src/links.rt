@@ -10,7 +10,7 @@
 //! The nodes are in a `Slab`, whose keys these are. Their order is kept apart from them, as rings in one
 //! array (`ring`), so that changing a neighbour's link never touches the neighbour's node.
 ghost use Rattle.std.specs.Prelude.{◌≡◌, ◌≢◌, ◌<◌, ◌≤◌, ◌↔◌, ◌+◌, max, IsTrue, Some, None, IfOk, OnOk, OnErr, IfErr, IfSome, IsSome, length, map, [], replicate};
-ghost use Rattle.timer_links.specs.Lists.{node_at, first_key, last_key, with_row, row_count, list_at, without_key, front_moved, appended, PopsFront, AreApart, IsNext, IsPrevious, SetsRounds, SetsNode, MovesBack, IsAloneIn, HasRounds, IsFirstUsed};
+ghost use Rattle.timer_links.specs.Lists.{node_at, first_key, with_row, row_count, list_at, without_key, front_moved, appended, PopsFront, AreApart, IsNext, SetsRounds, SetsNode, MovesBack, IsAloneIn, HasRounds, IsFirstUsed};
 ghost use Rattle.std.specs.Vec.{vec_len, vec_capacity};
 ghost use Rattle.slab.specs.Slab.{HasRoomFor, slab_len};
 ghost use Rattle.timer_links.specs.Links.{HasRoom, HasIndex, IsReady};
@@ -70,6 +70,7 @@ impl<N: Kept> Model for Links<N> {
     ghost view = { λ s. record {
       lists = lists_of s.lists (nodes_of N.node_of s.nodes) s.neighbours.items;
       room = s.room;
+      ready = s.ready;
     } };
 
     ghost invariant = { λ s. IsLinked s.lists (nodes_of N.node_of s.nodes) s.neighbours.items
@@ -85,6 +86,7 @@ impl<N: Kept> Links<N> {
         ensures { IfOk result (λ links. links ≡ record {
           lists = replicate lists [];
           room = 0;
+          ready = 0;
         }) }
     {
         let mut neighbours = Vec::with_capacity(alloc, lists)?;
@@ -148,15 +150,6 @@ impl<N: Kept> Links<N> {
         }
     }
 
-    /// The key of the last node of a list, or None if the list is empty. Does not allocate.
-    #[inline]
-    pub fn last(&self, list: usize) -> Option<usize>
-        requires { list < length self.now.lists }
-        ensures { result ≡ last_key (list_at list self.now.lists) }
-    {
-        key_at(self.neighbours[list].before, self.lists)
-    }
-
     /// The same as `front`, with a proof that the key is in use.
     #[inline]
     fn used_front(&self, list: usize) -> Option<usize>
@@ -185,15 +178,6 @@ impl<N: Kept> Links<N> {
         ensures { IsNext key self.now.lists result }
     {
         key_at(self.neighbours[self.lists + key].after, self.lists)
-    }
-
-    /// The key before this one in its list, or None if it is the first one. Does not allocate.
-    #[inline]
-    pub fn previous(&self, key: usize) -> Option<usize>
-        requires { IsSome (node_at key self.now.lists) }
-        ensures { IsPrevious key self.now.lists result }
-    {
-        key_at(self.neighbours[self.lists + key].before, self.lists)
     }
 
     /// The rounds of the node under this key, and the key after it: one look-up of each. Does not allocate.
@@ -236,12 +220,13 @@ impl<N: Kept> Links<N> {
     ///
     /// While fewer nodes are here, `push_back` then does not fail, also after others were removed. The
     /// error is out of memory, as that of `push_back`: the room is then what it was. Room that an earlier call
-    /// made is not looked at again: then nothing is allocated.
+    /// made is not looked at again: then nothing is allocated. The keys that were ready stay so.
     ///
     /// It may copy the nodes and the links, and takes time for the most nodes that were ever here at one time.
     /// The room itself is only allocated: nothing is written to it.
     pub fn reserve(&mut self, most: usize) -> Result<(), OutOfMemory>
         ensures ok { OnOk result (self.new ≡ record self.old { room = max self.old.room most }) }
+        ensures more { OnErr result (self.old.room < most) }
         ensures err { OnErr result (self.new ≡ self.old) }
     {
         if most <= self.room {
@@ -268,7 +253,8 @@ impl<N: Kept> Links<N> {
     /// On an error nothing changes, and the node is handed back. The error is out of memory: an
     /// allocation failed, or the lists and the keys (once room was made, all that memory is for) would be
     /// more than the 4,294,967,296 that a link of 32 bits can name. There is none while fewer nodes are here than
-    /// `reserve` made room for. Which unused key the node gets is a free choice.
+    /// `reserve` made room for. Which unused key the node gets is a free choice. From then on it is ready, so that the
+    /// next node under it asks for no memory and adds no link.
     // Inlined, but for the growth: a key that comes back through memory costs a start up to a half.
     #[inline(always)]
     pub fn push_back(&mut self, list: usize, node: Node) -> Result<usize, (Node, OutOfMemory)>
@@ -277,6 +263,8 @@ impl<N: Kept> Links<N> {
         ensures fresh { IfOk result (λ key. node_at key self.old.lists ≡ None) }
         ensures pushed { IfOk result (λ key. self.new.lists ≡ with_row list (key, node) self.old.lists) }
         ensures room { self.new.room ≡ self.old.room }
+        ensures ready { IfOk result (λ key. key < self.new.ready) }
+        ensures still_ready { self.old.ready ≤ self.new.ready }
         ensures full { OnErr result (self.old.room ≤ row_count self.old.lists) }
         ensures err { OnErr result (self.new ≡ self.old) }
         ensures handed_back { IfErr result (λ failed. failed.0 ≡ node) }
@@ -304,6 +292,7 @@ impl<N: Kept> Links<N> {
         ensures node { result ≡ node_at key self.old.lists }
         ensures taken { self.new.lists ≡ map (without_key key) self.old.lists }
         ensures room { self.new.room ≡ self.old.room }
+        ensures ready { self.new.ready ≡ self.old.ready }
     {
         if !self.nodes.contains(key) {
             return None;
@@ -320,6 +309,7 @@ impl<N: Kept> Links<N> {
         ensures node { Some result.node ≡ node_at key self.old.lists }
         ensures taken { self.new.lists ≡ map (without_key key) self.old.lists }
         ensures room { self.new.room ≡ self.old.room }
+        ensures ready { self.new.ready ≡ self.old.ready }
         ensures emptied { IsAloneIn key self.old.lists result.emptied }
     {
         let neighbours = self.neighbours[self.lists + key];
@@ -341,6 +331,7 @@ impl<N: Kept> Links<N> {
         requires { list < length self.old.lists }
         ensures popped { PopsFront list self.old.lists result self.new.lists }
         ensures room { self.new.room ≡ self.old.room }
+        ensures ready { self.new.ready ≡ self.old.ready }
     {
         let key = self.used_front(list)?;
         let after = self.neighbours[self.lists + key].after as usize;
@@ -357,6 +348,7 @@ impl<N: Kept> Links<N> {
         requires keeps { N.keeps node }
         ensures set { SetsNode key node self.old.lists self.new.lists }
         ensures room { self.new.room ≡ self.old.room }
+        ensures ready { self.new.ready ≡ self.old.ready }
     {
         self.nodes[key] = N::keep(node);
     }
@@ -369,6 +361,7 @@ impl<N: Kept> Links<N> {
         requires list { list < length self.old.lists }
         ensures moved { MovesBack key list self.old.lists self.new.lists }
         ensures room { self.new.room ≡ self.old.room }
+        ensures ready { self.new.ready ≡ self.old.ready }
         ensures emptied { IsAloneIn key self.old.lists result }
     {
         let index = self.lists + key;
@@ -387,6 +380,7 @@ impl<N: Kept> Links<N> {
         requires to { to < length self.old.lists }
         ensures moved { self.new.lists ≡ front_moved from to self.old.lists }
         ensures room { self.new.room ≡ self.old.room }
+        ensures ready { self.new.ready ≡ self.old.ready }
     {
         let Some(key) = self.used_front(from) else {
             return;
@@ -407,6 +401,7 @@ impl<N: Kept> Links<N> {
         requires apart { to ≢ from }
         ensures appended { self.new.lists ≡ appended from to self.old.lists }
         ensures room { self.new.room ≡ self.old.room }
+        ensures ready { self.new.ready ≡ self.old.ready }
     {
         let Some(_) = self.front(from) else {
             return;
@@ -447,6 +442,7 @@ impl Links<Node> {
         requires { IsSome (node_at key self.old.lists) }
         ensures set { SetsRounds key rounds self.old.lists self.new.lists }
         ensures room { self.new.room ≡ self.old.room }
+        ensures ready { self.new.ready ≡ self.old.ready }
     {
         self.nodes[key].rounds = rounds;
     }
@@ -475,6 +471,9 @@ fn make_way<N: Kept>(
         ≤ max (length neighbours.old.items) (lists + nodes.old.vacant_key + 64) }
     ensures room { HasRoom room lists nodes.new.capacity (vec_capacity neighbours.new) }
     ensures ready { IsReady ready.new lists nodes.new.capacity (vec_len neighbours.new) }
+    ensures still_ready { ready.old ≤ ready.new }
+    ensures next { OnOk result (nodes.new.vacant_key < nodes.new.capacity → nodes.new.vacant_key < ready.new) }
+    ensures same { OnErr result (ready.new ≡ ready.old) }
     ensures fits { OnOk result (HasRoomFor nodes.new 1) }
     ensures index { OnOk result (HasIndex lists nodes.new neighbours.new.items) }
     ensures full { OnErr result (room ≤ slab_len nodes.old) }

@@ -20,8 +20,8 @@ invariant_of-self g c =
 pub returns-in_default-clause-err : goal.returns-in_default-clause-err
 returns-in_default-clause-err g c =
     let h = opened g.N.Kept.node_of _ _ _ c.self.inside.nodes c.self.inside.neighbours c.args.self.now c.self.view_is c.self.invariant in
-    state_is _ _ _ (lists_are _ _ _ _ (reserved _ _ _ _ h _ _ (same_nodes g.N.Kept.node_of c.self.inside.nodes c.make_room.new.nodes c.make_room.ensures.nodes) c.make_room.ensures.kept))
-    (ap (λ (x : LinksState). x.room) c.self.view_is)
+    state_is _ _ _ _ (lists_are _ _ _ _ (reserved _ _ _ _ h _ _ (same_nodes g.N.Kept.node_of c.self.inside.nodes c.make_room.new.nodes c.make_room.ensures.nodes) c.make_room.ensures.kept))
+    (ap (λ (x : LinksState). x.room) c.self.view_is) (ap (λ (x : LinksState). x.ready) c.self.view_is)
 
 pub invariant_of-self-2 : goal.invariant_of-self-2
 invariant_of-self-2 g c =
@@ -43,5 +43,6 @@ invariant_of-self-2 g c =
 pub returns-clause-ok : goal.returns-clause-ok
 returns-clause-ok g c =
     let h = opened g.N.Kept.node_of _ _ _ c.self.inside.nodes c.self.inside.neighbours c.args.self.now c.self.view_is c.self.invariant in
-    state_is _ _ _ (lists_are _ _ _ _ (reserved _ _ _ _ h _ _ (same_nodes g.N.Kept.node_of c.self.inside.nodes c.make_room.new.nodes c.make_room.ensures.nodes) c.make_room.ensures.kept))
+    state_is _ _ _ _ (lists_are _ _ _ _ (reserved _ _ _ _ h _ _ (same_nodes g.N.Kept.node_of c.self.inside.nodes c.make_room.new.nodes c.make_room.ensures.nodes) c.make_room.ensures.kept))
     (c.max-self-inside.ensures ∙ ap (λ (x : LinksState). max x.room c.args.most) c.self.view_is)
+    (ap (λ (x : LinksState). x.ready) c.self.view_is)

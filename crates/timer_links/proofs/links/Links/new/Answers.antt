@@ -23,4 +23,4 @@ invariant_of-result g c = (stands _ _ _ _ c.loop-list.neighbours _ (linked g c) 
     (record { fits = omega arith; indexed = search rules })).invariant
 
 pub returns : goal.returns
-returns g c = let f : KeyedLists → LinksState = λ x. record { lists = x; room = 0 } in ap f (lists_are _ _ _ _ (linked g c))
+returns g c = let f : KeyedLists → LinksState = λ x. record { lists = x; room = 0; ready = 0 } in ap f (lists_are _ _ _ _ (linked g c))

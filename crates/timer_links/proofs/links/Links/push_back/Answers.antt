@@ -21,7 +21,8 @@ pub invariant_of-self : goal.invariant_of-self
 invariant_of-self g c = (made g c).invariant
 
 pub returns-in_default-clause-err : goal.returns-in_default-clause-err
-returns-in_default-clause-err g c = state_is _ _ _ (made g c).value (ap (λ (x : LinksState). x.room) c.self.view_is)
+returns-in_default-clause-err g c = state_is _ _ _ _ (made g c).value (ap (λ (x : LinksState). x.room) c.self.view_is)
+    (c.in_default.ensures.same ∙ ap (λ (x : LinksState). x.ready) c.self.view_is)
 
 pub join_last-requires-clause-last : goal.join_last-requires-clause-last
 join_last-requires-clause-last g c =
