@@ -8,7 +8,7 @@ use Rattle.timer_wheels.specs.Buckets.{row_at}
 use Rattle.timer_base.specs.WheelState.{IsPending}
 use Rattle.timer_links.specs.Lists.{with_row, appended, front_moved, first_row_moved}
 use Rattle.timer_wheels.specs.Bank.{IsBank}
-use Rattle.timer_wheels.specs.BucketLists.{row_timer, entries_of, AreBuckets, EachRow, wheel_state}
+use Rattle.timer_wheels.specs.BucketLists.{row_timer, entries_of, AreInOrder, AreBuckets, EachRow, wheel_state}
 use Rattle.timer_wheels.specs.Digits.{IsTable, HasDigits, radix, level}
 use Rattle.timer_wheels.specs.Migration.{first_deadline}
 use Rattle.timer_wheels.specs.Occupied.{bit_of, filled, AreMarked}
@@ -18,6 +18,7 @@ use Rattle.timer_wheels.specs.declared.buckets.Buckets.{Buckets}
 use Rattle.timer_wheels.proofs.AllLemmas.{all-both}
 use Rattle.timer_wheels.proofs.DigitLaws.{digits_down, level_in_table}
 use Rattle.timer_wheels.proofs.OccupiedLemmas.{filled_behind, marked_set, marked_same}
+use Rattle.timer_wheels.proofs.OrderedLists.{ordered-same}
 use Rattle.timer_wheels.proofs.RowLemmas.{all-list_at}
 use Rattle.timer_wheels.proofs.SmoothLaws.{started_stands, stands_by_law}
 use Rattle.timer_wheels.proofs.SmoothMoves.{after_from, after_to, after_others}
@@ -88,6 +89,7 @@ pub record IsMoved {N : Type 0} {kept : Ghosts N} (t : Table) (b : Buckets N kep
   pub sound : AreBuckets b.slots b.last_tick b.tick b.last_serial new
   pub state : wheel_state b.slots b.last_tick b.tick b.last_serial new ≡ wheel_state b.slots b.last_tick b.tick b.last_serial b.links.lists
   pub placed : EachRow (IsByLaw (radices t) b.tick (mark (radices t) b.tick new)) b.slots new
+  pub in_order : AreInOrder b.slots new
   pub fewer : length (list_at from new) + 1 ≡ length (list_at from b.links.lists)
   pub to_in : to < b.slots
   pub from_in : from < b.slots
@@ -124,7 +126,7 @@ module _ {N : Type 0} {kept : Ghosts N} (t : Table) (b : Buckets N kept) (words 
   ranges j s l = rw h.has_slots (lists_in_range t j s l)
 
   a_step : IsStep (radices t) b.slots b.last_tick b.tick b.last_serial k b.links.lists f.row f.rest
-  a_step = step (radices t) b.slots b.last_tick b.tick b.last_serial k b.links.lists f.row f.rest i (turns_of_table t) b.sound placed wheel ranges f.at
+  a_step = step (radices t) b.slots b.last_tick b.tick b.last_serial k b.links.lists f.row f.rest i (turns_of_table t) b.sound h.in_order placed wheel ranges f.at
 
   marks_by_bits : descend_by (radices t) b.tick words d k ≡ a_step.on
   marks_by_bits = ap (λ (x : ℕ). descend_by (radices t) b.tick words x k) (sym f.deadline) ∙ a_step.by_bits words h.marked.0
@@ -139,7 +141,7 @@ module _ {N : Type 0} {kept : Ghosts N} (t : Table) (b : Buckets N kept) (words 
       ∙ ap (λ (x : ℕ). with_row x f.row (slice_set b.links.lists (next_list (radices t) b.tick (suc k)) f.rest)) to_is)
 
   from_after : list_at (next_list (radices t) b.tick (suc k)) (stepped (radices t) b.tick k a_step.on b.links.lists f.row f.rest) ≡ f.rest
-  from_after = after_from b.sound a_step.move
+  from_after = after_from b.sound h.in_order a_step.move
 
   -- where it goes is no next bucket, while ticks are left
   not_next : ticks_to_half (radices t) b.tick (suc k) ≢ 0 → (j : ℕ) → 0 < j → j < length (radices t)
@@ -204,12 +206,13 @@ module _ {N : Type 0} {kept : Ghosts N} (t : Table) (b : Buckets N kept) (words 
     placed = to_law (radices t) b.last_tick b.tick b.last_serial
         (mark (radices t) b.tick (stepped (radices t) b.tick k a_step.on b.links.lists f.row f.rest)) i digits b.slots
         (stepped (radices t) b.tick k a_step.on b.links.lists f.row f.rest) a_step.sound a_step.placed;
+    in_order = a_step.in_order;
     fewer = omega (arith, ap (λ (r : Rows). length r) from_after, ap (λ (r : Rows). length r) f.at);
     to_in = a_step.move.to_in;
     from_in = a_step.move.from_in;
     apart = a_step.move.elsewhere;
-    others = after_others b.sound a_step.move;
-    there = ap filled (after_to b.sound a_step.move) ∙ filled_behind (list_at (smooth_list (radices t) a_step.on
+    others = after_others b.sound h.in_order a_step.move;
+    there = ap filled (after_to b.sound h.in_order a_step.move) ∙ filled_behind (list_at (smooth_list (radices t) a_step.on
         (slot_in (radices t) a_step.on (row_timer f.row).deadline)) b.links.lists) f.row;
     was = ap filled f.at;
     falls = omega (arith, row_moved, a_step.lower);
@@ -218,7 +221,7 @@ module _ {N : Type 0} {kept : Ghosts N} (t : Table) (b : Buckets N kept) (words 
       row_moved,
       one_lower (λ (e : ticks_to_half (radices t) b.tick (suc k) ≡ 0). omega (arith, early e, ap (λ (r : Rows). length r) f.at)),
     );
-    next_same = λ early j z l n. after_others b.sound a_step.move (next_list (radices t) b.tick j)
+    next_same = λ early j z l n. after_others b.sound h.in_order a_step.move (next_list (radices t) b.tick j)
         (λ (y : next_list (radices t) b.tick j ≡ next_list (radices t) b.tick (suc k)).
         n (one_wheel (radices t) j (suc k) (slot_in (radices t) j b.tick + 1) (slot_in (radices t) (suc k) b.tick + 1) i
         (turns_of_table t) l wheel y))
@@ -305,7 +308,7 @@ module _ {N : Type 0} {kept : Ghosts N} (t : Table) (b : Buckets N kept) (words 
 
   pub bank_ticked : AreTickedLists (radices t) b.slots b.last_tick b.tick b.last_serial b.links.lists
       (appended (smooth_list (radices t) zero (b.tick + 1)) b.slots b.links.lists)
-  bank_ticked = ticked (radices t) b.slots b.last_tick b.tick b.last_serial b.links.lists tick_table (turns_of_table t) tick_some b.sound tick_placed
+  bank_ticked = ticked (radices t) b.slots b.last_tick b.tick b.last_serial b.links.lists tick_table (turns_of_table t) tick_some b.sound h.in_order tick_placed
       before_last none_due tick_ranges empty
 
   pub tick_by_law : EachRow (IsByLaw (radices t) (b.tick + 1) (mark (radices t) (b.tick + 1)
@@ -318,7 +321,7 @@ module _ {N : Type 0} {kept : Ghosts N} (t : Table) (b : Buckets N kept) (words 
   pub tick_next : (j : ℕ) → 0 < j → j < length (radices t) → slot_in (radices t) j (b.tick + 1) ≡ slot_in (radices t) j b.tick
       → list_at (next_list (radices t) (b.tick + 1) j) (appended (smooth_list (radices t) zero (b.tick + 1)) b.slots b.links.lists)
       ≡ list_at (next_list (radices t) b.tick j) b.links.lists
-  tick_next = next_same (radices t) b.slots b.last_tick b.tick b.last_serial b.links.lists tick_table (turns_of_table t) tick_some b.sound
+  tick_next = next_same (radices t) b.slots b.last_tick b.tick b.last_serial b.links.lists tick_table (turns_of_table t) tick_some b.sound h.in_order
       tick_placed before_last none_due tick_ranges empty
 
   pub tick_heights : heights (radices t) b.slots (appended (smooth_list (radices t) zero (b.tick + 1)) b.slots b.links.lists)
@@ -334,10 +337,10 @@ module _ {N : Type 0} {kept : Ghosts N} (t : Table) (b : Buckets N kept) (words 
       let to_in : smooth_list (radices t) zero (b.tick + 1) < b.slots = tick_ranges zero (b.tick + 1) tick_some in (
         (λ (s : ℕ) (k : s < b.slots). elim (cases_eq s (smooth_list (radices t) zero (b.tick + 1))) [
           | inl e ↦ ap (bit_of words2) e ∙ (here ∙ sym (ap (λ (x : ℕ). filled (list_at x (appended (smooth_list (radices t) zero (b.tick + 1)) b.slots b.links.lists))) e
-              ∙ ap filled (new_l (radices t) b.slots b.last_tick b.tick b.last_serial b.links.lists tick_table (turns_of_table t) tick_some b.sound tick_placed
+              ∙ ap filled (new_l (radices t) b.slots b.last_tick b.tick b.last_serial b.links.lists tick_table (turns_of_table t) tick_some b.sound h.in_order tick_placed
               before_last none_due tick_ranges empty)))
           | inr x ↦ others s x ∙ (h.marked.0 s k ∙ sym (ap filled (new_others (radices t) b.slots b.last_tick b.tick b.last_serial b.links.lists tick_table
-              (turns_of_table t) tick_some b.sound tick_placed before_last none_due tick_ranges empty s x (λ (e : s ≡ b.slots). omega arith))))
+              (turns_of_table t) tick_some b.sound h.in_order tick_placed before_last none_due tick_ranges empty s x (λ (e : s ≡ b.slots). omega arith))))
         ]),
         (λ (s : ℕ) (a : b.slots ≤ s) c. others s (λ (e : s ≡ smooth_list (radices t) zero (b.tick + 1)). omega arith) ∙ h.marked.1 s a c),
       )
@@ -362,7 +365,8 @@ bits_are_law t b words h timer fresh serial k l =
 
 module _ {N : Type 0} {kept : Ghosts N} (t : Table) (b : Buckets N kept) (words : List ℕ) (h : IsBank t b words) (timer : Timer) (place list last2 : ℕ)
     (in_range : timer.deadline ≤ b.last_tick) (fresh : b.last_serial < timer.serial) (serial : timer.serial ≤ LAST)
-    (sound : AreBuckets b.slots b.last_tick b.tick last2 (with_row list (row_at place timer 0) b.links.lists)) where
+    (sound : AreBuckets b.slots b.last_tick b.tick last2 (with_row list (row_at place timer 0) b.links.lists))
+    (ordered : AreInOrder b.slots (with_row list (row_at place timer 0) b.links.lists)) where
   start_digits : HasDigits (radices t) b.last_tick
   start_digits = rw h.clock (of_table t).digits
 
@@ -407,7 +411,7 @@ module _ {N : Type 0} {kept : Ghosts N} (t : Table) (b : Buckets N kept) (words 
       (slot_in (radices t) (smooth_level (radices t) b.tick (mark (radices t) b.tick b.links.lists) timer) timer.deadline) st2.wheel) in
       start_law (places_with_row (radices t) b.tick b.slots list (smooth_level (radices t) b.tick (mark (radices t) b.tick b.links.lists) timer)
       b.links.lists (row_at place timer 0) start_table (turns_of_table t) (omega (arith, b.sound.has_lists)) serial st2 refl
-      (λ s l. sound.in_order s (omega arith)) start_placed)
+      ordered start_placed)
 
   pub due_placed : list ≡ b.slots
       → EachRow (IsByLaw (radices t) b.tick (mark (radices t) b.tick (with_row list (row_at place timer 0) b.links.lists))) b.slots
@@ -418,7 +422,7 @@ module _ {N : Type 0} {kept : Ghosts N} (t : Table) (b : Buckets N kept) (words 
       start_law (places_left (radices t) b.tick b.slots b.links.lists (with_row list (row_at place timer 0) b.links.lists)
       (λ s l P a. subst (AllByRecursion P) (sym (same s l)) a)
       (λ j z l. omega (arith, ap moved_to (same (next_list (radices t) b.tick j) (start_ranges j (slot_in (radices t) j b.tick + 1) l))))
-      (λ s l. sound.in_order s (omega arith)) start_placed)
+      ordered start_placed)
 
 pub start_marked : (n now : ℕ) (lists : KeyedLists) (words words2 : List ℕ) (row : Row) (list d : ℕ) → AreMarked n words lists
     → length lists ≡ n + 1 → ((list < n) × (now < d)) ⊎ ((list ≡ n) × (d ≡ now))
@@ -450,5 +454,5 @@ same_placed t b words h last2 new sound same =
     let r : smooth_list (radices t) j (slot_in (radices t) j b.tick + 1) < b.slots =
     rw h.has_slots (lists_in_range t j (slot_in (radices t) j b.tick + 1) l) in
     omega (arith, ap moved_to (same (next_list (radices t) b.tick j) r)))
-    (λ s l. sound.in_order s (omega arith))
+    (ordered-same b.slots b.links.lists new same h.in_order)
     (to_relation (radices t) b.last_tick b.tick b.last_serial (mark (radices t) b.tick b.links.lists) i digits b.slots b.links.lists b.sound h.placed))

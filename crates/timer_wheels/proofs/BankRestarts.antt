@@ -8,7 +8,7 @@ use Rattle.timer_base.specs.WheelState.{IsPending}
 use Rattle.timer_links.specs.Lists.{with_row, without_key}
 use Rattle.timer_wheels.specs.Types.{LAST, Handle, Timer, Ghosts, list_at, Table}
 use Rattle.timer_wheels.specs.Bank.{IsBank}
-use Rattle.timer_wheels.specs.BucketLists.{row_timer, AreBuckets, EachRow}
+use Rattle.timer_wheels.specs.BucketLists.{row_timer, AreInOrder, AreBuckets, EachRow}
 use Rattle.timer_wheels.specs.Buckets.{row_at}
 use Rattle.timer_wheels.specs.Digits.{IsTable, HasDigits, level}
 use Rattle.timer_wheels.specs.Smooth.{slot_in, smooth_list, next_list, moved_to, mark, descend_by, IsByLaw, IsSmooth}
@@ -28,7 +28,8 @@ use Rattle.timer_wheels.proofs.Updates.{removed}
 module _ {N : Type 0} {kept : Ghosts N} (t : Table) (b : Buckets N kept) (words : List ℕ) (h : IsBank t b words) (handle : Handle) (timer : Timer) (list last2 : ℕ)
     (in_range : timer.deadline ≤ b.last_tick) (fresh : b.last_serial < timer.serial) (serial : timer.serial ≤ LAST)
     (sound : AreBuckets b.slots b.last_tick b.tick last2
-    (with_row list (row_at handle.place timer 0) (map (without_key handle.place) b.links.lists))) where
+    (with_row list (row_at handle.place timer 0) (map (without_key handle.place) b.links.lists)))
+    (ordered : AreInOrder b.slots (with_row list (row_at handle.place timer 0) (map (without_key handle.place) b.links.lists))) where
   table : IsTable (radices t)
   table = (of_table t).is_table
 
@@ -82,7 +83,7 @@ module _ {N : Type 0} {kept : Ghosts N} (t : Table) (b : Buckets N kept) (words 
       let there : list < b.slots = rw e (ranges on (slot_in (radices t) on timer.deadline) g.wheel) in
       let exists : list < length (map (without_key handle.place) b.links.lists) = omega (arith, mid_sound.has_lists) in
       by_law (places_newest (radices t) b.tick b.slots list on (map (without_key handle.place) b.links.lists) (row_at handle.place timer 0)
-      exists refl (λ s k. sound.in_order s (omega arith)) older mid_placed (record {
+      exists refl ordered older mid_placed (record {
         wheel = g.wheel;
         at_list = e;
         ahead = g.ahead;
@@ -104,7 +105,7 @@ module _ {N : Type 0} {kept : Ghosts N} (t : Table) (b : Buckets N kept) (words 
             subst (λ (x : ℕ). moved_to (list_at x (with_row list (row_at handle.place timer 0) (map (without_key handle.place) b.links.lists)))
             < timer.serial) (e ∙ ap (smooth_list (radices t) on) q)
             (newest_kept (radices t) b.tick b.slots list on (map (without_key handle.place) b.links.lists) (row_at handle.place timer 0) exists
-            (λ s k. sound.in_order s (omega arith)) there);
+            ordered there);
       }))
 
   pub restarted_due : list ≡ b.slots
@@ -120,4 +121,4 @@ module _ {N : Type 0} {kept : Ghosts N} (t : Table) (b : Buckets N kept) (words 
       (with_row list (row_at handle.place timer 0) (map (without_key handle.place) b.links.lists))
       (λ s l P a. subst (AllByRecursion P) (sym (same s l)) a)
       (λ j z l. omega (arith, ap moved_to (same (next_list (radices t) b.tick j) (ranges j (slot_in (radices t) j b.tick + 1) l))))
-      (λ s l. sound.in_order s (omega arith)) mid_placed)
+      ordered mid_placed)

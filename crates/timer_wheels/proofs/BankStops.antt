@@ -18,6 +18,7 @@ use Rattle.timer_wheels.specs.Tables.{radices}
 use Rattle.timer_wheels.specs.declared.buckets.Buckets.{Buckets}
 use Rattle.timer_wheels.proofs.Handles.{held_node}
 use Rattle.timer_wheels.proofs.OccupiedLemmas.{marked_same}
+use Rattle.timer_wheels.proofs.OrderedLists.{ordered-without_key}
 use Rattle.timer_wheels.proofs.RowLemmas.{all-list_at, list_at-without_key}
 use Rattle.timer_wheels.proofs.BankLemmas.{to_relation, to_law, lists_in_range}
 use Rattle.timer_wheels.proofs.SmoothPlaces.{weaker, places_left, front_gone}
@@ -72,10 +73,10 @@ module _ {N : Type 0} {kept : Ghosts N} (t : Table) (b : Buckets N kept) (words 
       omega (
         arith,
         filter_rises (λ row. not (row.0 == handle.place)) 0 (list_at (next_list (radices t) b.tick j) b.links.lists) known
-            (b.sound.in_order (next_list (radices t) b.tick j) (omega arith)),
+            (h.in_order (next_list (radices t) b.tick j) r),
         ap moved_to (list_at-without_key (next_list (radices t) b.tick j) handle.place b.links.lists),
       ))
-      (λ s l. sound.in_order s (omega arith))
+      (ordered-without_key b.slots handle.place b.links.lists h.in_order)
       (to_relation (radices t) b.last_tick b.tick b.last_serial (mark (radices t) b.tick b.links.lists) i digits b.slots b.links.lists b.sound h.placed))
 
   module _ (apart : AreApart b.links.lists) (timer : Timer) (e : held_at handle (state_of b) ≡ Some timer) (emptied : Option ℕ)

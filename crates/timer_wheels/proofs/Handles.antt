@@ -184,7 +184,7 @@ module _ {n last_tick now last : ℕ} {lists : KeyedLists} (b : AreBuckets n las
   past_have = apart_list n handle.place lists (omega (arith, b.has_lists)) apart
 
   past_distinct : AreDistinct (row_timers past)
-  past_distinct = AreDistinct-rising 0 (row_timers past) (b.in_order n (omega arith))
+  past_distinct = AreDistinct-rising 0 (row_timers past) b.due_in_order
 
   both : AreSides handle (node_in handle.place rows) (node_in handle.place past) found
   both = sides handle now (node_in handle.place rows) (node_in handle.place past) found (node_at-parts n handle.place lists b.has_lists)

@@ -192,7 +192,7 @@ stays n last_tick now last lists p b t h = all-both (λ row. IsPending last_tick
     (all-list_at (λ row. IsPending last_tick now last (row_timer row)) n lists p t h) (b t h)
 
 module _ {n last_tick now last : ℕ} {lists : KeyedLists} (a : AreBuckets n last_tick now last lists) (z : 0 < n)
-    (b : AreInBuckets n now lists) (none : list_at n lists ≡ []) where
+    (b : AreInBuckets n now lists) (o : AreInOrder n lists) (none : list_at n lists ≡ []) where
   -- the slot of the tick, its bucket, and the lists after the tick
   abbrev tick_slot : ℕ
   tick_slot = (now + 1) % n
@@ -260,15 +260,12 @@ module _ {n last_tick now last : ℕ} {lists : KeyedLists} (a : AreBuckets n las
   ticked-in_buckets = stays-in_buckets n last_tick (now + 1) last new each_after
 
   rising_bucket : AreRising 0 (row_timers bucket)
-  rising_bucket = a.in_order tick_slot (omega (arith, below))
+  rising_bucket = o tick_slot below
 
-  ticked-in_order : AreInOrder (n + 1) new
-  ticked-in_order t h = elim (cases_eq t n) [
-    | inl e ↦ rw (e, at_due) (AreRising-part has_no_rounds 0 bucket rising_bucket)
-    | inr x ↦ elim (cases_eq t tick_slot) [
-      | inl e ↦ rw (e, at_this) (rising-later 0 bucket rising_bucket)
-      | inr y ↦ rw (at_other t (omega arith) y) (a.in_order t h)
-    ]
+  pub ticked-in_order : AreInOrder n new
+  ticked-in_order t h = elim (cases_eq t tick_slot) [
+    | inl e ↦ rw (e, at_this) (rising-later 0 bucket rising_bucket)
+    | inr y ↦ rw (at_other t h y) (o t h)
   ]
 
   ticked-distinct : AreDistinct (row_timers (rows_below n new))
@@ -306,7 +303,7 @@ module _ {n last_tick now last : ℕ} {lists : KeyedLists} (a : AreBuckets n las
     distinct = ticked-distinct;
     due = due_past last_tick now (now + 1) last (pending_in (rows_below n lists)) (list_at n new)
         (wheel_state-well_formed n last_tick now last lists a).each (ap (λ (w : WheelState). w.due) ticked);
-    in_order = ticked-in_order;
+    due_in_order = rw at_due (AreRising-part has_no_rounds 0 bucket rising_bucket);
   }
 
 -- Slots.

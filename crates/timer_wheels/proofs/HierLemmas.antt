@@ -14,10 +14,11 @@ use Rattle.timer_wheels.specs.declared.buckets.Buckets.{Buckets}
 use Rattle.timer_wheels.specs.Tables.{radices}
 use Rattle.timer_wheels.specs.Digits.{slots, level, last_of}
 use Rattle.timer_wheels.proofs.DigitLaws.{level_in_table, digits_down, IsHierTable}
-use Rattle.timer_wheels.specs.BucketLists.{EachRow}
+use Rattle.timer_wheels.specs.BucketLists.{AreInOrder, EachRow}
 use Rattle.timer_wheels.specs.Placement.{IsPlaced, bucket_at, no_rounds, levels_of, IsPaid, most_moves}
 use Rattle.timer_wheels.proofs.BucketLemmas.{each-none}
 use Rattle.timer_wheels.specs.Shown.{ShowsBuckets}
+use Rattle.timer_wheels.proofs.OrderedLists.{ordered-all}
 use Rattle.timer_wheels.proofs.ShownLemmas.{shows}
 use Rattle.std.proofs.lemmas.Nat.{mul-le}
 
@@ -108,11 +109,11 @@ few_starts old new place starts t rest h k e =
 -- What the buckets show.
 
 pub shown : {N : Type 0} {kept : Ghosts N} (table : List ℕ) (b : Buckets N kept) → b.slots ≡ slots table → EachRow (IsPlaced table b.tick) b.slots b.links.lists
-    → ShowsBuckets (slots table) (bucket_at table b.tick) no_rounds (state_of b) b.links.lists
-shown table b s p =
+    → AreInOrder b.slots b.links.lists → ShowsBuckets (slots table) (bucket_at table b.tick) no_rounds (state_of b) b.links.lists
+shown table b s p o =
     let P : ℕ → Type 0 = λ n. ShowsBuckets n (bucket_at table b.tick) no_rounds (state_of b) b.links.lists in
     subst P s (shows-with_room b.links.room _ _ _ _ _ (shows b.slots (bucket_at table b.tick) no_rounds b.links.lists b.sound.has_lists p
-    b.last_tick b.tick b.last_serial b.sound.in_order))
+    b.last_tick b.tick b.last_serial (ordered-all b.sound o)))
 
 -- the same of a table that is as it was
 pub paid_at : {N : Type 0} {kept : Ghosts N} (starts moves : ℕ) (b : Buckets N kept) (old new : Table) → new ≡ old

@@ -28,6 +28,7 @@ pub record IsBefore (table : List ℕ) (last_tick a last_serial : ℕ) (lists : 
   pub before_last : a < last_tick
   pub sound : AreBuckets (slots table) last_tick a last_serial lists
   pub placed : EachRow (IsPlaced table a) (slots table) lists
+  pub in_order : AreInOrder (slots table) lists
   pub none_due : list_at (slots table) lists ≡ []
 
 -- the invariant of each row of a bucket before the tick
@@ -186,6 +187,7 @@ levels_pay table a (e ∷ es) h =
 pub record IsNext (table : List ℕ) (n last_tick a last_serial moves : ℕ) (lists new : KeyedLists) : Type 0 where
   pub sound : AreBuckets n last_tick (a + 1) last_serial new
   pub placed : EachRow (IsPlaced table (a + 1)) n new
+  pub in_order : AreInOrder n new
   pub ticked : wheel_state n last_tick (a + 1) last_serial new ≡ after_tick (wheel_state n last_tick a last_serial lists)
   pub moves_are : moves ≡ hops_of table a 1 (pending_in (rows_below n lists))
   pub pays : moves + levels_of table (a + 1) (pending_in (rows_below n new)) ≤ levels_of table a (pending_in (rows_below n lists))
@@ -299,20 +301,17 @@ module _ {table : List ℕ} {last_tick a last_serial : ℕ} {lists : KeyedLists}
   Rising rows = AreRising 0 (row_timers rows)
 
   rising_l : Rising rows_l
-  rising_l = b.sound.in_order l (omega (arith, l_in_range))
+  rising_l = b.in_order l l_in_range
 
-  after-in_order : AreInOrder (slots table + 1) after
+  after-in_order : AreInOrder (slots table) after
   after-in_order s h = elim (cases_lt s m) [
     | inl k ↦ subst Rising (sym (below s k)) (AreRising-part (λ row. target table (a + 1) row == s) 0 rows_l rising_l)
-    | inr k ↦ elim (cases_lt s (slots table)) [
-      | inl j ↦ subst Rising (sym (above s k j)) (each_base (λ s rows. s < slots table → Rising rows) (λ i. tt)
-          (λ s n i. b.sound.in_order s (omega arith)) s j)
-      | inr j ↦
-          let e : slots table ≡ s = omega arith in
-          subst Rising (sym (ap (λ (v : ℕ). list_at v after) (sym e) ∙ due_list))
-          (AreRising-part (λ row. is_due_at (a + 1) (row_timer row)) 0 rows_l rising_l)
-    ]
+    | inr k ↦ subst Rising (sym (above s k h)) (each_base (λ s rows. s < slots table → Rising rows) (λ i. tt)
+        (λ s n i. b.in_order s i) s h)
   ]
+
+  due_rising : Rising (list_at (slots table) after)
+  due_rising = subst Rising (sym due_list) (AreRising-part (λ row. is_due_at (a + 1) (row_timer row)) 0 rows_l rising_l)
 
   -- Each row stands where it belongs.
 
@@ -477,9 +476,10 @@ module _ {table : List ℕ} {last_tick a last_serial : ℕ} {lists : KeyedLists}
       distinct = keeps.distinct;
       due = due_past last_tick a (a + 1) last_serial (pending_in rows) (list_at (slots table) after)
           (wheel_state-well_formed (slots table) last_tick a last_serial lists b.sound).each after-due;
-      in_order = after-in_order;
+      due_in_order = due_rising;
     };
     placed = after-placed;
+    in_order = after-in_order;
     ticked = rw (after-left, after-due) refl;
     moves_are = after-moves;
     pays = rw after-left (omega (arith, after-moves, levels_fall));
@@ -515,13 +515,15 @@ module _ {table : List ℕ} {last_tick a last_serial : ℕ} {lists : KeyedLists}
 
 pub before_of : (table : List ℕ) (n last_tick a last_serial : ℕ) (lists : KeyedLists) → n ≡ slots table → IsTable table
     → HasDigits table last_tick → a < last_tick
-    → AreBuckets n last_tick a last_serial lists → EachRow (IsPlaced table a) n lists → entries_of (list_at n lists) ≡ []
+    → AreBuckets n last_tick a last_serial lists → EachRow (IsPlaced table a) n lists → AreInOrder n lists
+    → entries_of (list_at n lists) ≡ []
     → IsBefore table last_tick a last_serial lists
-before_of table n last_tick a last_serial lists s i h l b p z = record {
+before_of table n last_tick a last_serial lists s i h l b p o z = record {
   is_table = i;
   digits = h;
   before_last = l;
   sound = subst (λ (k : ℕ). AreBuckets k last_tick a last_serial lists) s b;
   placed = subst (λ (k : ℕ). EachRow (IsPlaced table a) k lists) s p;
+  in_order = subst (λ (k : ℕ). AreInOrder k lists) s o;
   none_due = subst (λ (k : ℕ). list_at k lists ≡ []) s (no_rows (list_at n lists) z);
 }

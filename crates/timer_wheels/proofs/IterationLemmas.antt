@@ -84,5 +84,7 @@ module _ {N : Type 0} {kept : Ghosts N} (b : Buckets N kept) (apart : AreApart b
   alone handle node e s t held =
       let named : timer_named handle (Some node) ≡ held_at handle (state_of b) = held_is b.sound apart handle (Some node) e in
       let same : node.timer ≡ t = some_same node.timer t ((rw (eq-eqb node.timer.serial handle.serial s) at named) ∙ held) in
-      of_pending (λ entry. entry.place ≡ handle.place → entry.timer ≡ t) (λ row k p. ap (λ (n : Node). n.timer)
-      (some_same row.1 node (sym k ∙ (ap (λ (place : ℕ). node_at place b.links.lists) p ∙ sym e))) ∙ same)
+      let at_place : (row : Row) → node_at row.0 b.links.lists ≡ Some row.1 → row.0 ≡ handle.place → row.1.timer ≡ t = λ row k p.
+      ap (λ (n : Node). n.timer) (some_same row.1 node (sym k ∙ (ap (λ (place : ℕ). node_at place b.links.lists) p ∙ sym e))) ∙ same in
+      let P : Entry → Type 0 = λ entry. entry.place ≡ handle.place → entry.timer ≡ t in
+      (of_pending P at_place, of_due P at_place)

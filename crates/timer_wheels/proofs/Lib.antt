@@ -50,6 +50,7 @@ pub mod SmoothWeights
 pub mod SmoothHeights
 pub mod BankNext
 pub mod BankCounts
+pub mod OrderedLists
 pub mod PaceLemmas
 pub mod SmoothTotals
 pub mod SmoothAhead
@@ -58,7 +59,6 @@ pub mod SmoothFirsts
 pub mod SmoothLeaps
 pub mod BankRestarts
 pub mod TieredLemmas
-pub mod IdleLemmas
 pub mod EqualDigits
 -- made by tools/facts: proofs of tables
 pub mod WideDigits

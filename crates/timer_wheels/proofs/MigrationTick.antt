@@ -72,7 +72,7 @@ module _ {N : Type 0} {kept : Ghosts N} {t : Table} {b : Buckets N kept} {words 
   before_tick : IsBefore (radices t) b.last_tick b.tick b.last_serial b.links.lists
   before_tick =
       before_of (radices t) b.slots b.last_tick b.tick b.last_serial b.links.lists h.has_slots (of_table t).is_table (last_digits h) l
-      b.sound h.placed z
+      b.sound h.placed h.in_order z
 
   pub may_migrate_at : {list : ℕ} → list ≡ emptied (radices t) (b.tick + 1)
       → AllByRecursion (MayMigrate (radices t) (b.tick + 1) list) (list_at list b.links.lists)

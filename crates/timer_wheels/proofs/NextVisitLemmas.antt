@@ -131,7 +131,7 @@ module _ {N : Type 0} {kept : Ghosts N} {t : Table} {b : Buckets N kept} {words 
     ≡ list_visit (radices t) l b.tick) (f : IsFirstSet MOST_BUCKETS words (Some l)) where
   shown_some : 0 < length (entries_at (bucket_at (radices t) b.tick) l (state_of b).pending)
   shown_some = some_at (slots (radices t)) (bucket_at (radices t) b.tick) no_rounds (state_of b) b.links.lists
-      (shown (radices t) b h.has_slots h.placed) l (first_in_range h l f) (first_some h l f)
+      (shown (radices t) b h.has_slots h.placed h.in_order) l (first_in_range h l f) (first_some h l f)
 
   first_moves : (n : ℕ) → visit ≡ b.tick + n → (0 < length (entries_due visit (state_of b).pending))
       ⊎ (0 < hops_of (radices t) b.tick n (state_of b).pending)

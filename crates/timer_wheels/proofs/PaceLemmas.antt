@@ -1,5 +1,5 @@
 -- Lemmas for `Paces` and `work`: sums of paces, and next buckets that stay in time.
-use Rattle.std.proofs.Common.{◌≡◌, ◌≢◌, ◌<◌, ◌≤◌, ◌+◌, ◌*◌, ◌/◌, ℕ, zero, suc, List, [], ◌∷◌, length, refl, sym, ◌∙◌, ap, inl, inr, subst, arith}
+use Rattle.std.proofs.Common.{◌≡◌, ◌≢◌, ◌<◌, ◌≤◌, ◌+◌, ◌-◌, ◌*◌, ◌/◌, ℕ, zero, suc, List, [], ◌∷◌, length, refl, sym, ◌∙◌, ap, inl, inr, subst, arith}
 use Rattle.std.proofs.Math.Nat.{div-mul-le_self, mul-le-mul_left}
 use Rattle.std.proofs.lemmas.Bool.{cases_eq}
 use Rattle.timer_links.specs.Lists.{row_count}
@@ -7,7 +7,7 @@ use Rattle.timer_wheels.specs.Types.{Ghosts, list_at, KeyedLists, Table}
 use Rattle.timer_wheels.specs.Bank.{next_len, potential_of, OthersShrink}
 use Rattle.timer_wheels.specs.Digits.{IsTable, weight, lowest_radix}
 use Rattle.timer_wheels.specs.Paces.{pace_at, sum_below, pace_sum, pace_for, FitPaces, HasMoved}
-use Rattle.timer_wheels.specs.Smooth.{slot_in, next_list, ticks_to_half}
+use Rattle.timer_wheels.specs.Smooth.{slot_in, next_list, next_lengths, ticks_to_half}
 use Rattle.timer_wheels.specs.Tables.{radices}
 use Rattle.timer_links.specs.declared.ring.TheConstants.{INDEXES}
 use Rattle.timer_wheels.specs.declared.buckets.Buckets.{Buckets}
@@ -17,12 +17,6 @@ use Rattle.timer_wheels.proofs.SmoothWeights.{weight_some, halves}
 use Rattle.timer_wheels.proofs.TableLaws.{of_table}
 
 -- Sums.
-
-pub most_of_sum : (paces : List ℕ) (n most : ℕ) → ((k : ℕ) → pace_at paces k ≤ most) → sum_below paces n ≤ n * most
-most_of_sum paces zero most f = omega arith
-most_of_sum paces (suc n) most f =
-    let e : suc n * most ≡ n * most + most = omega arith in
-    omega (arith, most_of_sum paces n most f, f n)
 
 pub one_of_sum : (paces : List ℕ) (n i : ℕ) → i < n → pace_at paces i ≤ sum_below paces n
 one_of_sum paces zero i h = absurd (omega arith)
@@ -150,3 +144,32 @@ pub record AreFixed {N : Type 0} {kept : Ghosts N} (t : Table) (b : Buckets N ke
       → next_len t b k ≤ pace_at paces2 k * ticks_to_half (radices t) b.tick k
   pub others : (k : ℕ) → slot_in (radices t) k b.tick * weight k (radices t) ≢ b.tick → pace_at paces2 k ≡ pace_at paces k
   pub fit : (n : ℕ) → row_count b.links.lists ≤ n → FitPaces (radices t) n paces → FitPaces (radices t) n paces2
+
+-- How many timers the next buckets have.
+
+-- how many timers the next buckets of wheels 1 to n have
+abbrev pub next_lens : {N : Type 0} {kept : Ghosts N} → Table → Buckets N kept → ℕ → ℕ
+next_lens t b n = next_lengths (radices t) b.tick b.links.lists n
+
+pub lens_more : {N : Type 0} {kept : Ghosts N} (t : Table) (b : Buckets N kept) (w : ℕ) → 0 < w → next_lens t b w ≡ next_lens t b (w - 1) + next_len t b w
+lens_more t b zero z = absurd (omega arith)
+lens_more t b (suc n) z =
+    let e : suc n - 1 ≡ n = omega arith in
+    ap (λ (x : ℕ). next_lens t b x + next_len t b (suc n)) (sym e)
+
+lens_fewer : {N : Type 0} {kept : Ghosts N} (t : Table) (b c : Buckets N kept) (n : ℕ) → ((k : ℕ) → 0 < k → k ≤ n → next_len t c k ≤ next_len t b k)
+    → next_lens t c n ≤ next_lens t b n
+lens_fewer t b c zero f = omega arith
+lens_fewer t b c (suc n) f = omega (arith, lens_fewer t b c n (λ k z l. f k z (omega arith)), f (suc n) (omega arith) (omega arith))
+
+-- what a tick moves, wheel by wheel, is at most what stands there
+pub counted_more : {N : Type 0} {kept : Ghosts N} (t : Table) (old mid new : Buckets N kept) (moves w more : ℕ) → 0 < w → w < length (radices t)
+    → moves + next_lens t mid (w - 1) ≤ next_lens t old (w - 1) → next_len t mid w ≤ next_len t old w
+    → more + next_len t new w ≡ next_len t mid w → OthersShrink t w mid new
+    → moves + more + next_lens t new (w + 1 - 1) ≤ next_lens t old (w + 1 - 1)
+counted_more t old mid new moves w more above in_table so_far fewer here others =
+    let e : w + 1 - 1 ≡ w = omega arith in
+    let below : next_lens t new (w - 1) ≤ next_lens t mid (w - 1) =
+    lens_fewer t mid new (w - 1) (λ k z l. others k z (omega arith) (λ (q : k ≡ w). omega arith)) in
+    subst (λ (x : ℕ). moves + more + next_lens t new x ≤ next_lens t old x) (sym e)
+    (omega (arith, lens_more t new w above, lens_more t old w above))

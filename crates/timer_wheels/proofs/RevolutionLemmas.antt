@@ -79,11 +79,8 @@ module _ {n last_tick now last : ℕ} {old : KeyedLists} (a : AreBuckets n last_
   pub skipped-in_buckets : AreInBuckets n tick new
   skipped-in_buckets = stays-in_buckets n last_tick tick last new after
 
-  skipped-in_order : AreInOrder (n + 1) new
-  skipped-in_order s h = elim (cases_eq s n) [
-    | inl q ↦ rw (q, others) (a.in_order n (omega arith))
-    | inr x ↦ rw (counted s (omega arith), timers-fewer k (list_at s old)) (a.in_order s h)
-  ]
+  pub skipped-in_order : AreInOrder n old → AreInOrder n new
+  skipped-in_order o s h = rw (counted s h, timers-fewer k (list_at s old)) (o s h)
 
   pub skipped-sound : list_at n old ≡ [] → tick ≤ last_tick → AreBuckets n last_tick tick last new
   skipped-sound d range = record {
@@ -94,7 +91,7 @@ module _ {n last_tick now last : ℕ} {old : KeyedLists} (a : AreBuckets n last_
     pending = stays-pending n last_tick tick last new after;
     distinct = rw timers a.distinct;
     due = rw (others, d) tt;
-    in_order = skipped-in_order;
+    due_in_order = rw others a.due_in_order;
   }
 
   pub skipped-quiet : AreAfter tick (pending_in (rows_below n old))

@@ -1,9 +1,8 @@
 -- The number of a list determines its wheel and, among the slots that a wheel can have timers in, its slot.
-use Rattle.std.proofs.Common.{◌≡◌, ◌<◌, ◌≤◌, ◌+◌, ◌*◌, ◌/◌, ◌%◌, ℕ, zero, suc, List, [], ◌∷◌, length, sym, ◌∙◌, ap, inl, inr, subst, arith}
+use Rattle.std.proofs.Common.{◌≡◌, ◌<◌, ◌≤◌, ◌+◌, ◌*◌, ◌/◌, ◌%◌, ℕ, zero, suc, List, [], ◌∷◌, length, sym, ◌∙◌, ap, inl, inr, arith}
 use Rattle.std.proofs.lemmas.Bool.{cases_eq, cases_lt}
-use Rattle.timer_base.specs.declared.timer.Timer.{Timer}
 use Rattle.timer_wheels.specs.Digits.{IsTable, radix}
-use Rattle.timer_wheels.specs.Smooth.{slot_in, smooth_list, HasTurns, Stands}
+use Rattle.timer_wheels.specs.Smooth.{slot_in, smooth_list, HasTurns}
 use Rattle.std.proofs.Math.Nat.{mul-le-mul_left}
 use Rattle.timer_wheels.proofs.DigitLaws.{quotient_mono}
 use Rattle.timer_wheels.proofs.SmoothSlots.{slot_low, slot_up}
@@ -91,11 +90,6 @@ one_wheel table j k s u i h a b e = elim (cases_eq j k) [
   ]
 ]
 
--- two timers of one list stand on one wheel, in one slot
-pub record StandAlike (table : List ℕ) (k j : ℕ) (t u : Timer) : Type 0 where
-  pub wheel : k ≡ j
-  pub slot : slot_in table k t.deadline ≡ slot_in table k u.deadline
-
 -- where a timer may stand on a wheel
 pub record IsAhead (table : List ℕ) (now k d : ℕ) : Type 0 where
   pub wheel : k < length table
@@ -111,15 +105,3 @@ pub one_slot : (table : List ℕ) (now k d e : ℕ) → IsTable table → IsAhea
     → smooth_list table k (slot_in table k d) ≡ smooth_list table k (slot_in table k e) → slot_in table k d ≡ slot_in table k e
 one_slot table now k d e i a b q = same_rest (2 * radix k table) (slot_in table k now) (slot_in table k d) (slot_in table k e)
     (omega (arith, radix_above table k i)) a.ahead b.ahead (ahead_within table now k d i a) (ahead_within table now k e i b) (omega arith)
-
-pub stand_alike : (table : List ℕ) (now : ℕ) (marks : ℕ → ℕ) (s k j : ℕ) (t u : Timer) → IsTable table → HasTurns table
-    → Stands table now marks s k t → Stands table now marks s j u → StandAlike table k j t u
-stand_alike table now marks s k j t u i h a b =
-    let w : k ≡ j = one_wheel table k j (slot_in table k t.deadline) (slot_in table j u.deadline) i h a.wheel b.wheel
-    (sym a.at_list ∙ b.at_list) in
-    let b2 : Stands table now marks s k u = subst (λ (x : ℕ). Stands table now marks s x u) (sym w) b in
-    record {
-      wheel = w;
-      slot = one_slot table now k t.deadline u.deadline i (record { wheel = a.wheel; ahead = a.ahead; near = a.near })
-          (record { wheel = b2.wheel; ahead = b2.ahead; near = b2.near }) (sym a.at_list ∙ b2.at_list);
-    }

@@ -66,7 +66,7 @@ pending_by_rows rows = sym (map-in_order row_timer timer_of entry_of (λ x. refl
 -- The move.
 
 module _ {n last_tick now last : ℕ} {lists : KeyedLists} {from to : ℕ} {row : Row} {rest : Rows}
-    (b : AreBuckets n last_tick now last lists) (m : IsMove n lists from to row rest) where
+    (b : AreBuckets n last_tick now last lists) (o : AreInOrder n lists) (m : IsMove n lists from to row rest) where
   from_exists : from < length lists
   from_exists = omega (arith, m.from_in, b.has_lists)
 
@@ -113,7 +113,7 @@ module _ {n last_tick now last : ℕ} {lists : KeyedLists} {from to : ℕ} {row 
   new_rows = rows_below n (with_row to row (slice_set lists from rest))
 
   first_rising : AreRising 0 (row_timer row ∷ row_timers rest)
-  first_rising = subst (λ (r : Rows). AreRising 0 (row_timers r)) m.at (b.in_order from (omega (arith, m.from_in)))
+  first_rising = subst (λ (r : Rows). AreRising 0 (row_timers r)) m.at (o from m.from_in)
 
   pub serial_positive : 0 < (row_timer row).serial
   serial_positive = first_rising.0
@@ -121,11 +121,11 @@ module _ {n last_tick now last : ℕ} {lists : KeyedLists} {from to : ℕ} {row 
   pub rest_rising : AreRising (row_timer row).serial (row_timers rest)
   rest_rising = first_rising.1
 
-  pub mid_in_order : AreInOrder (n + 1) (slice_set lists from rest)
+  pub mid_in_order : AreInOrder n (slice_set lists from rest)
   mid_in_order s h = elim (cases_eq s from) [
     | inl e ↦ subst (λ (r : Rows). AreRising 0 (row_timers r)) (sym (ap (λ (x : ℕ). list_at x (slice_set lists from rest)) e ∙ mid_from))
         (AreRising-weaken (row_timer row).serial 0 (row_timers rest) (omega arith) rest_rising)
-    | inr x ↦ subst (λ (r : Rows). AreRising 0 (row_timers r)) (sym (mid_others s x)) (b.in_order s h)
+    | inr x ↦ subst (λ (r : Rows). AreRising 0 (row_timers r)) (sym (mid_others s x)) (o s h)
   ]
 
   pub moved_sound : AreBuckets n last_tick now last (with_row to row (slice_set lists from rest))
@@ -138,11 +138,14 @@ module _ {n last_tick now last : ℕ} {lists : KeyedLists} {from to : ℕ} {row 
         (λ (r : Row). IsPending last_tick now last (row_timer r)) b.pending;
     distinct = distinct_moved row (rows_below n (slice_set lists from rest)) old_rows new_rows inserted_old inserted_new b.distinct;
     due = rw (due_same) b.due;
-    in_order = in_order-with_row (n + 1) to row (slice_set lists from rest) to_exists serial_positive
-        (rw (mid_others to m.elsewhere) m.last_there) mid_in_order;
+    due_in_order = rw due_same b.due_in_order;
   } where
     due_same : list_at n (with_row to row (slice_set lists from rest)) ≡ list_at n lists
     due_same = after_others n (λ (e : n ≡ from). omega (arith, m.from_in)) (λ (e : n ≡ to). omega (arith, m.to_in))
+
+  pub moved_in_order : AreInOrder n (with_row to row (slice_set lists from rest))
+  moved_in_order = in_order-with_row n to row (slice_set lists from rest) to_exists serial_positive
+      (rw (mid_others to m.elsewhere) m.last_there) mid_in_order
 
   pub moved_state : wheel_state n last_tick now last (with_row to row (slice_set lists from rest)) ≡ wheel_state n last_tick now last lists
   moved_state =

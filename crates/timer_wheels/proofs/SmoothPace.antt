@@ -35,13 +35,6 @@ none_left table k a w e =
     let b : slot_in table k (a + 1) * weight k table ≤ a + 1 = div-mul-le_self (a + 1) (weight k table) in
     omega arith
 
--- so the next bucket is empty then
-pub empty_in_time : (table : List ℕ) (k a c p : ℕ) → 2 ≤ weight k table → slot_in table k (a + 1) ≡ slot_in table k a + 1
-    → c ≤ p * ticks_to_half table a k → c ≡ 0
-empty_in_time table k a c p w e h =
-    let none : p * ticks_to_half table a k ≡ p * 0 = ap (λ (x : ℕ). p * x) (none_left table k a w e) in
-    omega arith
-
 -- the pace that is fixed as a bucket begins to be the next one is enough for all timers
 pub pace_begun : (table : List ℕ) (k now n half : ℕ) → weight k table ≡ 2 * half → 0 < half → slot_in table k now * weight k table ≡ now
     → n ≤ 2 * (n / weight k table + 1) * ticks_to_half table now k

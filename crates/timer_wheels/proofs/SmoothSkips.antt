@@ -85,7 +85,7 @@ module _ {N : Type 0} {kept : Ghosts N} (t : Table) (b : Buckets N kept) (words 
         (all-list_at (λ row. IsPending b.last_tick b.tick b.last_serial (row_timer row)) b.slots b.links.lists b.sound.pending s l));
     distinct = b.sound.distinct;
     due = subst (AllByRecursion (λ row. IsDue tick b.last_serial (row_timer row))) (sym none_due) tt;
-    in_order = b.sound.in_order;
+    due_in_order = b.sound.due_in_order;
   }
 
   marks_kept : (j : ℕ) → 0 < j → j < length (radices t) → slot_in (radices t) j tick ≡ slot_in (radices t) j b.tick
@@ -109,4 +109,4 @@ module _ {N : Type 0} {kept : Ghosts N} (t : Table) (b : Buckets N kept) (words 
   skip_by_law = to_law (radices t) b.last_tick tick b.last_serial (mark (radices t) tick b.links.lists) skip_table skip_digits b.slots
       b.links.lists skip_sound (λ s l. all-both (Known s) (λ row. moved_to (list_at s b.links.lists) < (row_timer row).serial)
       (IsSmooth (radices t) tick (mark (radices t) tick b.links.lists) s) (list_at s b.links.lists) (row_skipped s) (known s l)
-      (front_kept (list_at s b.links.lists) (b.sound.in_order s (omega arith))))
+      (front_kept (list_at s b.links.lists) (h.in_order s l)))

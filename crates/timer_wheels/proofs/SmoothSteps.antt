@@ -6,7 +6,7 @@ use Rattle.std.proofs.lemmas.Bool.Decides.{nat_tests}
 use Rattle.timer_base.specs.Order.{AreRising}
 use Rattle.timer_base.specs.WheelState.{IsPending}
 use Rattle.timer_wheels.specs.Types.{LAST, list_at, KeyedLists, Row, Rows}
-use Rattle.timer_wheels.specs.BucketLists.{row_timer, row_timers, AreBuckets, EachRow}
+use Rattle.timer_wheels.specs.BucketLists.{row_timer, row_timers, AreInOrder, AreBuckets, EachRow}
 use Rattle.timer_wheels.specs.Digits.{IsTable, radix}
 use Rattle.timer_wheels.specs.Occupied.{bit_of, filled}
 use Rattle.timer_wheels.specs.Smooth.{slot_in, smooth_list, is_in_next, descend_by, next_list, moved_to, mark, descend, HasTurns, IsMove, Stands, IsSmooth, IsStep}
@@ -16,7 +16,7 @@ use Rattle.timer_wheels.proofs.SmoothSlots.{slots_mono, slots_near}
 use Rattle.timer_wheels.proofs.SmoothDescent.{descend_is}
 use Rattle.timer_wheels.proofs.SmoothLaws.{moved_stands, descend_below}
 use Rattle.timer_wheels.proofs.SmoothLists.{IsAhead, one_wheel, one_slot, same_rest_of, radix_above, ahead_within}
-use Rattle.timer_wheels.proofs.SmoothMoves.{moved_sound, moved_state, mid_in_order}
+use Rattle.timer_wheels.proofs.SmoothMoves.{moved_sound, moved_in_order, moved_state, mid_in_order}
 use Rattle.timer_wheels.proofs.SmoothPlaces.{AreLeft, weaker, places_left, places_with_row, front_gone}
 
 -- a bucket of timers that were started before one with this serial has not moved on up to it, and an empty one has
@@ -32,7 +32,7 @@ bit_is_mark serial (x ∷ xs) h z a =
     less x y h = grind (arith, nat_tests)
 
 module _ (table : List ℕ) (n last_tick now last k : ℕ) (lists : KeyedLists) (row : Row) (rest : Rows) (i : IsTable table)
-    (turns : HasTurns table) (b : AreBuckets n last_tick now last lists)
+    (turns : HasTurns table) (b : AreBuckets n last_tick now last lists) (o : AreInOrder n lists)
     (placed : EachRow (IsSmooth table now (mark table now lists)) n lists) (wheel : suc k < length table)
     (in_range : (j s : ℕ) → j < length table → smooth_list table j s < n)
     (at : list_at (next_list table now (suc k)) lists ≡ row ∷ rest) where
@@ -61,7 +61,7 @@ module _ (table : List ℕ) (n last_tick now last k : ℕ) (lists : KeyedLists) 
   serial_in_range = omega (arith, pending.serial, b.serial_in_range)
 
   rising : AreRising 0 (row_timers (row ∷ rest))
-  rising = subst (λ (r : Rows). AreRising 0 (row_timers r)) at (b.in_order (next_list table now (suc k)) (omega (arith, from_in)))
+  rising = subst (λ (r : Rows). AreRising 0 (row_timers r)) at (o (next_list table now (suc k)) from_in)
 
   -- it stands on the wheel whose next bucket this is
   on_wheel : first.on ≡ suc k
@@ -213,7 +213,7 @@ module _ (table : List ℕ) (n last_tick now last k : ℕ) (lists : KeyedLists) 
   mid_placed : EachRow (IsSmooth table now (mark table now (slice_set lists (next_list table now (suc k)) rest))) n
       (slice_set lists (next_list table now (suc k)) rest)
   mid_placed = places_left table now n lists (slice_set lists (next_list table now (suc k)) rest) left rise
-      (λ s h. mid_in_order b move s (omega arith)) placed
+      (mid_in_order b o move) placed
 
   pub step : IsStep table n last_tick now last k lists row rest
   step = record {
@@ -225,9 +225,10 @@ module _ (table : List ℕ) (n last_tick now last k : ℕ) (lists : KeyedLists) 
     near = goes.near;
     by_bits = on_by_bits;
     move = move;
-    sound = moved_sound b move;
-    state = moved_state b move;
+    sound = moved_sound b o move;
+    in_order = moved_in_order b o move;
+    state = moved_state b o move;
     placed = places_with_row table now n to on (slice_set lists (next_list table now (suc k)) rest) row i turns
         (omega (arith, to_in, b.has_lists, length-set lists (next_list table now (suc k)) rest)) serial_in_range goes first.no_rounds
-        (λ s h. (moved_sound b move).in_order s (omega arith)) mid_placed;
+        (moved_in_order b o move) mid_placed;
   }

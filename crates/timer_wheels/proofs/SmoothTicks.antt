@@ -20,7 +20,7 @@ use Rattle.timer_wheels.proofs.SmoothLists.{one_wheel, same_rest_of, radix_above
 use Rattle.timer_wheels.proofs.SmoothPlaces.{weaker, front_kept}
 
 module _ (table : List ℕ) (n last_tick a last : ℕ) (lists : KeyedLists) (i : IsTable table) (turns : HasTurns table)
-    (some : 0 < length table) (b : AreBuckets n last_tick a last lists)
+    (some : 0 < length table) (b : AreBuckets n last_tick a last lists) (o : AreInOrder n lists)
     (placed : EachRow (IsSmooth table a (mark table a lists)) n lists) (before_last : a < last_tick) (none_due : list_at n lists ≡ [])
     (in_range : (j s : ℕ) → j < length table → smooth_list table j s < n)
     (empty : (k : ℕ) → 0 < k → k < length table → slot_in table k (a + 1) ≡ slot_in table k a + 1
@@ -192,7 +192,7 @@ module _ (table : List ℕ) (n last_tick a last : ℕ) (lists : KeyedLists) (i :
       ) (append-nil (list_at (smooth_list table zero (a + 1)) lists))
 
   rising_l : AreRising 0 (row_timers (list_at (smooth_list table zero (a + 1)) lists))
-  rising_l = b.in_order (smooth_list table zero (a + 1)) (omega (arith, l_in))
+  rising_l = o (smooth_list table zero (a + 1)) l_in
 
   due_pending : pending_in (list_at (smooth_list table zero (a + 1)) lists) ≡ entries_of (list_at (smooth_list table zero (a + 1)) lists)
   due_pending =
@@ -210,15 +210,11 @@ module _ (table : List ℕ) (n last_tick a last : ℕ) (lists : KeyedLists) (i :
       ∙ ap pending_in due_is)) in
       rw (pend, out) refl
 
-  new_in_order : AreInOrder (n + 1) (appended (smooth_list table zero (a + 1)) n lists)
+  new_in_order : AreInOrder n (appended (smooth_list table zero (a + 1)) n lists)
   new_in_order s h = elim (cases_eq s (smooth_list table zero (a + 1))) [
     | inl e ↦ subst (λ (r : Rows). AreRising 0 (row_timers r))
         (sym (ap (λ (x : ℕ). list_at x (appended (smooth_list table zero (a + 1)) n lists)) e ∙ new_l)) tt
-    | inr x ↦ elim (cases_eq s n) [
-      | inl e ↦ subst (λ (r : Rows). AreRising 0 (row_timers r))
-          (sym (ap (λ (y : ℕ). list_at y (appended (smooth_list table zero (a + 1)) n lists)) e ∙ new_n)) rising_l
-      | inr y ↦ subst (λ (r : Rows). AreRising 0 (row_timers r)) (sym (new_others s x y)) (b.in_order s h)
-    ]
+    | inr x ↦ subst (λ (r : Rows). AreRising 0 (row_timers r)) (sym (new_others s x (λ (e : s ≡ n). omega arith))) (o s h)
   ]
 
   ticked_sound : AreBuckets n last_tick (a + 1) last (appended (smooth_list table zero (a + 1)) n lists)
@@ -235,7 +231,7 @@ module _ (table : List ℕ) (n last_tick a last : ℕ) (lists : KeyedLists) (i :
         (all-both (λ row. (row_timer row).deadline ≡ a + 1) (λ row. IsPending last_tick a last (row_timer row))
         (λ row. IsDue (a + 1) last (row_timer row)) (list_at (smooth_list table zero (a + 1)) lists)
         (λ row e p. record { deadline = e; serial = p.serial }) due_rows (pending_rows (smooth_list table zero (a + 1)) l_in));
-    in_order = new_in_order;
+    due_in_order = subst (λ (r : Rows). AreRising 0 (row_timers r)) (sym new_n) rising_l;
   }
 
   -- The places.
@@ -287,8 +283,8 @@ module _ (table : List ℕ) (n last_tick a last : ℕ) (lists : KeyedLists) (i :
         (list_at s (appended (smooth_list table zero (a + 1)) n lists)) (placed_next s)
         (subst (AllByRecursion (Known s)) (sym q)
         (all-both (IsSmooth table a (mark table a lists) s) (Other s) (Known s) (list_at s lists) (known s) (placed s h) (other_rows s h x)))
-        (front_kept (list_at s (appended (smooth_list table zero (a + 1)) n lists)) (new_in_order s (omega arith)))
+        (front_kept (list_at s (appended (smooth_list table zero (a + 1)) n lists)) (new_in_order s h))
   ]
 
   pub ticked : AreTickedLists table n last_tick a last lists (appended (smooth_list table zero (a + 1)) n lists)
-  ticked = record { sound = ticked_sound; state = ticked_state; placed = ticked_placed }
+  ticked = record { sound = ticked_sound; in_order = new_in_order; state = ticked_state; placed = ticked_placed }

@@ -1,19 +1,18 @@
 -- The two changes that every call but a tick composes: a row is removed, and a row is pushed to the back of a list.
 use Rattle.std.proofs.Common.{◌≡◌, ◌<◌, ◌≤◌, ◌+◌, ◌==◌, ℕ, [], ◌∷◌, ◌++◌, length, refl, sym, ◌∙◌, ap, subst, inl, inr, arith, length-set, get_or-set_same, get_or-set_other, Option, Some, None, map, not, slice_set}
 use Rattle.std.specs.List.{AllByRecursion}
-use Rattle.std.proofs.lemmas.Bool.{cases_eq}
 use Rattle.std.proofs.lemmas.List.{length-map}
 use Rattle.timer_base.proofs.HeldLaws.{start_when_later, start_when_now}
 use Rattle.timer_base.specs.Order.{AreBelow, AreRising}
-use Rattle.timer_base.proofs.OrderLaws.{All-filter, All-weaken, AreRising-weaken}
+use Rattle.timer_base.proofs.OrderLaws.{All-filter, All-weaken, AreRising-weaken, AreRising-append}
 use Rattle.timer_base.specs.WheelState.{IsPending, IsDue, after_start, after_due_start, after_held_start, after_expiry, after_clear}
 use Rattle.timer_links.specs.Lists.{with_row, without_key, PopsFront}
 use Rattle.timer_wheels.specs.Types.{LAST, Node, list_at, KeyedLists, Row, Rows}
 use Rattle.timer_wheels.specs.Buckets.{IsListOf}
 use Rattle.timer_wheels.specs.BucketLists.{row_timer, row_timers, rows_below, wheel_state, AreDue, AreBuckets}
 use Rattle.timer_wheels.proofs.AllLemmas.{all-map}
-use Rattle.timer_wheels.proofs.RowLemmas.{IsInserted, IsNotAmong-below, rows_below-with_row, all-append, all-list_at, entries-append, rows_below-above, rows_below-none, rows_below-without_key, list_at-without_key}
-use Rattle.timer_wheels.proofs.BucketLemmas.{AreDistinct-part, AreRising-part, AreBelow-pending, pending_in-newest, all-inserted, distinct-inserted, in_order-with_row}
+use Rattle.timer_wheels.proofs.RowLemmas.{IsInserted, IsNotAmong-below, rows_below-with_row, all-append, entries-append, timers-append, rows_below-above, rows_below-none, rows_below-without_key, list_at-without_key}
+use Rattle.timer_wheels.proofs.BucketLemmas.{AreDistinct-part, AreRising-part, AreBelow-pending, pending_in-newest, all-inserted, distinct-inserted}
 
 module _ {n last_tick now last : ℕ} {lists : KeyedLists} (b : AreBuckets n last_tick now last lists) where
   -- the row under a key is removed, if there is one
@@ -30,8 +29,7 @@ module _ {n last_tick now last : ℕ} {lists : KeyedLists} (b : AreBuckets n las
             (All-filter pending pending (λ r. not (r.0 == key)) (rows_below n lists) (λ r e f. f) b.pending);
         distinct = rw (rows_below-without_key n key lists) (AreDistinct-part (λ r. not (r.0 == key)) (rows_below n lists) b.distinct);
         due = rw (list_at-without_key n key lists) (All-filter due due (λ r. not (r.0 == key)) (list_at n lists) (λ r e f. f) b.due);
-        in_order = λ s h. rw (list_at-without_key s key lists)
-            (AreRising-part (λ r. not (r.0 == key)) 0 (list_at s lists) (b.in_order s h));
+        due_in_order = rw (list_at-without_key n key lists) (AreRising-part (λ r. not (r.0 == key)) 0 (list_at n lists) b.due_in_order);
       }
 
   -- what is due, with a later last serial
@@ -74,9 +72,7 @@ module _ {n last_tick now last : ℕ} {lists : KeyedLists} (b : AreBuckets n las
           (record { later = later; in_range = range; serial = omega arith }) (older_pending node.timer.serial fresh);
       distinct = distinct-inserted inserted (IsNotAmong-below node.timer.serial (row_timers (rows_below n lists)) below) b.distinct;
       due = subst (AreDue now node.timer.serial) (sym due_stays) (older node.timer.serial fresh);
-      in_order = in_order-with_row (n + 1) bucket (place, node) lists here (omega arith)
-          (AreBelow-pending last_tick now last node.timer.serial (list_at bucket lists) fresh
-          (all-list_at (λ row. IsPending last_tick now last (row_timer row)) n lists b.pending bucket h)) b.in_order;
+      due_in_order = rw due_stays b.due_in_order;
     }
 
     -- its entry comes to its place among the pending ones
@@ -106,7 +102,8 @@ module _ {n last_tick now last : ℕ} {lists : KeyedLists} (b : AreBuckets n las
         due = subst (AreDue now node.timer.serial) (sym (get_or-set_same lists n (list_at n lists ++ (place, node) ∷ []) [] here))
             (all-append (λ row. IsDue now node.timer.serial (row_timer row)) (list_at n lists) ((place, node) ∷ [])
             (older node.timer.serial fresh) (record { deadline = due; serial = omega arith }, tt));
-        in_order = in_order-with_row (n + 1) n (place, node) lists here (omega arith) (newest_due node.timer.serial fresh) b.in_order;
+        due_in_order = rw (get_or-set_same lists n (list_at n lists ++ (place, node) ∷ []) [] here, timers-append (list_at n lists) ((place, node) ∷ []))
+            (AreRising-append 0 node.timer (row_timers (list_at n lists)) b.due_in_order (newest_due node.timer.serial fresh) (omega arith));
       }
 
   -- its entry comes to the back of what is due
@@ -161,11 +158,8 @@ module _ {n last_tick now last : ℕ} {lists : KeyedLists} (b : AreBuckets n las
       pending = rw same_rows b.pending;
       distinct = rw same_rows b.distinct;
       due = subst (AreDue now last) (sym less_due) (subst (AreDue now last) e b.due).1;
-      in_order = λ s h. elim (cases_eq s n) [
-        | inl q ↦ rw (q, less_due) (AreRising-weaken (row_timer row).serial 0 (row_timers rest) (omega arith)
-            (subst (λ (y : Rows). AreRising 0 (row_timers y)) e (b.in_order n (omega arith))).1)
-        | inr x ↦ rw (get_or-set_other lists n s rest [] x) (b.in_order s h)
-      ];
+      due_in_order = rw less_due (AreRising-weaken (row_timer row).serial 0 (row_timers rest) (omega arith)
+          (subst (λ (y : Rows). AreRising 0 (row_timers y)) e b.due_in_order).1);
     }
 
     pub expired : wheel_state n last_tick now last (slice_set lists n rest) ≡ after_expiry (wheel_state n last_tick now last lists)
@@ -186,10 +180,7 @@ module _ {n last_tick now last : ℕ} {lists : KeyedLists} (b : AreBuckets n las
       pending = rw (rows_below-none n new e) tt;
       distinct = rw (rows_below-none n new e) tt;
       due = subst (AreDue now last) (sym d) b.due;
-      in_order = λ s h. elim (cases_eq s n) [
-        | inl q ↦ rw (q, d) (b.in_order n (omega arith))
-        | inr x ↦ rw (e s (omega arith)) tt
-      ];
+      due_in_order = rw d b.due_in_order;
     }
 
     pub cleared-state : wheel_state n last_tick now last new ≡ after_clear (wheel_state n last_tick now last lists)
@@ -206,5 +197,5 @@ emptied n last_tick now lists range first len e = record {
   pending = rw (rows_below-none n lists (λ s h. e s)) tt;
   distinct = rw (rows_below-none n lists (λ s h. e s)) tt;
   due = rw (e n) tt;
-  in_order = λ s h. rw (e s) tt;
+  due_in_order = rw (e n) tt;
 }

@@ -10,7 +10,7 @@ use Rattle.timer_wheels.specs.Types.{Handle, Timer, Ghosts, Node, list_at, Keyed
 use Rattle.timer_wheels.specs.declared.table.TheConstants.{MOST_BUCKETS}
 use Rattle.timer_wheels.specs.Buckets.{IsSameFrame, IsListOf}
 use Rattle.timer_wheels.specs.declared.buckets.Buckets.{Buckets}
-use Rattle.timer_wheels.specs.BucketLists.{row_timer, wheel_state, AreDue, AreBuckets, EachRow}
+use Rattle.timer_wheels.specs.BucketLists.{row_timer, wheel_state, AreDue, AreInOrder, AreBuckets, EachRow}
 use Rattle.timer_wheels.specs.Digits.{bucket, slots, last_of, lowest_radix}
 use Rattle.timer_wheels.specs.Firsts.{FirstsState, AreFirsts}
 use Rattle.timer_wheels.specs.Hier.{IsHier, HasFirsts, Comes, Goes}
@@ -22,6 +22,7 @@ use Rattle.timer_wheels.proofs.BucketLemmas.{each-with_row, each-without_key, ea
 use Rattle.timer_wheels.proofs.FirstsLemmas.{same_firsts, entered_firsts, left_firsts}
 use Rattle.timer_wheels.proofs.Handles.{held_node}
 use Rattle.timer_wheels.proofs.OccupiedLemmas.{marked_same, marked_set, filled_behind}
+use Rattle.timer_wheels.proofs.OrderedLists.{ordered-same, ordered-without_key, ordered-come}
 use Rattle.timer_wheels.proofs.RowLemmas.{all-rest, all-list_at}
 use Rattle.timer_wheels.proofs.TableLaws.{of_table}
 
@@ -44,9 +45,11 @@ list_if_alone_in_range n l [] [] h = h
 list_if_alone_in_range n l [] (x ∷ xs) h = tt
 list_if_alone_in_range n l (x ∷ xs) rest h = tt
 
--- each row is in its timer's bucket, the bits mark which buckets have rows, and each bucket has its first deadline
+-- each row is in its timer's bucket and in order of starting there, the bits mark which buckets have rows, and each
+-- bucket has its first deadline
 pub record AreWheels (table : List ℕ) (now n : ℕ) (words : List ℕ) (firsts : FirstsState) (lists : KeyedLists) : Type 0 where
   pub placed : EachRow (IsPlaced table now) n lists
+  pub in_order : AreInOrder n lists
   pub marked : AreMarked n words lists
   pub foretold : AreFirsts (lowest_radix table) n firsts lists
 
@@ -56,25 +59,31 @@ module _ {table : List ℕ} {now n : ℕ} {words : List ℕ} {firsts : FirstsSta
   same_wheels : (new : KeyedLists) → ((s : ℕ) → s < n → list_at s new ≡ list_at s lists) → AreWheels table now n words firsts new
   same_wheels new e = record {
     placed = each-same (IsPlaced table now) n lists new e w.placed;
+    in_order = ordered-same n lists new e w.in_order;
     marked = marked_same n words lists new e w.marked;
     foretold = same_firsts w.foretold new e;
   }
 
-  module _ (list : ℕ) (row : Row) (len : length lists ≡ n + 1) (z : row.1.rounds ≡ 0) (words2 : List ℕ) (firsts2 : FirstsState) where
+  module _ {last_tick last : ℕ} (b : AreBuckets n last_tick now last lists) (list : ℕ) (row : Row) (fresh : last < (row_timer row).serial)
+      (z : row.1.rounds ≡ 0) (words2 : List ℕ) (firsts2 : FirstsState) where
     abbrev d : ℕ
     d = (row_timer row).deadline
 
     abbrev front : Option ℕ
     front = first_deadline (list_at list (with_row list row lists))
 
+    exists : list < n → list < length lists
+    exists h = omega (arith, b.has_lists)
+
     -- a row comes to its bucket
-    pushed_wheels : list < n → bucket table now d ≡ list → Comes (lowest_radix table) list d front words words2 firsts firsts2
+    pushed_wheels : list < n → now < d → bucket table now d ≡ list → Comes (lowest_radix table) list d front words words2 firsts firsts2
         → AreWheels table now n words2 firsts2 (with_row list row lists)
-    pushed_wheels h at c = record {
-      placed = each-with_row (IsPlaced table now) n list row lists (omega arith) (at, z) w.placed;
-      marked = marked_set n words words2 list (list_at list lists ++ row ∷ []) lists h (omega arith)
+    pushed_wheels h later at c = record {
+      placed = each-with_row (IsPlaced table now) n list row lists (exists h) (at, z) w.placed;
+      in_order = ordered-come b w.in_order list row fresh (inl (h, later));
+      marked = marked_set n words words2 list (list_at list lists ++ row ∷ []) lists h (exists h)
           (c.here ∙ sym (filled_behind (list_at list lists) row)) c.others w.marked;
-      foretold = entered_firsts w.foretold firsts2 list d row h (omega arith) refl c.counted;
+      foretold = entered_firsts w.foretold firsts2 list d row h (exists h) refl c.counted;
     }
 
     -- a row comes to the list of the due ones
@@ -89,7 +98,7 @@ module _ {table : List ℕ} {now n : ℕ} {words : List ℕ} {firsts : FirstsSta
     pub come_wheels : IsListOf list n now d → (now < d → list ≡ bucket table now d)
         → (now < d → Comes (lowest_radix table) list d front words words2 firsts firsts2)
         → (d ≤ now → (words2 ≡ words) × (firsts2 ≡ firsts)) → AreWheels table now n words2 firsts2 (with_row list row lists)
-    come_wheels (inl h) at pending due = pushed_wheels h.0 (sym (at h.1)) (pending h.1)
+    come_wheels (inl h) at pending due = pushed_wheels h.0 h.1 (sym (at h.1)) (pending h.1)
     come_wheels (inr h) at pending due = let k : d ≡ now = h.1 in due_wheels h.0 (due (omega arith))
 
   module _ {last_tick last : ℕ} (b : AreBuckets n last_tick now last lists) (apart : AreApart lists) (handle : Handle) (t : Timer)
@@ -167,6 +176,7 @@ module _ {table : List ℕ} {now n : ℕ} {words : List ℕ} {firsts : FirstsSta
             → AreWheels table now n words2 firsts2 rest
         left_wheels h c = record {
           placed = each-without_key (IsPlaced table now) n handle.place lists w.placed;
+          in_order = ordered-without_key n handle.place lists w.in_order;
           marked = subst (AreMarked n words2) (sym rest_is) (taken_out n words words2 there.l lists h there.in_range w.marked
               handle.place node there.front there.rest there.at c.bits);
           foretold = left_firsts w.foretold handle.place there.l t.deadline node there.front there.rest rest h there.in_range there.at
@@ -214,7 +224,7 @@ pub record AreKept {N : Type 0} {kept : Ghosts N} (t : Table) (b : Buckets N kep
 
 pub wheels_of : {N : Type 0} {kept : Ghosts N} {t : Table} {b : Buckets N kept} {words : List ℕ} {firsts : FirstsState} → IsHier t b words → HasFirsts t b firsts
     → AreWheels (radices t) b.tick b.slots words firsts b.links.lists
-wheels_of h f = record { placed = h.placed; marked = h.marked; foretold = f }
+wheels_of h f = record { placed = h.placed; in_order = h.in_order; marked = h.marked; foretold = f }
 
 module _ {N : Type 0} {kept : Ghosts N} {t : Table} {b : Buckets N kept} {words : List ℕ} (h : IsHier t b words) where
   pub in_table : (emptied : Option ℕ) → IfSome emptied (λ l. l < b.slots)
@@ -235,6 +245,7 @@ module _ {N : Type 0} {kept : Ghosts N} {t : Table} {b : Buckets N kept} {words 
       has_slots = f.slots ∙ h.has_slots;
       clock = f.last_tick ∙ h.clock;
       placed = rw (f.tick, f.slots, e) w.placed;
+      in_order = rw (f.slots, e) w.in_order;
       marked = rw (f.slots, e) w.marked;
     };
     foretold = rw (f.slots, e) w.foretold;

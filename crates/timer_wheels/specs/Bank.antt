@@ -3,8 +3,8 @@ use Rattle.std.specs.Prelude.{◌≡◌, ◌≢◌, ◌<◌, ◌≤◌, ◌+◌,
 use Rattle.std.specs.Coded.{×_prop}
 use Rattle.std.proofs.Props.{props}
 use Rattle.timer_wheels.specs.Types.{Handle, Timer, Ghosts, Row, Table}
-use Rattle.timer_wheels.specs.BucketLaws.{EachRow-prop}
-use Rattle.timer_wheels.specs.BucketLists.{EachRow}
+use Rattle.timer_wheels.specs.BucketLaws.{EachRow-prop, AreInOrder-prop}
+use Rattle.timer_wheels.specs.BucketLists.{AreInOrder, EachRow}
 use Rattle.timer_wheels.specs.Digits.{last_of}
 use Rattle.timer_wheels.specs.Occupied.{bit_of, AreMarked, AreMarked-prop}
 use Rattle.timer_wheels.specs.Smooth.{smooth_slots, smooth_level, mark, next_list, next_length, next_lengths, heights, ticks_to_half, IsByLaw}
@@ -19,6 +19,8 @@ pub record IsBank {N : Type 0} {kept : Ghosts N} (table : Table) (b : Buckets N 
   pub has_slots : b.slots ≡ smooth_slots (radices table)
   pub clock : b.last_tick ≡ last_of (radices table)
   pub placed : AreByLaw table b
+  -- each bucket has its timers in order of starting
+  pub in_order : AreInOrder b.slots b.links.lists
   -- the bits mark which lists have timers
   pub marked : AreMarked b.slots words b.links.lists
 
@@ -30,7 +32,7 @@ AreByLaw-prop table b = EachRow-prop (IsByLaw (radices table) b.tick (mark (radi
     (IsByLaw-prop (radices table) b.tick (mark (radices table) b.tick b.links.lists)) b.slots b.links.lists
 
 pub IsBank-prop : {N : Type 0} {kept : Ghosts N} (table : Table) (b : Buckets N kept) (words : List ℕ) → IsProp (IsBank table b words)
-IsBank-prop table b words = hlevel (props, AreByLaw-prop table b, AreMarked-prop b.slots words b.links.lists)
+IsBank-prop table b words = hlevel (props, AreByLaw-prop table b, AreInOrder-prop b.slots b.links.lists, AreMarked-prop b.slots words b.links.lists)
 
 -- a list became empty, if one did: the bit of a bucket is cleared, and all others stay
 abbrev pub LeavesBits : ℕ → Option ℕ → List ℕ → List ℕ → Type 0

@@ -42,7 +42,7 @@ wheel_state-well_formed n last_tick now last lists b =
           (all-timers (IsPending last_tick now last) rows b.pending));
       each_due = rw (timers_of-entries (list_at n lists))
           (all-timers (IsDue now last) (list_at n lists) b.due);
-      due_rising = rw (timers_of-entries (list_at n lists)) (b.in_order n (omega arith));
+      due_rising = rw (timers_of-entries (list_at n lists)) b.due_in_order;
     }
 
 -- What is kept of the lists is a proposition.
@@ -86,5 +86,5 @@ AreBuckets-prop n last_tick now last_serial lists = hlevel (
   ArePendingBelow-prop n last_tick now last_serial lists,
   AreDistinct-prop (row_timers (rows_below n lists)),
   AreDue-prop now last_serial (list_at n lists),
-  AreInOrder-prop (n + 1) lists,
+  AreRising-prop 0 (row_timers (list_at n lists)),
 )

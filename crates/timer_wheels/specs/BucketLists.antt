@@ -76,7 +76,7 @@ pub record AreBuckets (n last_tick now last_serial : ℕ) (lists : KeyedLists) :
   pub pending : ArePendingBelow n last_tick now last_serial lists
   pub distinct : AreDistinct (row_timers (rows_below n lists))
   pub due : AreDue now last_serial (list_at n lists)
-  pub in_order : AreInOrder (n + 1) lists
+  pub due_in_order : AreRising 0 (row_timers (list_at n lists))
 
 -- each row of the first n lists is as the fact says of its list
 abbrev pub EachRow : (ℕ → Row → Type 0) → ℕ → KeyedLists → Type 0

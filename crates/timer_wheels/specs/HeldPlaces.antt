@@ -24,7 +24,10 @@ IsFirstHeld from w (Some handle) =
     (from ≤ handle.place) × IsHeld handle w × AreElsewhere from handle.place w.pending
     × AreElsewhere from handle.place w.due
 
--- a pending timer at the place of this handle is the one that is held under the handle
+-- a timer at this place is this one
+abbrev pub AreThis : ℕ → Timer → List Entry → Type 0
+AreThis place t entries = AllByRecursion (λ entry. entry.place ≡ place → entry.timer ≡ t) entries
+
+-- a timer at the place of this handle is the one that is held under the handle
 abbrev pub IsAlone : Handle → WheelState → Type 0
-IsAlone handle w = (t : Timer) → held_at handle w ≡ Some t
-    → AllByRecursion (λ entry. entry.place ≡ handle.place → entry.timer ≡ t) w.pending
+IsAlone handle w = (t : Timer) → held_at handle w ≡ Some t → AreThis handle.place t w.pending × AreThis handle.place t w.due

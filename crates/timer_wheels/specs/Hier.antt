@@ -9,8 +9,8 @@ use Rattle.timer_wheels.specs.Firsts.{FirstsState, Enters, Leaves, Empties, AreF
 use Rattle.timer_wheels.specs.Occupied.{bit_of, Clears, AreMarked, AreMarked-prop}
 use Rattle.timer_wheels.specs.Placement.{IsPlaced, IsPlaced-prop, levels_of}
 use Rattle.timer_wheels.specs.Tables.{radices}
-use Rattle.timer_wheels.specs.BucketLaws.{EachRow-prop}
-use Rattle.timer_wheels.specs.BucketLists.{EachRow}
+use Rattle.timer_wheels.specs.BucketLaws.{EachRow-prop, AreInOrder-prop}
+use Rattle.timer_wheels.specs.BucketLists.{AreInOrder, EachRow}
 
 -- each row of the buckets is in its timer's bucket
 abbrev pub RowsArePlaced : {N : Type 0} {kept : Ghosts N} → Table → Buckets N kept → Type 0
@@ -30,11 +30,13 @@ pub record IsHier {N : Type 0} {kept : Ghosts N} (table : Table) (b : Buckets N 
   pub clock : b.last_tick ≡ last_of (radices table)
   -- each timer stands in its bucket
   pub placed : RowsArePlaced table b
+  -- each bucket has its timers in order of starting
+  pub in_order : AreInOrder b.slots b.links.lists
   -- the bits mark which buckets have timers
   pub marked : AreMarked b.slots words b.links.lists
 
 pub IsHier-prop : {N : Type 0} {kept : Ghosts N} (table : Table) (b : Buckets N kept) (words : List ℕ) → IsProp (IsHier table b words)
-IsHier-prop table b words = hlevel (props, RowsArePlaced-prop table b, AreMarked-prop b.slots words b.links.lists)
+IsHier-prop table b words = hlevel (props, RowsArePlaced-prop table b, AreInOrder-prop b.slots b.links.lists, AreMarked-prop b.slots words b.links.lists)
 
 -- the first deadline of each bucket above the lowest wheel
 abbrev pub HasFirsts : {N : Type 0} {kept : Ghosts N} → Table → Buckets N kept → FirstsState → Type 0

@@ -4,7 +4,7 @@ use Rattle.timer_base.specs.WheelState.{after_tick}
 use Rattle.timer_links.specs.Lists.{with_row}
 use Rattle.timer_base.specs.Order.{AreBelow}
 use Rattle.timer_wheels.specs.Types.{LAST, Timer, list_at, KeyedLists, Row, Rows}
-use Rattle.timer_wheels.specs.BucketLists.{row_timer, row_timers, AreBuckets, EachRow, wheel_state}
+use Rattle.timer_wheels.specs.BucketLists.{row_timer, row_timers, AreInOrder, AreBuckets, EachRow, wheel_state}
 use Rattle.timer_wheels.specs.Digits.{weight, radix, level}
 use Rattle.timer_wheels.specs.Occupied.{bit_of, filled}
 
@@ -140,6 +140,7 @@ pub record IsStep (table : List ℕ) (n last_tick now last k : ℕ) (lists : Key
       → descend_by table now words (row_timer row).deadline k ≡ on
   pub move : IsMove n lists (next_list table now (suc k)) (smooth_list table on (slot_in table on (row_timer row).deadline)) row rest
   pub sound : AreBuckets n last_tick now last (stepped table now k on lists row rest)
+  pub in_order : AreInOrder n (stepped table now k on lists row rest)
   pub state : wheel_state n last_tick now last (stepped table now k on lists row rest) ≡ wheel_state n last_tick now last lists
   pub placed : EachRow (IsSmooth table now (mark table now (stepped table now k on lists row rest))) n
       (stepped table now k on lists row rest)
@@ -147,6 +148,7 @@ pub record IsStep (table : List ℕ) (n last_tick now last k : ℕ) (lists : Key
 -- a tick: the state is that after a tick, the buckets are sound, and all timers placed
 pub record AreTickedLists (table : List ℕ) (n last_tick a last : ℕ) (lists new : KeyedLists) : Type 0 where
   pub sound : AreBuckets n last_tick (a + 1) last new
+  pub in_order : AreInOrder n new
   pub state : wheel_state n last_tick (a + 1) last new ≡ after_tick (wheel_state n last_tick a last lists)
   pub placed : EachRow (IsSmooth table (a + 1) (mark table (a + 1) new)) n new
 

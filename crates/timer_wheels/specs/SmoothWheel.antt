@@ -2,7 +2,7 @@
 use Rattle.std.specs.Prelude.{◌≡◌, ◌<◌, ◌-◌, ℕ, []}
 use Rattle.timer_base.specs.WellFormed.{with_layout-well_formed}
 use Rattle.timer_base.specs.WheelState.{IsWellFormed, with_layout, after_ticks}
-use Rattle.timer_links.specs.contracts.kept.TimerKept.TheImpl.{ghosts}
+use Rattle.timer_links.specs.Lists.{list_at}
 use Rattle.timer_wheels.specs.Types.{Timer, WheelState, Ghosts, KeyedLists, Table}
 use Rattle.timer_wheels.specs.Bank.{movable, potential_of, wheel_of}
 use Rattle.timer_wheels.specs.Buckets.{state_of, state_of-well_formed}
@@ -12,10 +12,6 @@ use Rattle.timer_wheels.specs.Shown.{ShowsBuckets}
 use Rattle.timer_wheels.specs.Smooth.{smooth_slots, smooth_bucket, mark}
 use Rattle.timer_wheels.specs.Tables.{radices, smooth_layout}
 use Rattle.timer_wheels.specs.declared.smooth.SmoothWheel.{SmoothWheel}
-
--- the smooth wheel that keeps all of a timer
-abbrev pub TimerSmoothWheel : Type 0
-TimerSmoothWheel = SmoothWheel Timer ghosts
 
 -- the state of the wheel
 abbrev pub smooth_state : {N : Type 0} {kept : Ghosts N} → SmoothWheel N kept → WheelState
@@ -39,7 +35,15 @@ moves_of wheel = wheel.moves
 abbrev pub next_moves : {N : Type 0} {kept : Ghosts N} → SmoothWheel N kept → ℕ
 next_moves wheel = pace_sum wheel.paces
 
--- how many timers stand in next buckets: the moves that can be made ahead of their ticks
+-- its lists, each with the timers that stand in it: the last with those that are due
+abbrev pub lists_in : {N : Type 0} {kept : Ghosts N} → SmoothWheel N kept → KeyedLists
+lists_in wheel = wheel.bank.buckets.links.lists
+
+-- each pending timer stands where it stood
+abbrev pub AreWhereTheyWere : {N : Type 0} {kept : Ghosts N} → SmoothWheel N kept → SmoothWheel N kept → Type 0
+AreWhereTheyWere old new = (s : ℕ) → s < old.bank.buckets.slots → list_at s (lists_in new) ≡ list_at s (lists_in old)
+
+-- how many timers stand in next buckets: the most that a tick could move
 abbrev pub moves_ahead : {N : Type 0} {kept : Ghosts N} → SmoothWheel N kept → ℕ
 moves_ahead wheel = movable wheel.bank.table wheel.bank.buckets
 

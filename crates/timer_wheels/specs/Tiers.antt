@@ -6,14 +6,13 @@ use Rattle.timer_wheels.specs.declared.table.Table.TheVariants as tables
 use Rattle.timer_wheels.specs.declared.tiers.Tiers.{Tiers}
 use Rattle.timer_wheels.specs.Tables.{last_of_table, layout_of_table, smooth_layout}
 -- made by tools/facts: definitions of tiers
-use Rattle.timer_wheels.specs.declared.tiers.Tiers.TheVariants.{Wide, Clock, Smooth, Small}
-use Rattle.timer_wheels.specs.declared.tiers.TheConstants.{WIDE, CLOCK, SMOOTH, SMALL}
+use Rattle.timer_wheels.specs.declared.tiers.Tiers.TheVariants.{Wide, Smooth, Small}
+use Rattle.timer_wheels.specs.declared.tiers.TheConstants.{WIDE, SMOOTH, SMALL}
 
 -- the wheels with this number, if there are any
 abbrev pub tiers_with_number : ℕ → Option Tiers
 tiers_with_number number =
     if number == WIDE then Some Wide else
-    if number == CLOCK then Some Clock else
     if number == SMOOTH then Some Smooth else
     if number == SMALL then Some Small else
     None
@@ -21,7 +20,6 @@ tiers_with_number number =
 -- the table of their radices
 abbrev pub table_of_tiers : Tiers → Table
 table_of_tiers Wide = tables.Wide
-table_of_tiers Clock = tables.Clock
 table_of_tiers Smooth = tables.Wide
 table_of_tiers Small = tables.Small
 

@@ -17,13 +17,14 @@
 //! A bucket is in order of starting and not of deadlines, so a start needs no walk. The rounds are
 //! counted from the interval less 1, since an interval of N ends when the clock is back at the slot
 //! for the first time.
-ghost use Rattle.std.specs.Prelude.{◌≡◌, ◌<◌, ◌≤◌, ◌+◌, ◌-◌, ◌%◌, [], IfOk, IfErr, None};
+ghost use Rattle.std.specs.Prelude.{◌≡◌, ◌<◌, ◌≤◌, ◌+◌, ◌-◌, ◌%◌, [], IfOk, IfErr, OnOk, OnErr, None};
 ghost use Rattle.std.specs.Option.{IfSome};
 ghost use Rattle.timer_base.specs.declared.limits.TheConstants.{LAST};
 ghost use Rattle.timer_base.specs.Layout.{OneWheel};
 ghost use Rattle.timer_base.specs.WakeUps.{IsQuietUntil};
-ghost use Rattle.timer_base.specs.WheelState.{empty_wheel, Advances};
-ghost use Rattle.timer_wheels.specs.BucketLists.{slots_in};
+ghost use Rattle.timer_base.specs.WheelState.{empty_wheel, held_at, old_timer, after_reserve, after_replacement, Advances};
+ghost use Rattle.timer_wheels.specs.BucketLaws.{AreInOrder-prop};
+ghost use Rattle.timer_wheels.specs.BucketLists.{AreInOrder, slots_in};
 ghost use Rattle.timer_wheels.specs.Buckets.{IsListOf};
 ghost use Rattle.timer_wheels.specs.Hashed.{slot_of, rounds_of, IsHashed, AreInBuckets, AreInBuckets-prop, IsNextSweep};
 ghost use Rattle.timer_wheels.specs.WakeUps.{earliest_sweep};
@@ -54,6 +55,7 @@ pub struct HashedWheel {
     ghost at_tick: { slot ≡ buckets.tick % buckets.slots },
     ghost in_buckets: { AreInBuckets buckets.slots buckets.tick buckets.links.lists } by { AreInBuckets-prop
         buckets.slots buckets.tick buckets.links.lists },
+    ghost in_order: { AreInOrder buckets.slots buckets.links.lists } by { AreInOrder-prop buckets.slots buckets.links.lists },
 }
 
 impl HashedWheel {
@@ -176,7 +178,11 @@ impl Wheel for HashedWheel {
         self.buckets.start(list, timer, rounds)
     }
 
-    fn reserve(&mut self, most: usize) -> Result<(), OutOfMemory> {
+    fn reserve(&mut self, most: usize) -> Result<(), OutOfMemory>
+        ensures ok { OnOk result (hashed_state self.new ≡ after_reserve most (hashed_state self.old)) }
+        ensures more { OnErr result ((hashed_state self.old).room < most) }
+        ensures err { OnErr result (hashed_state self.new ≡ hashed_state self.old) }
+    {
         self.buckets.reserve(most)
     }
 
@@ -188,7 +194,16 @@ impl Wheel for HashedWheel {
         self.buckets.stop(handle)
     }
 
-    fn restart(&mut self, handle: Handle, timer: Timer) -> Option<(Handle, Timer)> {
+    fn restart(&mut self, handle: Handle, timer: Timer) -> Option<(Handle, Timer)>
+        requires not_past { (hashed_state self.old).now ≤ timer.deadline }
+        requires deadline { timer.deadline ≤ (hashed_state self.old).last_tick }
+        requires fresh { (hashed_state self.old).last_serial < timer.serial }
+        requires serial { timer.serial ≤ LAST }
+        ensures old { old_timer result ≡ held_at handle (hashed_state self.old) }
+        ensures named { IfSome result (λ r. r.0.serial ≡ timer.serial) }
+        ensures place { IfSome result (λ r. r.0.place ≡ handle.place) }
+        ensures restarted { hashed_state self.new ≡ after_replacement result handle timer (hashed_state self.old) }
+    {
         let (list, rounds) = self.list_and_rounds(timer);
         self.buckets.restart(handle, list, timer, rounds)
     }

@@ -54,11 +54,11 @@
 //!
 //! A timer may skip wheels: in Wide one for 4097 moves once, from wheel 2 to wheel 0. Slot 0 of a wheel
 //! stays empty, since at that wheel the deadline's digit is above that of now.
-ghost use Rattle.std.specs.Prelude.{◌≡◌, ◌+◌, ◌-◌, ◌*◌, ◌<◌, ◌≤◌, [], IfOk, IfErr};
+ghost use Rattle.std.specs.Prelude.{◌≡◌, ◌+◌, ◌-◌, ◌*◌, ◌<◌, ◌≤◌, [], IfOk, IfErr, OnOk, OnErr, MatchOption};
 ghost use Rattle.std.specs.Option.{IfSome};
 ghost use Rattle.timer_base.specs.declared.limits.TheConstants.{LAST};
 ghost use Rattle.timer_base.specs.WakeUps.{IsQuietUntil, next_deadline};
-ghost use Rattle.timer_base.specs.WheelState.{empty_wheel, after_tick, Advances};
+ghost use Rattle.timer_base.specs.WheelState.{empty_wheel, held_at, old_timer, after_reserve, after_replacement, after_tick, Advances};
 ghost use Rattle.timer_wheels.specs.Buckets.{state_of};
 ghost use Rattle.timer_wheels.specs.Leap.{IsNextVisit};
 ghost use Rattle.timer_wheels.specs.Digits.{emptied, slots};
@@ -385,7 +385,12 @@ impl<N: Kept> Wheel for HierWheel<N> {
         Ok(handle)
     }
 
-    fn reserve(&mut self, most: usize) -> Result<(), OutOfMemory> {
+    fn reserve(&mut self, most: usize) -> Result<(), OutOfMemory>
+        ensures ok { OnOk result (hier_state self.new ≡ after_reserve most (hier_state self.old)) }
+        ensures more { OnErr result ((hier_state self.old).room < most) }
+        ensures err { OnErr result (hier_state self.new ≡ hier_state self.old) }
+        ensures counts { counts_of self.new ≡ counts_of self.old }
+    {
         self.wheels.buckets.reserve(most)
     }
 
@@ -398,7 +403,19 @@ impl<N: Kept> Wheel for HierWheel<N> {
     }
 
     #[inline(always)]
-    fn restart(&mut self, handle: Handle, timer: Timer) -> Option<(Handle, Timer)> {
+    fn restart(&mut self, handle: Handle, timer: Timer) -> Option<(Handle, Timer)>
+        requires not_past { (hier_state self.old).now ≤ timer.deadline }
+        requires deadline { timer.deadline ≤ (hier_state self.old).last_tick }
+        requires fresh { (hier_state self.old).last_serial < timer.serial }
+        requires serial { timer.serial ≤ LAST }
+        requires keeps { N.keeps (record { timer = timer; rounds = 0 }) }
+        ensures old { old_timer result ≡ held_at handle (hier_state self.old) }
+        ensures named { IfSome result (λ r. r.0.serial ≡ timer.serial) }
+        ensures place { IfSome result (λ r. r.0.place ≡ handle.place) }
+        ensures restarted { hier_state self.new ≡ after_replacement result handle timer (hier_state self.old) }
+        ensures counts { MatchOption result (counts_of self.new ≡ counts_of self.old)
+            (λ _. counts_of self.new ≡ with_counted_start (counts_of self.old)) }
+    {
         let restarted = self.wheels.restart(handle, timer)?;
         let counts = &mut self.counts;
         counts.starts += 1;

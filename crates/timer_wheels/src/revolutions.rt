@@ -16,6 +16,7 @@ ghost use Rattle.std.specs.Prelude.{◌≡◌, ◌-◌, ◌+◌, ◌%◌, ◌<�
 ghost use Rattle.std.specs.List.{AllByRecursion};
 ghost use Rattle.timer_base.specs.Pending.{AreAfter};
 ghost use Rattle.timer_links.specs.Lists.{list_at};
+ghost use Rattle.timer_wheels.specs.BucketLists.{AreInOrder};
 ghost use Rattle.timer_wheels.specs.Buckets.{state_of};
 ghost use Rattle.timer_wheels.specs.Hashed.{AreInBuckets};
 ghost use Rattle.timer_wheels.specs.Sweep.{HasRoundsLeft, with_fewer_rounds};
@@ -30,6 +31,7 @@ pub fn skip_revolutions(buckets: &mut Buckets, most: u64) -> u64
     requires before_last { most ≤ buckets.old.last_tick - buckets.old.tick }
     requires has_slots { 0 < buckets.old.slots }
     requires in_buckets { AreInBuckets buckets.old.slots buckets.old.tick buckets.old.links.lists }
+    requires in_order { AreInOrder buckets.old.slots buckets.old.links.lists }
     ensures at_most { result ≤ most }
     ensures skipped { state_of buckets.new ≡ record (state_of buckets.old) {
       now =
@@ -41,6 +43,7 @@ pub fn skip_revolutions(buckets: &mut Buckets, most: u64) -> u64
     ensures last_tick { buckets.new.last_tick ≡ buckets.old.last_tick }
     ensures slots { buckets.new.slots ≡ buckets.old.slots }
     ensures in_buckets { AreInBuckets buckets.new.slots buckets.new.tick buckets.new.links.lists }
+    ensures in_order { AreInOrder buckets.new.slots buckets.new.links.lists }
 {
     let slots = buckets.slots;
     let revolution = slots as u64;

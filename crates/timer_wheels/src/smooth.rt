@@ -23,9 +23,7 @@
 //! no tick moves a whole bucket, and in `Table::Wide` none moves more than 2n/63 + 18 timers, n the most that were held.
 //! `advance` leaps to the next tick that needs a look while nothing is to be moved (`ahead`).
 //!
-//! A loop with time to spare may make moves ahead of their ticks (`idle`).
-//!
-//! It meets the whole of `Wheel`, and C has it, beside the hierarchy (`tiered`, `tiered_ahead`). Open: speed. Most calls take
+//! It meets the whole of `Wheel`, and C has it, beside the hierarchy (`tiered`). Open: speed. Most calls take
 //! the table as a value and not as a constant, and first slots are found anew each time, though only as far up as a wheel can
 //! have an earlier one.
 ghost use Rattle.std.specs.Prelude.{◌≡◌, ◌+◌, ◌-◌, ◌*◌, ◌<◌, ◌≤◌, ℕ, [], length, IfOk, IfErr, IfSome, IfNone, OnOk, OnErr, MatchOption, MatchResult};
@@ -53,8 +51,6 @@ use timer_links::{Kept, Links};
 mod ahead;
 mod bank;
 mod descent;
-mod idle;
-pub mod laws;
 mod paces;
 mod turns;
 mod work;
@@ -265,7 +261,8 @@ impl<N: Kept> SmoothWheel<N> {
 }
 
 impl<N: Kept> Wheel for SmoothWheel<N> {
-    ghost use Rattle.timer_wheels.specs.SmoothWheel.{smooth_state, smooth-well_formed, smooth_table, starts_of, moves_of, next_moves, moves_ahead, wheels_left, wheel_in, PassesSomeTicks, IsPacedFor};
+    ghost use Rattle.timer_wheels.specs.SmoothWheel.{smooth_state, smooth-well_formed, smooth_table, starts_of, moves_of, next_moves, moves_ahead, lists_in, AreWhereTheyWere, wheels_left, wheel_in, PassesSomeTicks, IsPacedFor};
+    ghost use Rattle.timer_wheels.specs.Buckets.{RemovesRow};
 
     ghost state = { λ wheel. smooth_state wheel };
 
@@ -312,6 +309,7 @@ impl<N: Kept> Wheel for SmoothWheel<N> {
             ≡ moves_of self.old + wheels_left self.old + wheel_in self.old timer) }
         ensures two { moves_of self.new ≤ moves_of self.old + 2 }
         ensures none { OnErr result (moves_of self.new ≡ moves_of self.old) }
+        ensures stay { OnErr result (lists_in self.new ≡ lists_in self.old) }
         ensures paced { (n : ℕ) → IsPacedFor n self.old → IsPacedFor n self.new }
         ensures table { smooth_table self.new ≡ smooth_table self.old }
     {
@@ -324,7 +322,9 @@ impl<N: Kept> Wheel for SmoothWheel<N> {
     #[inline(never)]
     fn reserve(&mut self, most: usize) -> Result<(), OutOfMemory>
         ensures ok { OnOk result (smooth_state self.new ≡ after_reserve most (smooth_state self.old)) }
+        ensures more { OnErr result ((smooth_state self.old).room < most) }
         ensures err { OnErr result (smooth_state self.new ≡ smooth_state self.old) }
+        ensures stay { lists_in self.new ≡ lists_in self.old }
         ensures moves { moves_of self.new ≡ moves_of self.old }
         ensures starts { starts_of self.new ≡ starts_of self.old }
         ensures paced { (n : ℕ) → IsPacedFor n self.old → IsPacedFor n self.new }
@@ -340,6 +340,7 @@ impl<N: Kept> Wheel for SmoothWheel<N> {
     fn stop(&mut self, handle: Handle) -> Option<Timer>
         ensures timer { result ≡ held_at handle (smooth_state self.old) }
         ensures stopped { smooth_state self.new ≡ after_removal handle (smooth_state self.old) }
+        ensures stay { RemovesRow result handle.place (lists_in self.old) (lists_in self.new) }
         ensures moves { moves_of self.new ≡ moves_of self.old }
         ensures starts { starts_of self.new ≡ starts_of self.old }
         ensures paced { (n : ℕ) → IsPacedFor n self.old → IsPacedFor n self.new }
@@ -358,6 +359,7 @@ impl<N: Kept> Wheel for SmoothWheel<N> {
         requires keeps { N.keeps (record { timer = timer; rounds = 0 }) }
         ensures old { old_timer result ≡ held_at handle (smooth_state self.old) }
         ensures named { IfSome result (λ r. r.0.serial ≡ timer.serial) }
+        ensures place { IfSome result (λ r. r.0.place ≡ handle.place) }
         ensures restarted { smooth_state self.new ≡ after_replacement result handle timer (smooth_state self.old) }
         ensures starts { MatchOption result (starts_of self.new ≡ starts_of self.old)
             (λ _. starts_of self.new ≡ starts_of self.old + 1) }
@@ -365,6 +367,7 @@ impl<N: Kept> Wheel for SmoothWheel<N> {
             ≡ moves_of self.old + wheels_left self.old + wheel_in self.old timer) }
         ensures two { moves_of self.new ≤ moves_of self.old + 2 }
         ensures none { IfNone result (moves_of self.new ≡ moves_of self.old) }
+        ensures stay { IfNone result (lists_in self.new ≡ lists_in self.old) }
         ensures paced { (n : ℕ) → IsPacedFor n self.old → IsPacedFor n self.new }
         ensures table { smooth_table self.new ≡ smooth_table self.old }
     {
@@ -448,6 +451,7 @@ impl<N: Kept> Wheel for SmoothWheel<N> {
     fn expire(&mut self) -> Option<Timer>
         ensures first { result ≡ first_due (smooth_state self.old) }
         ensures rest { smooth_state self.new ≡ after_expiry (smooth_state self.old) }
+        ensures stay { AreWhereTheyWere self.old self.new }
         ensures moves { moves_of self.new ≡ moves_of self.old }
         ensures starts { starts_of self.new ≡ starts_of self.old }
         ensures paced { (n : ℕ) → IsPacedFor n self.old → IsPacedFor n self.new }

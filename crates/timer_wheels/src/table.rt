@@ -38,7 +38,7 @@ pub enum Table {
 }
 
 // made by tools/facts: last ticks of the crates
-/// The last tick of the clock of `Table::Clock`: day 99, 23:59:59, or 2.4 hours of milliseconds.
+/// The last tick of the clock of `Table::Clock`: day 99, 23:59:59.
 pub const LAST_OF_CLOCK: u64 = 8639999;
 
 /// The last tick of the clock of `Table::Small`: 2^24 - 1, or 4.6 hours of milliseconds.

@@ -1,12 +1,15 @@
 //! A hierarchy that is chosen as the program runs, as C chooses one: `HierWheel` or `SmoothWheel`.
 //!
 //! Each call is that of the wheel. What both have, the buckets, is read without a look at which of them it is.
-ghost use Rattle.std.specs.Prelude.{◌≡◌, ◌+◌, ◌*◌, ◌<◌, ◌≤◌, [], true, false, None, Some, IfOk, IfErr, IfSome, IfNone, MatchOption, MatchResult};
+ghost use Rattle.std.specs.Prelude.{◌≡◌, ◌+◌, ◌-◌, ◌*◌, ◌<◌, ◌≤◌, ℕ, [], true, false, None, Some, IfOk, IfErr, IfSome, IfNone, OnOk, OnErr, MatchOption, MatchResult};
 ghost use Rattle.timer_base.specs.Counts.{no_counts};
-ghost use Rattle.timer_base.specs.WheelState.{empty_wheel, held_at, held_count, after_held_start, after_removal, after_tick};
+ghost use Rattle.timer_base.specs.WheelState.{empty_wheel, held_at, held_count, old_timer, first_due, after_reserve, after_held_start, after_removal, after_replacement, after_tick, after_expiry, after_clear, Advances};
 ghost use Rattle.timer_base.specs.declared.limits.TheConstants.{LAST};
-ghost use Rattle.timer_wheels.specs.SmoothWheel.{smooth_state, starts_of};
-ghost use Rattle.timer_wheels.specs.TieredWheel.{option_of};
+ghost use Rattle.timer_wheels.specs.Buckets.{RemovesRow};
+ghost use Rattle.timer_wheels.specs.Paces.{tick_bound};
+ghost use Rattle.timer_wheels.specs.Placement.{most_moves};
+ghost use Rattle.timer_wheels.specs.SmoothWheel.{smooth_state, smooth_table, starts_of, moves_of, next_moves, moves_ahead, lists_in, AreWhereTheyWere, wheels_left, wheel_in, IsPacedFor};
+ghost use Rattle.timer_wheels.specs.TieredWheel.{option_of, KeepsPace};
 ghost use Rattle.timer_base.specs.WakeUps.{IsQuietUntil, next_deadline};
 ghost use Rattle.timer_wheels.specs.HeldPlaces.{IsFirstHeld, IsAlone};
 ghost use Rattle.timer_wheels.specs.HierWheel.{IsHierFault, hier_state, counts_of, with_counted_start};
@@ -37,7 +40,7 @@ pub enum TieredWheel<N: Kept = Timer> {
 }
 
 impl<N: Kept> TieredWheel<N> {
-    ghost use Rattle.timer_wheels.specs.TieredWheel.{tiered_state, buckets_in, is_smooth, counts_in, moves_in};
+    ghost use Rattle.timer_wheels.specs.TieredWheel.{tiered_state, buckets_in, is_smooth, counts_in, moves_in, IsPacedIn};
 
     /// An empty hierarchy at its first tick.
     ///
@@ -51,6 +54,7 @@ impl<N: Kept> TieredWheel<N> {
             ≡ empty_wheel (layout_of_tiers tiers) (last_of_tiers tiers) first_tick) }
         ensures counts { IfOk result (λ wheel. counts_in wheel ≡ no_counts) }
         ensures moves { IfOk result (λ wheel. moves_in wheel ≡ 0) }
+        ensures paced { IfOk result (λ wheel. IsPacedIn 0 wheel) }
         ensures in_range { IfOk result (λ wheel. first_tick ≤ last_of_tiers tiers) }
         ensures fault { IfErr result (λ fault. IsHierFault (last_of_tiers tiers) first_tick fault) }
     {
@@ -61,7 +65,6 @@ impl<N: Kept> TieredWheel<N> {
             }
             // made by tools/facts: tables of hierarchies
             Tiers::Wide => Table::Wide,
-            Tiers::Clock => Table::Clock,
             Tiers::Small => Table::Small,
         };
         TieredWheel::hier(alloc, table, first_tick)
@@ -73,6 +76,7 @@ impl<N: Kept> TieredWheel<N> {
             ≡ empty_wheel (layout_of_table table) (last_of_table table) first_tick) }
         ensures counts { IfOk result (λ wheel. counts_in wheel ≡ no_counts) }
         ensures moves { IfOk result (λ wheel. moves_in wheel ≡ 0) }
+        ensures paced { IfOk result (λ wheel. IsPacedIn 0 wheel) }
         ensures in_range { IfOk result (λ wheel. first_tick ≤ last_of_table table) }
         ensures fault { IfErr result (λ fault. IsHierFault (last_of_table table) first_tick fault) }
     {
@@ -117,7 +121,8 @@ impl<N: Kept> TieredWheel<N> {
     pub fn moves(&self) -> u64
         ensures value { result ≡ moves_in self.now }
         ensures counted { is_smooth (tiered_state self.now).layout ≡ false → result ≡ (counts_in self.now).moves }
-        ensures at_most { result ≤ 9 * (counts_in self.now).starts }
+        ensures at_most { result ≤ most_moves (radices_of (tiered_state self.now).layout)
+            * (counts_in self.now).starts }
     {
         match self {
             TieredWheel::Hier(wheel) => wheel.moves(),
@@ -150,7 +155,7 @@ impl<N: Kept> TieredWheel<N> {
 }
 
 impl<N: Kept> Wheel for TieredWheel<N> {
-    ghost use Rattle.timer_wheels.specs.TieredWheel.{tiered_state, tiered-well_formed, counts_in, counts_at_tick, counts_at_advance};
+    ghost use Rattle.timer_wheels.specs.TieredWheel.{tiered_state, tiered-well_formed, counts_in, counts_at_tick, counts_at_advance, moves_in, IfSmooth, IsPacedIn, KeepsPace};
 
     ghost state = { λ wheel. tiered_state wheel };
 
@@ -187,7 +192,26 @@ impl<N: Kept> Wheel for TieredWheel<N> {
     }
 
     #[inline(always)]
-    fn start(&mut self, timer: Timer) -> Result<Handle, OutOfMemory> {
+    fn start(&mut self, timer: Timer) -> Result<Handle, OutOfMemory>
+        requires not_past { (tiered_state self.old).now ≤ timer.deadline }
+        requires deadline { timer.deadline ≤ (tiered_state self.old).last_tick }
+        requires fresh { (tiered_state self.old).last_serial < timer.serial }
+        requires serial { timer.serial ≤ LAST }
+        requires keeps { N.keeps (record { timer = timer; rounds = 0 }) }
+        ensures named { IfOk result (λ handle. handle.serial ≡ timer.serial) }
+        ensures started { IfOk result (λ handle. tiered_state self.new
+            ≡ after_held_start handle.place timer (tiered_state self.old)) }
+        ensures full { OnErr result ((tiered_state self.old).room ≤ held_count (tiered_state self.old)) }
+        ensures err { OnErr result (tiered_state self.new ≡ tiered_state self.old) }
+        ensures counts { MatchResult result (λ _. counts_in self.new ≡ with_counted_start (counts_in self.old))
+            (λ _. counts_in self.new ≡ counts_in self.old) }
+        ensures counted { IfOk result (λ _. IfSmooth (λ old new. moves_of new + wheels_left new
+            ≡ moves_of old + wheels_left old + wheel_in old timer) self.old self.new) }
+        ensures two { moves_in self.new ≤ moves_in self.old + 2 }
+        ensures none { OnErr result (moves_in self.new ≡ moves_in self.old) }
+        ensures stay { OnErr result (IfSmooth (λ old new. lists_in new ≡ lists_in old) self.old self.new) }
+        ensures paced { IfSmooth KeepsPace self.old self.new }
+    {
         let place = match self {
             TieredWheel::Hier(wheel) => {
                 if wheel.is_ready() {
@@ -214,7 +238,15 @@ impl<N: Kept> Wheel for TieredWheel<N> {
         handle_at(place, timer.serial)
     }
 
-    fn reserve(&mut self, most: usize) -> Result<(), OutOfMemory> {
+    fn reserve(&mut self, most: usize) -> Result<(), OutOfMemory>
+        ensures ok { OnOk result (tiered_state self.new ≡ after_reserve most (tiered_state self.old)) }
+        ensures more { OnErr result ((tiered_state self.old).room < most) }
+        ensures err { OnErr result (tiered_state self.new ≡ tiered_state self.old) }
+        ensures counts { counts_in self.new ≡ counts_in self.old }
+        ensures moves { moves_in self.new ≡ moves_in self.old }
+        ensures stay { IfSmooth (λ old new. lists_in new ≡ lists_in old) self.old self.new }
+        ensures paced { IfSmooth KeepsPace self.old self.new }
+    {
         match self {
             TieredWheel::Hier(wheel) => wheel.reserve(most),
             TieredWheel::Smooth(wheel) => wheel.reserve(most),
@@ -225,7 +257,14 @@ impl<N: Kept> Wheel for TieredWheel<N> {
         self.buckets().look(handle)
     }
 
-    fn stop(&mut self, handle: Handle) -> Option<Timer> {
+    fn stop(&mut self, handle: Handle) -> Option<Timer>
+        ensures timer { result ≡ held_at handle (tiered_state self.old) }
+        ensures stopped { tiered_state self.new ≡ after_removal handle (tiered_state self.old) }
+        ensures counts { counts_in self.new ≡ counts_in self.old }
+        ensures moves { moves_in self.new ≡ moves_in self.old }
+        ensures stay { IfSmooth (λ old new. RemovesRow result handle.place (lists_in old) (lists_in new)) self.old self.new }
+        ensures paced { IfSmooth KeepsPace self.old self.new }
+    {
         let timer = self.buckets().look(handle)?;
         match self {
             TieredWheel::Hier(wheel) => {
@@ -237,7 +276,25 @@ impl<N: Kept> Wheel for TieredWheel<N> {
     }
 
     #[inline(always)]
-    fn restart(&mut self, handle: Handle, timer: Timer) -> Option<(Handle, Timer)> {
+    fn restart(&mut self, handle: Handle, timer: Timer) -> Option<(Handle, Timer)>
+        requires not_past { (tiered_state self.old).now ≤ timer.deadline }
+        requires deadline { timer.deadline ≤ (tiered_state self.old).last_tick }
+        requires fresh { (tiered_state self.old).last_serial < timer.serial }
+        requires serial { timer.serial ≤ LAST }
+        requires keeps { N.keeps (record { timer = timer; rounds = 0 }) }
+        ensures old { old_timer result ≡ held_at handle (tiered_state self.old) }
+        ensures named { IfSome result (λ r. r.0.serial ≡ timer.serial) }
+        ensures place { IfSome result (λ r. r.0.place ≡ handle.place) }
+        ensures restarted { tiered_state self.new ≡ after_replacement result handle timer (tiered_state self.old) }
+        ensures counts { MatchOption result (counts_in self.new ≡ counts_in self.old)
+            (λ _. counts_in self.new ≡ with_counted_start (counts_in self.old)) }
+        ensures counted { IfSome result (λ r. IfSmooth (λ old new. moves_of new + wheels_left new + wheel_in old r.1
+            ≡ moves_of old + wheels_left old + wheel_in old timer) self.old self.new) }
+        ensures two { moves_in self.new ≤ moves_in self.old + 2 }
+        ensures none { IfNone result (moves_in self.new ≡ moves_in self.old) }
+        ensures stay { IfNone result (IfSmooth (λ old new. lists_in new ≡ lists_in old) self.old self.new) }
+        ensures paced { IfSmooth KeepsPace self.old self.new }
+    {
         match self {
             TieredWheel::Hier(wheel) => wheel.restart(handle, timer),
             TieredWheel::Smooth(wheel) => {
@@ -253,7 +310,21 @@ impl<N: Kept> Wheel for TieredWheel<N> {
     }
 
     #[inline(always)]
-    fn per_tick(&mut self) {
+    fn per_tick(&mut self)
+        requires nothing_due { (tiered_state self.old).due ≡ [] }
+        requires before_last { (tiered_state self.old).now < (tiered_state self.old).last_tick }
+        ensures ticked { tiered_state self.new ≡ after_tick (tiered_state self.old) }
+        ensures counts { counts_in self.new ≡ counts_at_tick (tiered_state self.old) (counts_in self.old) }
+        ensures at_most { IfSmooth (λ old new. moves_of new ≤ moves_of old + next_moves old) self.old self.new }
+        ensures ahead { IfSmooth (λ old new. moves_of new ≤ moves_of old + moves_ahead old) self.old self.new }
+        ensures bound { IfSmooth (λ old new. (n : ℕ) → IsPacedFor n old
+            → moves_of new ≤ moves_of old + tick_bound (smooth_table old) n) self.old self.new }
+        ensures counted { IfSmooth (λ old new. moves_of new + wheels_left new ≡ moves_of old + wheels_left old)
+            self.old self.new }
+        ensures paced { IfSmooth (λ old new. (n : ℕ) → held_count (smooth_state new) ≤ n → IsPacedFor n old
+            → IsPacedFor n new) self.old self.new }
+        ensures table { IfSmooth (λ old new. smooth_table new ≡ smooth_table old) self.old self.new }
+    {
         match self {
             TieredWheel::Hier(wheel) => match wheel.table() {
                 // made by tools/facts: ticks of tables
@@ -272,7 +343,20 @@ impl<N: Kept> Wheel for TieredWheel<N> {
     }
 
     #[inline(always)]
-    fn advance(&mut self, most: u64) -> u64 {
+    fn advance(&mut self, most: u64) -> u64
+        requires nothing_due { (tiered_state self.old).due ≡ [] }
+        requires some { 0 < most }
+        requires before_last { most ≤ (tiered_state self.old).last_tick - (tiered_state self.old).now }
+        ensures advances { Advances most result (tiered_state self.old) (tiered_state self.new) }
+        ensures counts { counts_in self.new ≡ counts_at_advance (tiered_state self.old) (tiered_state self.new) (counts_in self.old) }
+        ensures bound { IfSmooth (λ old new. (n : ℕ) → held_count (smooth_state old) ≤ n → IsPacedFor n old
+            → moves_of new ≤ moves_of old + result * tick_bound (smooth_table old) n) self.old self.new }
+        ensures counted { IfSmooth (λ old new. moves_of new + wheels_left new ≡ moves_of old + wheels_left old)
+            self.old self.new }
+        ensures paced { IfSmooth (λ old new. (n : ℕ) → held_count (smooth_state old) ≤ n → IsPacedFor n old
+            → IsPacedFor n new) self.old self.new }
+        ensures table { IfSmooth (λ old new. smooth_table new ≡ smooth_table old) self.old self.new }
+    {
         match self {
             TieredWheel::Hier(wheel) => wheel.advance(most),
             TieredWheel::Smooth(wheel) => wheel.advance(most),
@@ -294,7 +378,12 @@ impl<N: Kept> Wheel for TieredWheel<N> {
         tick_of(tick)
     }
 
-    fn find_next(&mut self) -> Option<u64> {
+    fn find_next(&mut self) -> Option<u64>
+        ensures first { result ≡ next_deadline (tiered_state self.old).pending }
+        ensures same { tiered_state self.new ≡ tiered_state self.old }
+        ensures counts { counts_in self.new ≡ counts_in self.old }
+        ensures stay { IfSmooth (λ old new. new ≡ old) self.old self.new }
+    {
         let tick = match self {
             TieredWheel::Hier(wheel) => or_never(wheel.find_next()),
             TieredWheel::Smooth(wheel) => next_smooth(wheel),
@@ -303,7 +392,14 @@ impl<N: Kept> Wheel for TieredWheel<N> {
     }
 
     #[inline(always)]
-    fn expire(&mut self) -> Option<Timer> {
+    fn expire(&mut self) -> Option<Timer>
+        ensures first { result ≡ first_due (tiered_state self.old) }
+        ensures rest { tiered_state self.new ≡ after_expiry (tiered_state self.old) }
+        ensures counts { counts_in self.new ≡ counts_in self.old }
+        ensures moves { moves_in self.new ≡ moves_in self.old }
+        ensures stay { IfSmooth AreWhereTheyWere self.old self.new }
+        ensures paced { IfSmooth KeepsPace self.old self.new }
+    {
         match self {
             TieredWheel::Hier(wheel) => wheel.expire(),
             TieredWheel::Smooth(wheel) => wheel.expire(),
@@ -318,7 +414,13 @@ impl<N: Kept> Wheel for TieredWheel<N> {
         self.buckets().list_into(timers)
     }
 
-    fn clear(&mut self) {
+    fn clear(&mut self)
+        ensures cleared { tiered_state self.new ≡ after_clear (tiered_state self.old) }
+        ensures counts { counts_in self.new ≡ counts_in self.old }
+        ensures moves { moves_in self.new ≡ moves_in self.old }
+        ensures paced { IsPacedIn 0 self.new }
+        ensures table { IfSmooth (λ old new. smooth_table new ≡ smooth_table old) self.old self.new }
+    {
         match self {
             TieredWheel::Hier(wheel) => wheel.clear(),
             TieredWheel::Smooth(wheel) => wheel.clear(),
@@ -419,6 +521,12 @@ fn start_smooth<N: Kept>(
     ensures err { IfNone result (smooth_state wheel.new ≡ smooth_state wheel.old) }
     ensures starts { MatchOption result (starts_of wheel.new ≡ starts_of wheel.old)
         (λ _. starts_of wheel.new ≡ starts_of wheel.old + 1) }
+    ensures counted { IfSome result (λ _. moves_of wheel.new + wheels_left wheel.new ≡ moves_of wheel.old
+        + wheels_left wheel.old + wheel_in wheel.old (record { serial = serial; client = client; number = number; deadline = deadline; action = action })) }
+    ensures two { moves_of wheel.new ≤ moves_of wheel.old + 2 }
+    ensures none { IfNone result (moves_of wheel.new ≡ moves_of wheel.old) }
+    ensures stay { IfNone result (lists_in wheel.new ≡ lists_in wheel.old) }
+    ensures paced { KeepsPace wheel.old wheel.new }
 {
     let timer = Timer {
         serial,
@@ -438,6 +546,9 @@ fn start_smooth<N: Kept>(
 fn stop_smooth<N: Kept>(wheel: &mut SmoothWheel<N>, handle: Handle)
     ensures stopped { smooth_state wheel.new ≡ after_removal handle (smooth_state wheel.old) }
     ensures starts { starts_of wheel.new ≡ starts_of wheel.old }
+    ensures moves { moves_of wheel.new ≡ moves_of wheel.old }
+    ensures stay { RemovesRow (held_at handle (smooth_state wheel.old)) handle.place (lists_in wheel.old) (lists_in wheel.new) }
+    ensures paced { KeepsPace wheel.old wheel.new }
 {
     let _removed = wheel.stop(handle);
 }
@@ -455,11 +566,18 @@ fn restart_smooth<N: Kept>(
     requires serial { timer.serial ≤ LAST }
     requires keeps { N.keeps (record { timer = timer; rounds = 0 }) }
     ensures none { IfNone result (held_at handle (smooth_state wheel.old) ≡ None) }
+    ensures place { IfSome result (λ place. place ≡ handle.place) }
     ensures same { IfNone result (smooth_state wheel.new ≡ smooth_state wheel.old) }
     ensures restarted { IfSome result (λ place. smooth_state wheel.new
         ≡ after_held_start place timer (after_removal handle (smooth_state wheel.old))) }
     ensures starts { MatchOption result (starts_of wheel.new ≡ starts_of wheel.old)
         (λ _. starts_of wheel.new ≡ starts_of wheel.old + 1) }
+    ensures counted { IfSome (held_at handle (smooth_state wheel.old)) (λ stopped. moves_of wheel.new
+        + wheels_left wheel.new + wheel_in wheel.old stopped ≡ moves_of wheel.old + wheels_left wheel.old + wheel_in wheel.old timer) }
+    ensures two { moves_of wheel.new ≤ moves_of wheel.old + 2 }
+    ensures no_move { IfNone result (moves_of wheel.new ≡ moves_of wheel.old) }
+    ensures stay { IfNone result (lists_in wheel.new ≡ lists_in wheel.old) }
+    ensures paced { KeepsPace wheel.old wheel.new }
 {
     match wheel.restart(handle, timer) {
         Some((made, _old)) => Some(made.place),
@@ -474,6 +592,13 @@ fn tick_smooth<N: Kept>(wheel: &mut SmoothWheel<N>)
     requires before_last { (smooth_state wheel.old).now < (smooth_state wheel.old).last_tick }
     ensures ticked { smooth_state wheel.new ≡ after_tick (smooth_state wheel.old) }
     ensures starts { starts_of wheel.new ≡ starts_of wheel.old }
+    ensures at_most { moves_of wheel.new ≤ moves_of wheel.old + next_moves wheel.old }
+    ensures ahead { moves_of wheel.new ≤ moves_of wheel.old + moves_ahead wheel.old }
+    ensures bound { (n : ℕ) → IsPacedFor n wheel.old → moves_of wheel.new ≤ moves_of wheel.old
+        + tick_bound (smooth_table wheel.old) n }
+    ensures counted { moves_of wheel.new + wheels_left wheel.new ≡ moves_of wheel.old + wheels_left wheel.old }
+    ensures paced { (n : ℕ) → held_count (smooth_state wheel.new) ≤ n → IsPacedFor n wheel.old → IsPacedFor n wheel.new }
+    ensures table { smooth_table wheel.new ≡ smooth_table wheel.old }
 {
     wheel.per_tick();
 }

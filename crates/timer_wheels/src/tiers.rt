@@ -8,14 +8,11 @@ use crate::table::{Table, last_tick_of};
 /// The number of `Tiers::Wide`.
 pub const WIDE: u32 = 0;
 
-/// The number of `Tiers::Clock`.
-pub const CLOCK: u32 = 1;
-
 /// The number of `Tiers::Smooth`.
-pub const SMOOTH: u32 = 2;
+pub const SMOOTH: u32 = 1;
 
 /// The number of `Tiers::Small`.
-pub const SMALL: u32 = 3;
+pub const SMALL: u32 = 2;
 
 // by hand
 
@@ -25,8 +22,6 @@ pub enum Tiers {
     // made by tools/facts: tiers
     /// A `HierWheel` of `Table::Wide`: ten wheels of 64 slots.
     Wide,
-    /// A `HierWheel` of `Table::Clock`: 60 seconds, 60 minutes, 24 hours, 100 days.
-    Clock,
     /// A `SmoothWheel` of `Table::Wide`: as `Wide`, with twice the slots, and a few moves at a tick.
     Smooth,
     /// A `HierWheel` of `Table::Small`: six wheels of 16 slots.
@@ -41,7 +36,6 @@ impl Tiers {
         match number {
             // made by tools/facts: tiers with numbers
             WIDE => Some(Tiers::Wide),
-            CLOCK => Some(Tiers::Clock),
             SMOOTH => Some(Tiers::Smooth),
             SMALL => Some(Tiers::Small),
             _ => None,
@@ -55,7 +49,6 @@ impl Tiers {
         match self {
             // made by tools/facts: tables of tiers
             Tiers::Wide => Table::Wide,
-            Tiers::Clock => Table::Clock,
             Tiers::Smooth => Table::Wide,
             Tiers::Small => Table::Small,
         }

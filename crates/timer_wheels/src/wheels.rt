@@ -153,6 +153,7 @@ impl<N: Kept> Wheels<N> {
         requires keeps { N.keeps (record { timer = timer; rounds = 0 }) }
         ensures old { old_timer result ≡ held_at handle (state_of self.old.buckets) }
         ensures named { IfSome result (λ r. r.0.serial ≡ timer.serial) }
+        ensures place { IfSome result (λ r. r.0.place ≡ handle.place) }
         ensures restarted { state_of self.new.buckets
             ≡ after_replacement result handle timer (state_of self.old.buckets) }
         ensures table { self.new.table ≡ self.old.table }

@@ -4,7 +4,7 @@ ghost use Rattle.timer_base.specs.WheelState.{first_due, after_expiry, after_res
 ghost use Rattle.timer_base.specs.declared.limits.TheConstants.{LAST};
 ghost use Rattle.timer_wheels.specs.Digits.{level};
 ghost use Rattle.timer_links.specs.Lists.{list_at, appended};
-ghost use Rattle.timer_wheels.specs.Buckets.{state_of, IsListOf};
+ghost use Rattle.timer_wheels.specs.Buckets.{state_of, IsListOf, RemovesRow};
 ghost use Rattle.timer_wheels.specs.Bank.{IsBank, IsBank-prop, LeavesBits, next_len, potential_of, wheel_of, IsEarly, OthersStay, AllShrink, IsNextOf, ComesTo, restarted_of};
 ghost use Rattle.timer_wheels.specs.BucketLists.{EachRow};
 ghost use Rattle.timer_wheels.specs.Occupied.{bit_of};
@@ -57,6 +57,7 @@ impl<N: Kept> Bank<N> {
     /// Makes room for so many timers.
     pub fn reserve(&mut self, most: usize) -> Result<(), OutOfMemory>
         ensures ok { OnOk result (state_of self.new.buckets ≡ after_reserve most (state_of self.old.buckets)) }
+        ensures more { OnErr result ((state_of self.old.buckets).room < most) }
         ensures err { OnErr result (state_of self.new.buckets ≡ state_of self.old.buckets) }
         ensures lists { self.new.buckets.links.lists ≡ self.old.buckets.links.lists }
         ensures table { self.new.table ≡ self.old.table }
@@ -239,6 +240,7 @@ impl<N: Kept> Bank<N> {
     pub fn stop(&mut self, handle: Handle) -> Option<Timer>
         ensures timer { result ≡ held_at handle (state_of self.old.buckets) }
         ensures stopped { state_of self.new.buckets ≡ after_removal handle (state_of self.old.buckets) }
+        ensures lists { RemovesRow result handle.place self.old.buckets.links.lists self.new.buckets.links.lists }
         ensures table { self.new.table ≡ self.old.table }
         ensures tick { self.new.buckets.tick ≡ self.old.buckets.tick }
         ensures shrinks { AllShrink self.old.table self.old.buckets self.new.buckets }
@@ -263,6 +265,7 @@ impl<N: Kept> Bank<N> {
         requires keeps { N.keeps (record { timer = timer; rounds = 0 }) }
         ensures old { old_timer (restarted_of result) ≡ held_at handle (state_of self.old.buckets) }
         ensures named { IfSome result (λ r. r.0.0.serial ≡ timer.serial) }
+        ensures place { IfSome result (λ r. r.0.0.place ≡ handle.place) }
         ensures restarted { state_of self.new.buckets
             ≡ after_replacement (restarted_of result) handle timer (state_of self.old.buckets) }
         ensures comes { IfSome result (λ r. ComesTo self.old.table r.1 self.old.buckets self.new.buckets) }
@@ -286,6 +289,8 @@ impl<N: Kept> Bank<N> {
     pub fn expire(&mut self) -> Option<Timer>
         ensures first { result ≡ first_due (state_of self.old.buckets) }
         ensures rest { state_of self.new.buckets ≡ after_expiry (state_of self.old.buckets) }
+        ensures lists { (s : ℕ) → s < self.old.buckets.slots
+            → list_at s self.new.buckets.links.lists ≡ list_at s self.old.buckets.links.lists }
         ensures table { self.new.table ≡ self.old.table }
         ensures tick { self.new.buckets.tick ≡ self.old.buckets.tick }
         ensures shrinks { AllShrink self.old.table self.old.buckets self.new.buckets }

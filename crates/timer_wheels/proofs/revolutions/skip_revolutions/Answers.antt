@@ -2,7 +2,7 @@ use Rattle.timer_base.specs.WheelState.{with_room}
 use Rattle.std.proofs.Common.{ap, ◌≤◌, ◌+◌, ◌*◌, refl, arith, rules}
 use Rattle.timer_links.specs.Lists.{list_at}
 use Rattle.timer_wheels.proofs.BucketLemmas.{no_rows}
-use Rattle.timer_wheels.proofs.RevolutionLemmas.{skipped, skipped-sound, skipped-in_buckets, skipped-quiet, same_slot_after, quiet_now}
+use Rattle.timer_wheels.proofs.RevolutionLemmas.{skipped, skipped-sound, skipped-in_buckets, skipped-in_order, skipped-quiet, same_slot_after, quiet_now}
 use Rattle.timer_wheels.proofs.revolutions.skip_revolutions.Goals as goal
 
 pub returns-then-most-revolution-clause-quiet : goal.returns-then-most-revolution-clause-quiet
@@ -51,6 +51,14 @@ returns-clause-in_buckets c =
     skipped-in_buckets b.sound n (b.tick + n * b.slots) c.count_down_lists.new.links.lists c.requires.has_slots refl
     c.count_down_lists.ensures.length c.requires.in_buckets c.fewest_rounds-revolutions.ensures.fewest
     c.count_down_lists.ensures.counted (c.count_down_lists.ensures.others b.slots (omega arith))
+
+pub returns-clause-in_order : goal.returns-clause-in_order
+returns-clause-in_order c =
+    let b = c.args.buckets.now in
+    let n = c.fewest_rounds-revolutions.result in
+    skipped-in_order b.sound n (b.tick + n * b.slots) c.count_down_lists.new.links.lists c.requires.has_slots refl
+    c.count_down_lists.ensures.length c.requires.in_buckets c.fewest_rounds-revolutions.ensures.fewest
+    c.count_down_lists.ensures.counted (c.count_down_lists.ensures.others b.slots (omega arith)) c.requires.in_order
 
 pub returns-clause-same_slot : goal.returns-clause-same_slot
 returns-clause-same_slot c =

@@ -1,6 +1,7 @@
 use Rattle.timer_wheels.proofs.RoomLemmas.{next_sweep-with_room}
 use Rattle.std.proofs.Common.{◌<◌, ◌≤◌, arith}
 use Rattle.timer_links.specs.Lists.{list_at}
+use Rattle.timer_wheels.proofs.OrderedLists.{ordered-all}
 use Rattle.timer_wheels.proofs.WakeUpLemmas.{none_ahead, one_ahead, all_ahead, seen_filled, none_at_all, sleeps, wakes_at, sweeps_next}
 use Rattle.timer_wheels.proofs.sweep.next_sweep.Goals as goal
 
@@ -31,7 +32,7 @@ returns-then-not-is_empty-clause-next c =
     let b = c.args.buckets.now in
     next_sweep-with_room b.links.room _ _ _ (sweeps_next b.slots b.last_tick b.tick b.last_serial c.args.slot c.loop-step.step
     b.links.lists c.requires.has_slots c.requires.slot
-    c.loop-step.invariant b.sound.has_lists b.sound.in_order c.requires.in_buckets c.slot_after-bucket.result c.slot_after-bucket.ensures
+    c.loop-step.invariant b.sound.has_lists (ordered-all b.sound c.requires.in_order) c.requires.in_buckets c.slot_after-bucket.result c.slot_after-bucket.ensures
     c.loop-step-test.true (seen_filled (list_at c.slot_after-bucket.result b.links.lists) c.is_empty.result c.is_empty.ensures
     c.if-not-is_empty.true))
 

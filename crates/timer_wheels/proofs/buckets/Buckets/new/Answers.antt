@@ -6,7 +6,7 @@ use Rattle.timer_links.proofs.NewLinks.{no_rows_at}
 use Rattle.timer_wheels.proofs.Updates.{emptied}
 use Rattle.timer_wheels.proofs.buckets.Buckets.new.Goals as goal
 
-at_new : (k s : ℕ) (links : LinksState) → links ≡ record { lists = replicate k []; room = 0 } → list_at s links.lists ≡ []
+at_new : (k s : ℕ) (links : LinksState) → links ≡ record { lists = replicate k []; room = 0; ready = 0 } → list_at s links.lists ≡ []
 at_new k s links e = ap (λ (x : LinksState). list_at s x.lists) e ∙ no_rows_at k s
 
 pub invariant_of-result : goal.invariant_of-result

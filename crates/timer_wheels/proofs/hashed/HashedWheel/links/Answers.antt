@@ -1,5 +1,6 @@
 use Rattle.timer_wheels.proofs.RoomLemmas.{shows-with_room}
 use Rattle.timer_wheels.specs.Hashed.{slot_of, rounds_of}
+use Rattle.timer_wheels.proofs.OrderedLists.{ordered-all}
 use Rattle.timer_wheels.proofs.ShownLemmas.{shows}
 use Rattle.timer_wheels.proofs.hashed.HashedWheel.links.Goals as goal
 
@@ -8,4 +9,4 @@ returns c =
     let w = c.args.self.now in
     let b = w.buckets in
     shows-with_room b.links.room _ _ _ _ _ (shows b.slots (slot_of b.slots) (rounds_of b.slots b.tick) b.links.lists b.sound.has_lists
-    w.in_buckets b.last_tick b.tick b.last_serial b.sound.in_order)
+    w.in_buckets b.last_tick b.tick b.last_serial (ordered-all b.sound w.in_order))

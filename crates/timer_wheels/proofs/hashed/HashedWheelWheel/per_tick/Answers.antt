@@ -20,3 +20,6 @@ invariant_of-self-clause-at_tick c =
 
 pub invariant_of-self-clause-in_buckets : goal.invariant_of-self-clause-in_buckets
 invariant_of-self-clause-in_buckets c = c.sweep_tick.ensures.in_buckets
+
+pub invariant_of-self-clause-in_order : goal.invariant_of-self-clause-in_order
+invariant_of-self-clause-in_order c = c.sweep_tick.ensures.in_order

@@ -4,6 +4,7 @@ use Rattle.timer_wheels.specs.Placement.{no_rounds}
 use Rattle.timer_wheels.specs.Shown.{ShowsBuckets}
 use Rattle.timer_wheels.specs.Smooth.{smooth_bucket, mark}
 use Rattle.timer_wheels.specs.Tables.{radices, smooth_layout}
+use Rattle.timer_wheels.proofs.OrderedLists.{ordered-all}
 use Rattle.timer_wheels.proofs.RoomLemmas.{shows-with_room, shows-with_layout}
 use Rattle.timer_wheels.proofs.ShownLemmas.{shows}
 use Rattle.timer_wheels.proofs.smooth.SmoothWheel.links.Goals as goal
@@ -16,4 +17,4 @@ returns-clause-shows g c =
     (state_of b) b.links.lists in
     shows-with_layout (smooth_layout w.table) _ _ _ _ _ (subst P w.bank.has_slots (shows-with_room b.links.room _ _ _ _ _ (shows b.slots
     (smooth_bucket (radices w.table) b.tick (mark (radices w.table) b.tick b.links.lists)) no_rounds b.links.lists b.sound.has_lists
-    w.bank.placed b.last_tick b.tick b.last_serial b.sound.in_order)))
+    w.bank.placed b.last_tick b.tick b.last_serial (ordered-all b.sound w.bank.in_order))))

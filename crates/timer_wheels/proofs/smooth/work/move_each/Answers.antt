@@ -1,8 +1,7 @@
 use Rattle.std.proofs.Common.{◌<◌, ◌≤◌, ◌+◌, ◌∙◌, arith, rules}
 use Rattle.timer_wheels.specs.Paces.{pace_sum}
 use Rattle.timer_wheels.specs.declared.smooth.turns.TheConstants.{MOST_WHEELS}
-use Rattle.timer_wheels.proofs.IdleLemmas.{counted_more}
-use Rattle.timer_wheels.proofs.PaceLemmas.{moving_more, sums_mono}
+use Rattle.timer_wheels.proofs.PaceLemmas.{counted_more, moving_more, sums_mono}
 use Rattle.timer_wheels.proofs.smooth.work.move_each.Goals as goal
 
 pub overflow_add-moves : goal.overflow_add-moves

@@ -1,7 +1,6 @@
 use Rattle.std.proofs.Common.{◌≡◌, ◌<◌, ◌≤◌, ◌+◌, ◌-◌}
 use Rattle.timer_wheels.specs.Buckets.{state_of}
-use Rattle.timer_wheels.proofs.IdleLemmas.{next_lens}
-use Rattle.timer_wheels.proofs.PaceLemmas.{AreMoving}
+use Rattle.timer_wheels.proofs.PaceLemmas.{AreMoving, next_lens}
 use Rattle.timer_wheels.proofs.smooth.work.move_each.Given as goal
 
 abbrev pub invariant-loop-wheel : goal.invariant-loop-wheel

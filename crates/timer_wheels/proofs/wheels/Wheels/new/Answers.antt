@@ -6,6 +6,7 @@ use Rattle.timer_wheels.proofs.FirstsLemmas.{no_firsts}
 use Rattle.timer_links.proofs.NewLinks.{no_rows_at}
 use Rattle.timer_wheels.proofs.HierLemmas.{new_placed}
 use Rattle.timer_wheels.proofs.OccupiedLemmas.{marked_none}
+use Rattle.timer_wheels.proofs.OrderedLists.{ordered-none}
 use Rattle.timer_wheels.proofs.wheels.Wheels.new.Goals as goal
 
 pub invariant_of-result : goal.invariant_of-result
@@ -18,6 +19,7 @@ invariant_of-result g c =
         has_slots = c.in_ok-buckets.ensures.slots ∙ c.buckets_of-slots.ensures.value;
         clock = ap (λ (w : WheelState). w.last_tick) c.in_ok-buckets.ensures.state ∙ c.last_tick_of.ensures.value;
         placed = new_placed (radices c.args.table) b (c.buckets_of-slots.result + 1) c.in_ok-buckets.ensures.lists;
+        in_order = ordered-none b.slots b.links.lists empty;
         marked = marked_none b.slots c.new-3.result b.links.lists c.new-3.ensures empty;
       };
       foretold = no_firsts (lowest_radix (radices c.args.table)) b.slots c.in_ok-firsts.firsts b.links.lists

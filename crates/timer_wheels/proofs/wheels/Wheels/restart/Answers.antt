@@ -63,10 +63,10 @@ invariant_of-self-3 g c =
     new.firsts in
     let kept = framed w.hier c.replace.new.self new.occupied new.firsts
     (with_row to.result row (map (without_key key) w.buckets.links.lists)) c.replace.ensures.frame r.ensures.lists
-    (come_wheels left to.result row (removed w.buckets.sound key).has_lists refl new.occupied new.firsts to.ensures.list
+    (come_wheels left (removed w.buckets.sound key) to.result row c.requires.fresh refl new.occupied new.firsts to.ensures.list
     to.ensures.bucket (subst P r.ensures.lists c.enter_list.ensures.pending) c.enter_list.ensures.due) in
     let h = kept.hier in
     record {
-      hier = record { has_slots = h.has_slots; clock = h.clock; placed = h.placed; marked = h.marked };
+      hier = record { has_slots = h.has_slots; clock = h.clock; placed = h.placed; in_order = h.in_order; marked = h.marked };
       foretold = kept.foretold;
     }

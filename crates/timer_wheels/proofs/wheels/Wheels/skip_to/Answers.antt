@@ -13,7 +13,7 @@ invariant_of-buckets g c =
         serial_in_range = b.sound.serial_in_range;
         has_lists = b.sound.has_lists;
         distinct = b.sound.distinct;
-        in_order = b.sound.in_order;
+        due_in_order = b.sound.due_in_order;
         pending = (skipped c.args.self.now.hier c.requires.nothing_due c.args.tick c.requires.later c.requires.not_before).pending;
         due = none_past c.args.tick b.last_serial (list_at b.slots b.links.lists) c.requires.nothing_due;
       };
@@ -27,6 +27,7 @@ invariant_of-self g c =
         has_slots = w.hier.has_slots;
         clock = w.hier.clock;
         marked = w.hier.marked;
+        in_order = w.hier.in_order;
         placed = (skipped w.hier c.requires.nothing_due c.args.tick c.requires.later c.requires.not_before).placed;
       };
       foretold = w.foretold;

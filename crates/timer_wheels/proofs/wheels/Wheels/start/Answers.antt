@@ -33,10 +33,10 @@ invariant_of-self-2 g c =
     let P : KeyedLists → Type 0 = λ lists. w.buckets.tick < c.args.timer.deadline → Comes (lowest_radix (radices w.table)) to.result
     c.args.timer.deadline (first_deadline (list_at to.result lists)) w.occupied new.occupied w.firsts new.firsts in
     let kept = framed w.hier c.start.new.self new.occupied new.firsts (with_row to.result row w.buckets.links.lists)
-    c.start.ensures.frame c.in_ok-handle.ensures.lists (come_wheels (wheels_of w.hier w.foretold) to.result row
-    w.buckets.sound.has_lists refl new.occupied new.firsts to.ensures.list to.ensures.bucket
+    c.start.ensures.frame c.in_ok-handle.ensures.lists (come_wheels (wheels_of w.hier w.foretold) w.buckets.sound to.result row
+    c.requires.fresh refl new.occupied new.firsts to.ensures.list to.ensures.bucket
     (subst P c.in_ok-handle.ensures.lists c.enter_list.ensures.pending) c.enter_list.ensures.due) in
     let h = kept.hier in (
       (c.start.new.self.sound, tt),
-      (record { has_slots = h.has_slots; clock = h.clock; placed = h.placed; marked = h.marked }, (kept.foretold, tt)),
+      (record { has_slots = h.has_slots; clock = h.clock; placed = h.placed; in_order = h.in_order; marked = h.marked }, (kept.foretold, tt)),
     )

@@ -31,6 +31,6 @@ invariant_of-self-3 g c =
     (rw (← c.take.ensures.frame.tick) c.leave_list.ensures.pending) (rw (← c.take.ensures.frame.tick) c.leave_list.ensures.due)) in
     let h = kept.hier in
     record {
-      hier = record { has_slots = h.has_slots; clock = h.clock; placed = h.placed; marked = h.marked };
+      hier = record { has_slots = h.has_slots; clock = h.clock; placed = h.placed; in_order = h.in_order; marked = h.marked };
       foretold = kept.foretold;
     }

@@ -31,6 +31,8 @@ invariant_of-self g c =
         clock = w.hier.clock;
         placed = (next_at w.hier c.requires.nothing_due c.requires.before_last c.requires.emptied e.ensures.migrated
             e.ensures.moves).placed;
+        in_order = (next_at w.hier c.requires.nothing_due c.requires.before_last c.requires.emptied e.ensures.migrated
+            e.ensures.moves).in_order;
         marked = subst P (sym w.hier.has_slots) e.ensures.marked;
       };
       foretold = subst Q (sym w.hier.has_slots) e.ensures.foretold;

@@ -7,6 +7,7 @@ use Rattle.timer_wheels.specs.Tables.{radices}
 use Rattle.timer_wheels.proofs.BankLemmas.{same_placed}
 use Rattle.timer_wheels.proofs.BankNext.{all_shrink, potential_falls}
 use Rattle.timer_wheels.proofs.OccupiedLemmas.{marked_same}
+use Rattle.timer_wheels.proofs.OrderedLists.{ordered-same}
 use Rattle.timer_wheels.proofs.smooth.bank.Bank.expire.Goals as goal
 
 pub invariant_of-self : goal.invariant_of-self
@@ -25,6 +26,7 @@ invariant_of-self g c =
         has_slots = f.slots ∙ w.bank.has_slots;
         clock = f.last_tick ∙ w.bank.clock;
         placed = rw (f.tick, f.slots) placed;
+        in_order = rw f.slots (ordered-same b.slots b.links.lists new.links.lists c.expire.ensures.lists w.bank.in_order);
         marked = rw f.slots marked;
       };
     }

@@ -39,6 +39,7 @@ invariant_of-self g c =
         has_slots = w.bank.has_slots;
         clock = w.bank.clock;
         placed = m.placed;
+        in_order = m.in_order;
         marked = marked_moved w.filled c.insert_once.new.self c.settle.new.filled m w.bank.marked c.insert_once.ensures.here c.insert_once.ensures.others
             c.settle.ensures.empty c.settle.ensures.kept c.settle.ensures.others;
       };

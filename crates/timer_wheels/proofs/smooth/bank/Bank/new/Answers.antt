@@ -5,6 +5,7 @@ use Rattle.timer_wheels.specs.Smooth.{mark, IsByLaw}
 use Rattle.timer_wheels.specs.Tables.{radices}
 use Rattle.timer_wheels.proofs.BucketLemmas.{each-none}
 use Rattle.timer_wheels.proofs.OccupiedLemmas.{marked_none}
+use Rattle.timer_wheels.proofs.OrderedLists.{ordered-none}
 use Rattle.timer_wheels.proofs.smooth.bank.Bank.new.Goals as goal
 
 pub invariant_of-result : goal.invariant_of-result
@@ -16,6 +17,7 @@ invariant_of-result g c =
         has_slots = c.in_ok-buckets.ensures.slots ∙ c.lists_of-slots.ensures.value;
         clock = ap (λ (w : WheelState). w.last_tick) c.in_ok-buckets.ensures.state ∙ c.last_tick_of.ensures.value;
         placed = each-none (IsByLaw (radices c.args.table) b.tick (mark (radices c.args.table) b.tick b.links.lists)) b.slots b.links.lists empty;
+        in_order = ordered-none b.slots b.links.lists empty;
         marked = marked_none b.slots c.new-2.result b.links.lists c.new-2.ensures empty;
       };
     }

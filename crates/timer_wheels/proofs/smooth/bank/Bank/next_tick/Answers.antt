@@ -25,6 +25,7 @@ invariant_of-self g c =
         has_slots = w.bank.has_slots;
         clock = w.bank.clock;
         placed = rw q (tick_by_law w.table w.buckets w.filled w.bank c.requires.before_last c.requires.nothing_due c.requires.empty);
+        in_order = rw q (bank_ticked w.table w.buckets w.filled w.bank c.requires.before_last c.requires.nothing_due c.requires.empty).in_order;
         marked = rw q (tick_marked w.table w.buckets w.filled w.bank c.requires.before_last c.requires.nothing_due c.requires.empty c.make_due.new.filled (rw (← c.list_of_slot-list.ensures.value) c.make_due.ensures.clear)
             (rw (← c.list_of_slot-list.ensures.value) c.make_due.ensures.others));
       };

@@ -13,6 +13,7 @@ use Rattle.timer_wheels.proofs.BankNext.{comes_to, without_shorter}
 use Rattle.timer_wheels.proofs.BankLemmas.{start_marked}
 use Rattle.timer_wheels.proofs.BankStops.{stopped_marked}
 use Rattle.timer_wheels.proofs.BankRestarts.{restarted_later, restarted_due}
+use Rattle.timer_wheels.proofs.OrderedLists.{ordered-without_key, ordered-come}
 use Rattle.timer_wheels.proofs.SmoothDescent.{few_lists}
 use Rattle.timer_wheels.proofs.Updates.{removed}
 use Rattle.timer_wheels.proofs.smooth.bank.Bank.restart.Goals as goal
@@ -41,13 +42,15 @@ invariant_of-self-2 g c =
     let sound : AreBuckets b.slots b.last_tick b.tick new.last_serial
     (with_row list (row_at handle.place timer 0) (map (without_key handle.place) b.links.lists)) =
     rw (← f.slots, ← f.last_tick, ← f.tick, ← e) new.sound in
+    let ordered = ordered-come (removed b.sound handle.place) (ordered-without_key b.slots handle.place b.links.lists w.bank.in_order) list
+    (row_at handle.place timer 0) c.requires.fresh c.place_of-list.ensures.list in
     let placed : EachRow (IsByLaw (radices w.table) b.tick (mark (radices w.table) b.tick
     (with_row list (row_at handle.place timer 0) (map (without_key handle.place) b.links.lists)))) b.slots
     (with_row list (row_at handle.place timer 0) (map (without_key handle.place) b.links.lists)) = elim (cases_lt b.tick timer.deadline) [
       | inl later ↦ restarted_later w.table b w.filled w.bank handle timer list new.last_serial c.requires.deadline c.requires.fresh
-          c.requires.serial sound later (c.place_of-list.ensures.bucket later)
+          c.requires.serial sound ordered later (c.place_of-list.ensures.bucket later)
       | inr past ↦ restarted_due w.table b w.filled w.bank handle timer list new.last_serial c.requires.deadline c.requires.fresh
-          c.requires.serial sound (c.place_of-list.ensures.due past)
+          c.requires.serial sound ordered (c.place_of-list.ensures.due past)
     ] in
     let left = stopped_marked w.table b w.filled w.bank handle c.lemma_keys_unique.ensures r.restarted.1 found r.emptied
     r.ensures.emptied c.leave.new.filled (rw (← f.slots) c.leave.ensures) in
@@ -61,6 +64,7 @@ invariant_of-self-2 g c =
         has_slots = f.slots ∙ w.bank.has_slots;
         clock = f.last_tick ∙ w.bank.clock;
         placed = rw (f.tick, f.slots, e) placed;
+        in_order = rw (f.slots, e) ordered;
         marked = rw (f.slots, e) marked;
       };
     }

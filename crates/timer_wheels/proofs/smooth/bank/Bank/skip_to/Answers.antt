@@ -16,6 +16,7 @@ invariant_of-self g c =
         has_slots = w.bank.has_slots;
         clock = w.bank.clock;
         placed = skip_by_law w.table w.buckets w.filled w.bank c.args.tick c.requires.later c.requires.in_range (no_rows (list_at w.buckets.slots w.buckets.links.lists) c.requires.nothing_due) c.requires.ahead;
+        in_order = w.bank.in_order;
         marked = w.bank.marked;
       };
     }

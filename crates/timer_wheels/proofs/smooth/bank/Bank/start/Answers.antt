@@ -10,6 +10,7 @@ use Rattle.timer_wheels.specs.Bank.{potential_of}
 use Rattle.timer_wheels.proofs.BankCounts.{later_heights, due_heights}
 use Rattle.timer_wheels.proofs.BankNext.{comes_to}
 use Rattle.timer_wheels.proofs.BankLemmas.{later_placed, due_placed, start_marked}
+use Rattle.timer_wheels.proofs.OrderedLists.{ordered-come}
 use Rattle.timer_wheels.proofs.SmoothDescent.{few_lists}
 use Rattle.timer_wheels.proofs.smooth.bank.Bank.start.Goals as goal
 
@@ -31,12 +32,13 @@ invariant_of-self-2 g c =
     let e = c.in_ok-handle.ensures.lists in
     let sound : AreBuckets b.slots b.last_tick b.tick new.last_serial (with_row list (row_at place timer 0) b.links.lists) =
     rw (← f.slots, ← f.last_tick, ← f.tick, ← e) new.sound in
+    let ordered = ordered-come b.sound w.bank.in_order list (row_at place timer 0) c.requires.fresh c.place_of-list.ensures.list in
     let placed : EachRow (IsByLaw (radices w.table) b.tick (mark (radices w.table) b.tick (with_row list (row_at place timer 0) b.links.lists)))
     b.slots (with_row list (row_at place timer 0) b.links.lists) = elim (cases_lt b.tick timer.deadline) [
       | inl later ↦ later_placed w.table b w.filled w.bank timer place list new.last_serial c.requires.deadline c.requires.fresh c.requires.serial
-          sound later (c.place_of-list.ensures.bucket later)
+          sound ordered later (c.place_of-list.ensures.bucket later)
       | inr past ↦ due_placed w.table b w.filled w.bank timer place list new.last_serial c.requires.deadline c.requires.fresh c.requires.serial
-          sound (c.place_of-list.ensures.due past)
+          sound ordered (c.place_of-list.ensures.due past)
     ] in
     let marked : AreMarked b.slots c.enter.new.filled (with_row list (row_at place timer 0) b.links.lists) =
     start_marked b.slots b.tick b.links.lists w.filled c.enter.new.filled (row_at place timer 0) list timer.deadline w.bank.marked b.sound.has_lists
@@ -46,6 +48,7 @@ invariant_of-self-2 g c =
         has_slots = f.slots ∙ w.bank.has_slots;
         clock = f.last_tick ∙ w.bank.clock;
         placed = rw (f.tick, f.slots, e) placed;
+        in_order = rw (f.slots, e) ordered;
         marked = rw (f.slots, e) marked;
       };
     }

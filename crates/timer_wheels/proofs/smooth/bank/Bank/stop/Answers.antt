@@ -5,6 +5,7 @@ use Rattle.timer_wheels.specs.BucketLists.{AreBuckets}
 use Rattle.timer_wheels.specs.Buckets.{state_of, taken_timer}
 use Rattle.timer_wheels.proofs.BankNext.{all_shrink, potential_falls, without_shorter}
 use Rattle.timer_wheels.proofs.BankStops.{stopped_placed, stopped_marked}
+use Rattle.timer_wheels.proofs.OrderedLists.{ordered-without_key}
 use Rattle.timer_wheels.proofs.SmoothDescent.{few_lists}
 use Rattle.timer_wheels.proofs.smooth.bank.Bank.stop.Goals as goal
 
@@ -31,6 +32,7 @@ invariant_of-self-2 g c =
         has_slots = f.slots ∙ w.bank.has_slots;
         clock = f.last_tick ∙ w.bank.clock;
         placed = rw (f.tick, f.slots, e) placed;
+        in_order = rw (f.slots, e) (ordered-without_key b.slots handle.place b.links.lists w.bank.in_order);
         marked = rw (f.slots, e) marked;
       };
     }
