@@ -1,0 +1,3 @@
+pub mod RunLists
+pub mod RunLemmas
+pub mod RunExample
