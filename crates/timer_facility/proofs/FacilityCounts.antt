@@ -3,6 +3,7 @@ use Rattle.std.proofs.Common.{◌≡◌, ◌≢◌, ◌<◌, ◌≤◌, ◌+◌,
 use Rattle.std.specs.Prelude.{nat_lt, drop, Some, slice_get, slice_index, slice_set, replicate}
 use Rattle.std.proofs.lemmas.Bool.{cases_eq, cases_lt, eq-eqb, ne_eqb}
 use Rattle.std.proofs.lemmas.List.{get_or-set_same, get_or-set_other, get_or_past, get_or-replicate, length-set}
+use Rattle.timer_base.proofs.Members.{at_member}
 use Rattle.timer_base.proofs.Basics.{either, none_some, some_same}
 use Rattle.timer_base.proofs.HeldLaws.{no_serial}
 use Rattle.timer_base.specs.Order.{IsMember, AreDistinct}
@@ -11,7 +12,6 @@ use Rattle.timer_base.specs.Pending.{Entry, timers_of, put, is_due_at, without_s
 use Rattle.timer_base.specs.WheelState.{WheelState}
 use Rattle.timer_facility.specs.State.{one_of, count_of}
 use Rattle.timer_facility.specs.Facility.{kept_in, AreCounted}
-use Rattle.timer_facility.proofs.TimerLists.{at_member}
 
 pub count-append : (client : ℕ) (xs ys : List Timer) → count_of client (xs ++ ys) ≡ count_of client xs + count_of client ys
 count-append client [] ys = omega arith

@@ -1,5 +1,5 @@
 -- Every timer that was started and not stopped is handed out at its deadline, or else at the close.
-use Rattle.std.proofs.Common.{◌≡◌, ◌<◌, ◌≤◌, ◌+◌, ℕ, zero, suc, Bool, true, false, not, ◌==◌, ◌&&◌, ◌||◌, List, [], ◌∷◌, ◌++◌, ◌∙◌, sym, ap, subst, inl, inr, arith}
+use Rattle.std.proofs.Common.{◌≡◌, ◌<◌, ◌≤◌, ◌+◌, ℕ, zero, suc, Bool, true, false, not, ◌==◌, ◌&&◌, ◌||◌, List, [], ◌∷◌, ◌∙◌, sym, ap, subst, inl, inr, arith}
 use Rattle.std.specs.Prelude.{map, filter, nat_lt}
 use Rattle.std.proofs.lemmas.Bool.{and_from, cases_eq, eq-eqb, lt-ltb, not_from_false}
 use Rattle.std.proofs.lemmas.Bool.Decides.{nat_tests}
@@ -7,23 +7,15 @@ use Rattle.timer_base.proofs.Basics.{either}
 use Rattle.timer_base.proofs.OrderLaws.{All-weaken, filter_same}
 use Rattle.timer_facility.specs.Types.{Timer, Notice, Expired, Returned}
 use Rattle.timer_base.specs.Order.{itself, IsMember}
+use Rattle.timer_base.proofs.Members.{in_left, in_right, at_member}
 use Rattle.timer_base.proofs.OneOrder.{IsMember-in_order}
 use Rattle.timer_base.specs.Pending.{is_due_at}
 use Rattle.timer_facility.specs.State.{FacilityState, IsSound}
 use Rattle.timer_facility.specs.Run.{PlacedEvent, HistoryEntry, history}
 use Rattle.timer_facility.specs.Owed.{started, stopped, accepted_ticks, has_closed, is_among, timers_in_order, due, left_after, owed_by_ticks, owed_by_close, is_due_within, others, AreAllHandedOut}
-use Rattle.timer_facility.proofs.TimerLists.{at_member}
 use Rattle.timer_facility.proofs.OwedLemmas.{notices-history, started-not_before}
 
 -- Members of lists.
-
-in_left : {X : Type 0} (x : X) (xs ys : List X) → IsMember x xs → IsMember x (xs ++ ys)
-in_left x [] ys a = absurd a
-in_left x (y ∷ xs) ys a = elim a [ inl h ↦ inl h | inr h ↦ inr (in_left x xs ys h) ]
-
-in_right : {X : Type 0} (x : X) (xs ys : List X) → IsMember x ys → IsMember x (xs ++ ys)
-in_right x [] ys a = a
-in_right x (y ∷ xs) ys a = inr (in_right x xs ys a)
 
 in_mapped : (f : Timer → Notice) (t : Timer) (ts : List Timer) → IsMember t ts → IsMember (f t) (map f ts)
 in_mapped f t [] a = absurd a

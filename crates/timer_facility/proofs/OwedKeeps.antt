@@ -6,15 +6,16 @@ use Rattle.std.proofs.lemmas.Bool.{and_from, and_parts, both_ways, eq-eqb, eqb-t
 use Rattle.std.proofs.lemmas.Bool.Decides.{nat_tests}
 use Rattle.std.proofs.lemmas.List.{map-append}
 use Rattle.std.proofs.lemmas.List.Elements.{filter-append, filter_agree}
+use Rattle.timer_base.proofs.Members.{at_member}
 use Rattle.timer_base.proofs.Basics.{either, not_due_before}
-use Rattle.timer_base.specs.Order.{IsMember, itself, IsNotAmong, AreDistinct, AreBelow}
-use Rattle.timer_base.proofs.OrderLaws.{All-append, All-filter, All-weaken, All-in_order, newest_last, filter_same}
+use Rattle.timer_base.specs.Order.{IsMember, itself, IsNotAmong, AreDistinct, AreNumbered, AreBelow}
+use Rattle.timer_base.proofs.OrderLaws.{All-append, All-filter, All-weaken, All-in_order, AreNumbered-append, newest_last, filter_same}
 use Rattle.timer_facility.specs.Types.{Timer, Notice, Expired, Returned}
 use Rattle.timer_base.specs.Pending.{timers_of, is_due_at, has_serial}
 use Rattle.timer_facility.specs.State.{FacilityState, Tick, Close}
 use Rattle.timer_facility.specs.Step.{with_number, without_timer, with_timer, expired_next, accepted}
 use Rattle.timer_facility.specs.Owed.{timers_in_order, is_among}
-use Rattle.timer_facility.proofs.TimerLists.{or_false, insert_newest, filter-timers_in_order, filter-filter, timers_of-put, timers_of-filter, at_member, IsMember-in_order, IsMember-filter, IsOnly, AreDistinct-only, AreDistinct-join, is_among-append, is_among_below}
+use Rattle.timer_facility.proofs.TimerLists.{or_false, insert_newest, filter-timers_in_order, filter-filter, timers_of-put, timers_of-filter, IsMember-in_order, IsMember-filter, IsOnly, AreDistinct-only, AreDistinct-join, is_among-append, is_among_below}
 use Rattle.timer_facility.proofs.StepLemmas.{put_when_later, put_when_now}
 use Rattle.timer_facility.proofs.OwedFold.{Reading, all_started, is_owed_at, is_left_at, due_at, owed_at_ticks, owed_at_close, owed_for}
 
@@ -28,6 +29,7 @@ pub record Keeps (s : FacilityState) (r : Reading) (ns : List Notice) (c : Facil
   pub below : AreBelow c.next_serial (all_started s r)
   pub stopped_below : AllByRecursion (λ k. k < c.next_serial) r.stopped
   pub not_past : AllByRecursion (λ t. s.now ≤ t.deadline) (all_started s r)
+  pub numbered : AreNumbered s.next_serial r.started c.next_serial
 
 pub not_closed : {s : FacilityState} {r : Reading} {ns : List Notice} {c : FacilityState} → Keeps s r ns c → c.is_closed ≡ false
     → r.is_closed ≡ false
@@ -100,6 +102,7 @@ keeps-start {s} {r} {ns} {c} place t k h l fresh =
           (All-weaken (λ x. x.serial < c.next_serial) _ (all_started s r) (λ x b. omega (arith, b)) k.below) (omega (arith, fresh), tt));
       stopped_below = All-weaken (λ m. m < c.next_serial) (λ m. m < c.next_serial + 1) r.stopped (λ m b. omega (arith, b)) k.stopped_below;
       not_past = rw (all_with_start s r t) (All-append (λ x. s.now ≤ x.deadline) (all_started s r) (t ∷ []) k.not_past (omega arith, tt));
+      numbered = AreNumbered-append s.next_serial r.started c.next_serial t k.numbered fresh;
     }
 
 -- a start for now
@@ -173,6 +176,7 @@ keeps-start_now {s} {r} {ns} {c} place t k h at fresh =
       stopped_below = All-weaken (λ m. m < c.next_serial) (λ m. m < c.next_serial + 1) r.stopped (λ m b. omega (arith, b)) k.stopped_below;
       not_past = rw (all_with_start s r t) (All-append (λ x. s.now ≤ x.deadline) (all_started s r) (t ∷ []) k.not_past
           (omega (arith, at, n), tt));
+      numbered = AreNumbered-append s.next_serial r.started c.next_serial t k.numbered fresh;
     }
 
 -- a stop
@@ -239,6 +243,7 @@ keeps-stop {s} {r} {ns} {c} t k h among =
       stopped_below = All-append (λ m. m < c.next_serial) r.stopped (t.serial ∷ []) k.stopped_below
           (at_member (λ x. x.serial < c.next_serial) t (all_started s r) k.below passed.0, tt);
       not_past = k.not_past;
+      numbered = k.numbered;
     }
 
 -- a tick
@@ -275,6 +280,7 @@ keeps-tick {s} {r} {ns} {c} k h =
       below = k.below;
       stopped_below = k.stopped_below;
       not_past = k.not_past;
+      numbered = k.numbered;
     }
 
 -- a close
@@ -290,6 +296,7 @@ keeps-close {s} {r} {ns} {c} k h = record {
   below = k.below;
   stopped_below = k.stopped_below;
   not_past = k.not_past;
+  numbered = k.numbered;
 }
 
 -- a number that is used up
@@ -304,4 +311,5 @@ keeps-numbered client number k = record {
   below = k.below;
   stopped_below = k.stopped_below;
   not_past = k.not_past;
+  numbered = k.numbered;
 }

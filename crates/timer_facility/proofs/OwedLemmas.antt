@@ -5,7 +5,7 @@ use Rattle.std.specs.List.{AllByRecursion}
 use Rattle.std.proofs.lemmas.Bool.{cases_lt, or_right}
 use Rattle.std.proofs.lemmas.Bool.Decides.{nat_tests}
 use Rattle.timer_base.proofs.Basics.{either}
-use Rattle.timer_base.specs.Order.{IsMember, AreDistinct}
+use Rattle.timer_base.specs.Order.{IsMember, AreDistinct, AreNumbered}
 use Rattle.timer_base.proofs.OrderLaws.{All-weaken, filter_all, filter_none}
 use Rattle.timer_facility.specs.Types.{Timer, Notice, TickFault, Expired, Returned}
 use Rattle.timer_base.specs.Pending.{timers_of}
@@ -13,7 +13,7 @@ use Rattle.timer_facility.specs.State.{FacilityState, IsSound, ModelRequest, act
 use Rattle.timer_facility.specs.Verdict.{tick_refusal}
 use Rattle.timer_facility.specs.Step.{StepResult, timer_stopped, expiries, timer_started, handle_of, answer_to, answered, due_at_start, with_timer, after_request, expired_next, step, step_of_tick, step_of_close}
 use Rattle.timer_facility.specs.Run.{PlacedEvent, history, state_after, notices, notices_in, outs_of}
-use Rattle.timer_facility.specs.Owed.{owed, started, timers_in_order, timer_answered}
+use Rattle.timer_facility.specs.Owed.{owed, started, accepted_starts, timers_in_order, timer_answered}
 use Rattle.timer_facility.proofs.TimerLists.{or_false, timers_in_order-ordered}
 use Rattle.timer_facility.proofs.VerdictLemmas.{takable, ticking}
 use Rattle.timer_facility.proofs.StepLemmas.{by_verdict, stopped-among, IsNew, started-new, started-not_past, due_when_later, due_when_now}
@@ -163,6 +163,7 @@ keeps_first s i =
       distinct = rw all i.distinct;
       below = rw all i.below;
       stopped_below = tt;
+      numbered = record { each = tt; next_is = omega arith };
       not_past = rw all (All-weaken (λ t. s.now < t.deadline) (λ t. s.now ≤ t.deadline) (timers_of s.pending)
           (λ t l. omega (arith, l)) i.later);
     }
@@ -178,6 +179,11 @@ notices-history s ps i = (keeps_history s ps i).told ∙ sym (owed_is s (history
 -- no two of the timers that were started have one serial
 pub started-distinct : (s : FacilityState) (ps : List PlacedEvent) → IsSound s → AreDistinct (started s (history s ps))
 started-distinct s ps i = (keeps_history s ps i).distinct
+
+-- those started since have the next serials, in order
+pub started-numbered : (s : FacilityState) (ps : List PlacedEvent) → IsSound s
+    → AreNumbered s.next_serial (accepted_starts (history s ps)) (state_after s ps).next_serial
+started-numbered s ps i = (keeps_history s ps i).numbered
 
 -- none of them has its deadline before the beginning
 pub started-not_before : (s : FacilityState) (ps : List PlacedEvent) → IsSound s

@@ -5,6 +5,7 @@ use Rattle.std.specs.List.{AllByRecursion}
 use Rattle.std.proofs.lemmas.Bool.{and_parts, eqb-true, ltb-true, not-true}
 use Rattle.std.proofs.lemmas.List.{map-append}
 use Rattle.timer_base.specs.Order.{IsMember, itself, AreDistinct}
+use Rattle.timer_base.proofs.Members.{at_member}
 use Rattle.timer_base.proofs.OneOrder.{each_is_member, map-itself}
 use Rattle.timer_facility.specs.Types.{Timer, Expired, Returned}
 use Rattle.timer_base.proofs.Basics.{either}
@@ -13,7 +14,7 @@ use Rattle.timer_base.specs.Pending.{is_due_at}
 use Rattle.timer_facility.specs.State.{FacilityState, IsSound}
 use Rattle.timer_facility.specs.Run.{PlacedEvent, HistoryEntry, history}
 use Rattle.timer_facility.specs.Owed.{started, stopped, accepted_ticks, has_closed, is_among, timers_in_order, due, left_after, owed_by_ticks, owed_by_close, timer_handed, handed_out, AreHandedOutOnce}
-use Rattle.timer_facility.proofs.TimerLists.{at_member, IsOnly, AreDistinct-only, AreDistinct-join}
+use Rattle.timer_facility.proofs.TimerLists.{IsOnly, AreDistinct-only, AreDistinct-join}
 use Rattle.timer_facility.proofs.HandedOverLemmas.{unwrapped}
 use Rattle.timer_facility.proofs.OwedLemmas.{notices-history, started-distinct}
 

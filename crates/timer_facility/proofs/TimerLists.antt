@@ -10,6 +10,7 @@ use Rattle.std.proofs.lemmas.Option.{cond_some}
 use Rattle.timer_base.proofs.Basics.{either, none_some, some_same}
 use Rattle.timer_facility.specs.Types.{Timer, Handle}
 use Rattle.timer_base.specs.Order.{itself, insert_by_deadline, IsOrdered, IsNotAmong, AreDistinct, IsMember}
+use Rattle.timer_base.proofs.Members.{at_member}
 use Rattle.timer_base.proofs.OneOrder.{each_is_member, in_order-ordered, map-itself}
 use Rattle.timer_base.proofs.OrderLaws.{All-append, All-filter, All-weaken, All-in_order, filter-in_order}
 use Rattle.timer_base.specs.Pending.{Entry, timer_of, timers_of, put, has_handle, first_timer, first_found}
@@ -48,11 +49,6 @@ timers_of-filter p (x ∷ xs) = elim (either (p x.timer)) [
   | inl h ↦ rw h (ap (λ r. x.timer ∷ r) (timers_of-filter p xs))
   | inr h ↦ rw h (timers_of-filter p xs)
 ]
-
--- what holds of all holds of one of them
-pub at_member : {X : Type 0} (P : X → Type 0) (x : X) (ys : List X) → AllByRecursion P ys → IsMember x ys → P x
-at_member P x [] a m = absurd m
-at_member P x (y ∷ ys) a m = elim m [ inl h ↦ subst P h a.0 | inr h ↦ at_member P x ys a.1 h ]
 
 pub IsMember-in_order : (t : Timer) (xs : List Timer) → IsMember t (timers_in_order xs) → IsMember t xs
 IsMember-in_order t xs m = at_member (λ x. IsMember x xs) t (timers_in_order xs)

@@ -2,6 +2,7 @@
 //! Each of these functions does nothing: its contract is the lemma.
 ghost use Rattle.std.specs.Prelude.{◌≡◌, ◌<◌, ◌≤◌, List, [], ℕ, ◌+◌, length, take, map, true, Some};
 ghost use Rattle.std.specs.List.{AllByRecursion};
+ghost use Rattle.timer_base.specs.Order.{AreNumbered};
 ghost use Rattle.timer_base.specs.WakeUps.{IsWakeUp};
 ghost use Rattle.timer_facility.specs.Types.{MAX_CLIENTS, MAX_PENDING, SPARE, Event, Out};
 ghost use Rattle.timer_facility.specs.State.{FacilityState, IsSound, SingleEvent, Asked, Tick, Close, ModelRequest, pending_of};
@@ -9,7 +10,7 @@ ghost use Rattle.timer_facility.specs.Verdict.{Refusal, refusals_of, verdict, cl
 ghost use Rattle.timer_facility.specs.Step.{step, refused, refusals_in};
 ghost use Rattle.timer_facility.specs.Run.{PlacedEvent, history, state_after, run, notices, notices_in, bare_outs, bare_state, NamesBySerial, AreSameButForPlaces};
 ghost use Rattle.timer_facility.specs.HandedOver.{AddsAtMostOne, HandsOver};
-ghost use Rattle.timer_facility.specs.Owed.{owed, left_after, accepted_ticks, others, AreHandedOutOnce, AreAllHandedOut};
+ghost use Rattle.timer_facility.specs.Owed.{owed, left_after, accepted_starts, accepted_ticks, others, AreHandedOutOnce, AreAllHandedOut};
 ghost use Rattle.timer_facility.specs.Played.{IsRun};
 ghost use Rattle.timer_facility.specs.Ticked.{ticks};
 
@@ -33,6 +34,13 @@ pub fn each_timer_is_handed_out_once()
 pub fn each_timer_is_handed_out()
     ensures { (s : FacilityState) (placed : List PlacedEvent) → IsSound s
         → AreAllHandedOut s (history s placed) }
+{}
+
+/// Serials rise in the order of starting, each by one: the timers started in a run have the serials from the next one on. So
+/// where timers of one tick come out by serial, they come out in the order of starting.
+pub fn serials_rise_in_the_order_of_starting()
+    ensures { (s : FacilityState) (placed : List PlacedEvent) → IsSound s
+        → AreNumbered s.next_serial (accepted_starts (history s placed)) (state_after s placed).next_serial }
 {}
 
 /// A close returns the others: of all timers that were started, those that no tick handed out and that

@@ -10,7 +10,7 @@ ghost use Rattle.timer_total.specs.TimersState.{TimersState, with_wheel, with_st
 
 use crate::fault::{AdvanceFault, RestartFault, StartFault};
 use std::marker::Model;
-use timer_base::{Handle, LAST, MovesAhead, OutOfMemory, Timer, Wheel};
+use timer_base::{Handle, LAST, OutOfMemory, Timer, Wheel};
 
 /// A wheel and the last serial that was used. Its model has both, and what the wheel counted.
 #[derive(Drop)]
@@ -503,19 +503,6 @@ impl<W: Wheel + Drop> Timers<W> {
     {
         self.wheel.clear();
         drop_due(&mut self.wheel);
-    }
-}
-
-impl<W: MovesAhead + Drop> Timers<W> {
-    /// Makes at most so many of the moves of later ticks now, and returns how many it made: for an owner with time to
-    /// spare. Nothing changes, but later ticks have less to do. If it makes fewer than asked, none is left for now. Does
-    /// not allocate.
-    pub fn move_ahead(&mut self, most: u64) -> u64
-        ensures at_most { result ≤ most }
-        ensures none { W.has_moves self.old.wheel.layout ≡ false → result ≡ 0 }
-        ensures same { self.new ≡ self.old }
-    {
-        self.wheel.move_ahead(most)
     }
 }
 
