@@ -1,5 +1,5 @@
--- What each call returns, and the state of the wheel after it. A status is that of the first reason that
--- holds.
+-- What a call returns, and why one is refused: its status is that of the first reason that holds. What an accepted call
+-- does to the timers is in Calls.antt.
 use Rattle.std.specs.Prelude.{ℕ, ◌≡◌, ◌+◌, ◌<◌, ◌≤◌, ◌⊎◌, [], length, drop, Option, Some, None, false}
 use Rattle.timer_base.specs.Counts.{WheelCounts, no_counts}
 use Rattle.timer_base.specs.declared.limits.TheConstants.{LAST}
@@ -7,20 +7,18 @@ use Rattle.timer_base.specs.declared.timer.Timer.{Timer}
 use Rattle.timer_base.specs.declared.timer.Handle as base
 use Rattle.timer_base.specs.Layout.{Layout}
 use Rattle.timer_base.specs.WakeUps.{IsWakeUp, next_deadline}
-use Rattle.timer_base.specs.WheelState.{WheelState, empty_wheel, held_at, after_start, after_removal, after_tick}
+use Rattle.timer_base.specs.WheelState.{WheelState, empty_wheel, held_at}
 use Rattle.timer_wheels.specs.declared.tiers.Tiers.{Tiers}
 use Rattle.timer_wheels.specs.Tiers.{tiers_with_number, last_of_tiers, layout_of_tiers, AreTiersFor}
-use Rattle.timer_wheels.specs.HeldPlaces.{AreBefore, AreElsewhere}
-use Rattle.timer_wheels.specs.TieredWheel.{radices_of, is_smooth, counts_at_tick, counts_at_advance}
-use Rattle.timer_wheels.specs.HierWheel as hier
+use Rattle.timer_wheels.specs.HeldPlaces.{AreBefore, AreElsewhere, IsAlone}
+use Rattle.timer_wheels.specs.TieredWheel.{radices_of, is_smooth}
 use Rattle.timer_wheels.specs.WakeUps.{next_visit}
-use Rattle.timer_total.specs.Refusals.{interval_until, after_start_at, next_timer, left_until, IsStartable, IsRoomUsed, IsAt}
-use Rattle.timer_total.specs.Ticks.{IsTakenBy, IsAdvanced}
+use Rattle.timer_total.specs.Refusals.{interval_until, IsStartable, IsRoomUsed, IsAt}
 use Rattle.timer_total.specs.declared.fault.StartFault.{StartFault}
 use Rattle.timer_total.specs.declared.fault.StartFault.TheVariants as start
 use Rattle.timer_total.specs.declared.fault.RestartFault.{RestartFault}
 use Rattle.timer_total.specs.declared.fault.RestartFault.TheVariants as restart
-use Rattle.timer_total.specs.TimersState.{TimersState, with_wheel, with_start}
+use Rattle.timer_total.specs.TimersState.{TimersState}
 use Rattle.timer_c.specs.declared.layout.Counts.{Counts}
 use Rattle.timer_c.specs.declared.layout.CHandle.{CHandle}
 use Rattle.timer_c.specs.declared.layout.Expired.{Expired}
@@ -49,12 +47,7 @@ WhyNoWheel number first_tick status =
     × (last_of_tiers tiers < first_tick)))
     ⊎ ((status ≡ NO_MEMORY) × IsOpenable number first_tick)
 
--- a start was done: the state is that after the start, at a place that is a free choice
-abbrev pub IsStarted : ℕ → ℕ → TimersState → TimersState → CHandle → Type 0
-IsStarted interval action old new handle =
-    IsStartable interval old × (handle.serial ≡ old.last_serial + 1)
-    × (new ≡ with_start hier.with_counted_start (after_start handle.place (next_timer interval action old) old.wheel) old)
-
+-- why a start is refused
 abbrev pub IsStartRefusal : ℕ → TimersState → ℕ → Type 0
 IsStartRefusal interval old status =
     ((status ≡ ZERO_INTERVAL) × (interval ≡ 0))
@@ -67,31 +60,11 @@ IsStartRefusal interval old status =
 abbrev pub base_handle : CHandle → base.Handle
 base_handle handle = record { place = handle.place; serial = handle.serial }
 
--- a start for this tick was done: the timer is pending until then, or expired if the tick is not after now
-abbrev pub IsStartedAt : ℕ → ℕ → TimersState → TimersState → CHandle → Type 0
-IsStartedAt deadline action old new handle =
-    IsStartable (interval_until deadline old) old × (handle.serial ≡ old.last_serial + 1)
-    × (new ≡ with_start hier.with_counted_start (after_start_at handle.place deadline action old.wheel old) old)
-
--- why it was not: an interval until a tick is never 0
+-- why one for this tick is: an interval until a tick is never 0
 abbrev pub IsStartAtRefusal : ℕ → TimersState → ℕ → Type 0
 IsStartAtRefusal deadline old status = IsStartRefusal (interval_until deadline old) old status
 
--- a restart was done: the old timer is removed, and the new one started under the next serial
-abbrev pub IsRestarted : CHandle → ℕ → ℕ → TimersState → TimersState → CHandle → Type 0
-IsRestarted handle interval action old new restarted =
-    IsAt (base_handle handle) old × IsStartable interval old × (restarted.serial ≡ old.last_serial + 1)
-    × (new ≡ with_start hier.with_counted_start (after_start restarted.place (next_timer interval action old)
-    (after_removal (base_handle handle) old.wheel)) old)
-
--- a restart for this tick was done, as a start for it
-abbrev pub IsRestartedAt : CHandle → ℕ → ℕ → TimersState → TimersState → CHandle → Type 0
-IsRestartedAt handle deadline action old new restarted =
-    IsAt (base_handle handle) old × IsStartable (interval_until deadline old) old
-    × (restarted.serial ≡ old.last_serial + 1)
-    × (new ≡ with_start hier.with_counted_start (after_start_at restarted.place deadline action
-    (after_removal (base_handle handle) old.wheel) old) old)
-
+-- why a restart is refused
 abbrev pub IsRestartRefusal : CHandle → ℕ → TimersState → ℕ → Type 0
 IsRestartRefusal handle interval old status =
     ((status ≡ NOT_PENDING) × (held_at (base_handle handle) old.wheel ≡ None))
@@ -101,19 +74,12 @@ IsRestartRefusal handle interval old status =
     ⊎ ((status ≡ SERIALS_SPENT) × IsAt (base_handle handle) old × (0 < interval)
     × (old.wheel.now + interval ≤ old.wheel.last_tick) × (LAST ≤ old.last_serial))
 
--- why it was not: an interval until a tick is never 0
+-- why one for this tick is, as such a start
 abbrev pub IsRestartAtRefusal : CHandle → ℕ → TimersState → ℕ → Type 0
 IsRestartAtRefusal handle deadline old status =
     IsRestartRefusal handle (interval_until deadline old) old status
 
--- a timer was set for this tick: a restart under a handle that names one, and otherwise a start
-abbrev pub IsSet : CHandle → ℕ → ℕ → TimersState → TimersState → CHandle → Type 0
-IsSet handle deadline action old new set =
-    IsStartable (interval_until deadline old) old × (set.serial ≡ old.last_serial + 1)
-    × (new ≡ with_start hier.with_counted_start (after_start_at set.place deadline action
-    (after_removal (base_handle handle) old.wheel) old) old)
-
--- why it was not: only a start may find no memory
+-- why a set is refused: only a start may find no memory
 abbrev pub IsSetRefusal : CHandle → ℕ → TimersState → ℕ → Type 0
 IsSetRefusal handle deadline old status =
     ((status ≡ TOO_LATE) × (old.wheel.last_tick < old.wheel.now + interval_until deadline old))
@@ -135,34 +101,10 @@ restart_status restart.ZeroInterval = ZERO_INTERVAL
 restart_status restart.TooLate = TOO_LATE
 restart_status restart.SerialsSpent = SERIALS_SPENT
 
--- the action that its start was given
-abbrev pub action_of_timer : Option Timer → Option ℕ
-action_of_timer None = None
-action_of_timer (Some t) = Some t.action
-
--- a stop was done: the timer is removed, and no timer has its handle
-abbrev pub IsStopped : CHandle → TimersState → TimersState → ℕ → Type 0
-IsStopped handle old new action =
-    (new ≡ with_wheel (after_removal (base_handle handle) old.wheel) old)
-    × (action_of_timer (held_at (base_handle handle) old.wheel) ≡ Some action)
-    × (held_at (base_handle handle) new.wheel ≡ None)
-
--- why it was not; a look that finds no timer has the same reason
+-- why a stop is refused; a look that finds no timer has the same reason
 abbrev pub IsStopRefusal : CHandle → TimersState → ℕ → Type 0
 IsStopRefusal handle old status =
     (status ≡ NOT_PENDING) × (held_at (base_handle handle) old.wheel ≡ None)
-
--- a tick was done
-abbrev pub IsTicked : TimersState → TimersState → Type 0
-IsTicked old new = (old.wheel.due ≡ []) × (new ≡ record {
-  wheel = after_tick old.wheel;
-  counts = counts_at_tick old.wheel old.counts;
-  last_serial = old.last_serial;
-})
-
--- ticks were passed up to this one, or up to the first at which a timer expires
-abbrev pub IsAdvancedTo : ℕ → TimersState → TimersState → Type 0
-IsAdvancedTo tick old new = (passed : ℕ) × IsAdvanced counts_at_advance (left_until tick old) passed old new
 
 -- why the clock does not advance; at its end nothing is left, neither due nor pending
 abbrev pub IsTickRefusal : TimersState → ℕ → Type 0
@@ -181,11 +123,6 @@ tell t = record { deadline = t.deadline; serial = t.serial; action = t.action }
 abbrev pub told : Option Timer → Option Expired
 told None = None
 told (Some t) = Some (tell t)
-
--- the next timer that is due by this tick was taken
-abbrev pub IsNextTaken : ℕ → TimersState → TimersState → Expired → Type 0
-IsNextTaken tick old new out = (timer : Timer) × (out ≡ tell timer)
-    × IsTakenBy counts_at_advance tick (Some timer) old new
 
 -- the timer with this handle, pending or expired and not yet taken
 abbrev pub IsSeen : CHandle → WheelState → Expired → Type 0
@@ -216,6 +153,10 @@ abbrev pub IsVisited : ℕ → WheelState → ℕ → CHandle → Expired → Ty
 IsVisited from w next handle out =
     (from ≤ handle.place) × (next ≡ handle.place + 1) × IsSeen handle w out
     × AreElsewhere from handle.place w.pending × AreElsewhere from handle.place w.due
+
+-- no other timer is held at the place of the one with this handle
+abbrev pub IsAloneAt : CHandle → WheelState → Type 0
+IsAloneAt handle w = IsAlone (base_handle handle) w
 
 -- no timer is left for a visit from this place on
 abbrev pub IsAllVisited : ℕ → WheelState → Type 0

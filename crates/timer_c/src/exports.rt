@@ -1,18 +1,23 @@
 //! The functions that C calls. Each that takes a struct checks whether it is open, then calls `timer_total`.
 //!
-//! Most contracts have the same parts: what the call did if it returns `OK`; the first reason that holds
-//! if it returns another status; that nothing changed then; and that nothing but the state of the timers
-//! changes in what C holds. `timers_new` and `timers_free` change the struct itself.
-ghost use Rattle.std.specs.Prelude.{◌≡◌, ◌*◌, ◌<◌, ◌≤◌, ◌⊎◌, ◌↔◌, ◌++◌, true, false, Some, None, [], map, take, drop, length, min, IsTrue};
+//! Most contracts have the same parts: that the struct was open if the call returns `OK`; which call of a run it then is,
+//! with its arguments and results, and so what it did (`call`: `IsCall` of timer_runs has the equation); the first reason
+//! that holds if it returns another status; that nothing changed then; and that nothing but the state of the timers changes
+//! in what C holds. `timers_new` and `timers_free` change the struct itself.
+ghost use Rattle.std.specs.Prelude.{◌≡◌, ◌*◌, ◌<◌, ◌≤◌, ◌⊎◌, ◌↔◌, ◌++◌, true, false, Some, Option, List, None, map, take, drop, length, min, IsTrue};
+ghost use Rattle.timer_base.specs.declared.timer.Timer.{Timer};
 ghost use Rattle.timer_base.specs.Pending.{timers_of};
-ghost use Rattle.timer_base.specs.WheelState.{first_due, after_reserve, after_expiry};
+ghost use Rattle.timer_base.specs.WheelState.{held_at};
+ghost use Rattle.timer_c.specs.Calls.{c_counters, Does, DoesIfOk, advance_to, handed};
 ghost use Rattle.timer_c.specs.Frames.{IsOpen, IsShut, IsRefused, with_timers};
-ghost use Rattle.timer_c.specs.Outcomes.{IsEmptyAt, IsOpenable, WhyNoWheel, IsStarted, IsStartedAt, IsStartRefusal, IsStartAtRefusal, IsRestarted, IsRestartedAt, IsRestartRefusal, IsRestartAtRefusal, IsSet, IsSetRefusal, IsSeen, IsStopped, IsStopRefusal, IsTicked, IsAdvancedTo, IsTickRefusal, IsAdvanceRefusal, IsNextTaken, IsNextCall, IsNextDeadline, IsVisited, IsAllVisited, IsCounted, told, tell, after_expiries};
+ghost use Rattle.timer_c.specs.Outcomes.{IsEmptyAt, WhyNoWheel, IsStartRefusal, IsStartAtRefusal, IsRestartRefusal, IsRestartAtRefusal, IsSetRefusal, IsSeen, IsStopRefusal, IsTickRefusal, IsAdvanceRefusal, IsNextCall, IsNextDeadline, IsVisited, IsAloneAt, IsAllVisited, IsCounted, told, tell, after_expiries, base_handle};
 ghost use Rattle.timer_c.specs.declared.status.TheConstants.{OK, NOT_OPEN, OPEN, NO_MEMORY, NEVER, VERSION_NUMBER};
-ghost use Rattle.timer_total.specs.TimersState.{after_drop, with_wheel};
+ghost use Rattle.timer_runs.specs.Runs as runs;
+ghost use Rattle.timer_runs.specs.Runs.{IsCall, Started, StartedAt, Restarted, RestartedAt, SetAt, Stopped, Ticked, Advanced, Took, ExpiredBatch, Cleared, Reserved, Renewed, Kept};
+ghost use Rattle.timer_total.specs.TimersState.{with_wheel};
 ghost use Rattle.timer_total.specs.Refusals.{left_until};
-ghost use Rattle.timer_total.specs.Ticks.{IsTakenBy, IsAdvanced};
-ghost use Rattle.timer_wheels.specs.TieredWheel.{counts_at_advance, is_smooth};
+ghost use Rattle.timer_wheels.specs.Placement.{most_moves};
+ghost use Rattle.timer_wheels.specs.TieredWheel.{radices_of, is_smooth};
 
 use crate::c_timers::CTimers;
 use crate::const_timers::ConstTimers;
@@ -37,6 +42,7 @@ pub extern "C" fn timers_version() -> u32
 /// `timers_free`. Serials continue after those of the timers that `t` held before.
 #[unsafe(no_mangle)]
 pub extern "C" fn timers_new(alloc: Global, t: &mut CTimers, table: u32, first_tick: u64) -> u32
+    ensures call { DoesIfOk result Renewed t.old t.new }
     ensures made { result ≡ OK → IsShut t.old × IsOpen t.new
         × IsEmptyAt table first_tick t.old.last_serial t.new.slot.state }
     ensures refused { 0 < result → ((result ≡ OPEN) × IsOpen t.old)
@@ -63,6 +69,7 @@ pub extern "C" fn timers_new(alloc: Global, t: &mut CTimers, table: u32, first_t
 /// Frees the timers, if there are any, and keeps their last serial.
 #[unsafe(no_mangle)]
 pub extern "C" fn timers_free(alloc: Global, t: &mut CTimers)
+    ensures call { Does Renewed t.old t.new }
     ensures shut { IsShut t.new }
     ensures serial { IsOpen t.old → t.new.last_serial ≡ t.old.slot.state.last_serial }
     ensures kept { IsShut t.old → t.new ≡ t.old }
@@ -76,8 +83,7 @@ pub extern "C" fn timers_free(alloc: Global, t: &mut CTimers)
 /// Drops every timer, pending or expired and not yet taken. The clock and the last serial stay.
 #[unsafe(no_mangle)]
 pub extern "C" fn timers_clear(t: &mut CTimers)
-    ensures cleared { IsOpen t.old → t.new.slot.state
-        ≡ with_wheel (after_drop t.old.slot.state.wheel) t.old.slot.state }
+    ensures call { Does Cleared t.old t.new }
     ensures not_open { IsShut t.old → t.new ≡ t.old }
     ensures only { t.new ≡ with_timers t.old t.new.slot.state }
 {
@@ -90,8 +96,8 @@ pub extern "C" fn timers_clear(t: &mut CTimers)
 /// fewer are held, a start finds memory.
 #[unsafe(no_mangle)]
 pub extern "C" fn timers_reserve(t: &mut CTimers, most: usize) -> u32
-    ensures reserved { result ≡ OK → IsOpen t.old
-        × (t.new.slot.state ≡ with_wheel (after_reserve most t.old.slot.state.wheel) t.old.slot.state) }
+    ensures was_open { result ≡ OK → IsOpen t.old }
+    ensures call { DoesIfOk result (Reserved most) t.old t.new }
     ensures refused { 0 < result → IsRefused t.old result (result ≡ NO_MEMORY) }
     ensures kept { 0 < result → t.new ≡ t.old }
     ensures only { t.new ≡ with_timers t.old t.new.slot.state }
@@ -113,8 +119,8 @@ pub extern "C" fn timers_start(
     action: u64,
     handle: &mut CHandle,
 ) -> u32
-    ensures started { result ≡ OK → IsOpen t.old × IsStarted interval action t.old.slot.state t.new.slot.state
-        handle.new }
+    ensures was_open { result ≡ OK → IsOpen t.old }
+    ensures call { DoesIfOk result (Started interval action (base_handle handle.new)) t.old t.new }
     ensures refused { 0 < result → IsRefused t.old result (IsStartRefusal interval t.old.slot.state result) }
     ensures kept { 0 < result → (t.new ≡ t.old) × (handle.new ≡ handle.old) }
     ensures only { t.new ≡ with_timers t.old t.new.slot.state }
@@ -141,8 +147,8 @@ pub extern "C" fn timers_start_at(
     action: u64,
     handle: &mut CHandle,
 ) -> u32
-    ensures started { result ≡ OK → IsOpen t.old × IsStartedAt deadline action t.old.slot.state
-        t.new.slot.state handle.new }
+    ensures was_open { result ≡ OK → IsOpen t.old }
+    ensures call { DoesIfOk result (StartedAt deadline action (base_handle handle.new)) t.old t.new }
     ensures refused { 0 < result → IsRefused t.old result (IsStartAtRefusal deadline t.old.slot.state result) }
     ensures kept { 0 < result → (t.new ≡ t.old) × (handle.new ≡ handle.old) }
     ensures only { t.new ≡ with_timers t.old t.new.slot.state }
@@ -169,8 +175,9 @@ pub extern "C" fn timers_restart(
     action: u64,
     restarted: &mut CHandle,
 ) -> u32
-    ensures restarted { result ≡ OK → IsOpen t.old
-        × IsRestarted handle interval action t.old.slot.state t.new.slot.state restarted.new }
+    ensures was_open { result ≡ OK → IsOpen t.old }
+    ensures call { DoesIfOk result (Restarted (base_handle handle) interval action (base_handle restarted.new))
+        t.old t.new }
     ensures refused { 0 < result → IsRefused t.old result (IsRestartRefusal handle interval t.old.slot.state result) }
     ensures kept { 0 < result → (t.new ≡ t.old) × (restarted.new ≡ restarted.old) }
     ensures only { t.new ≡ with_timers t.old t.new.slot.state }
@@ -202,7 +209,8 @@ fn restart_in_smooth(
     restarted: &mut CHandle,
 ) -> u32
     requires { is_smooth timers.old.wheel.layout ≡ true }
-    ensures restarted { result ≡ OK → IsRestarted handle interval action timers.old timers.new restarted.new }
+    ensures restarted { result ≡ OK → IsCall c_counters
+        (Restarted (base_handle handle) interval action (base_handle restarted.new)) timers.old timers.new }
     ensures refused { 0 < result → IsRestartRefusal handle interval timers.old result }
     ensures kept { 0 < result → (timers.new ≡ timers.old) × (restarted.new ≡ restarted.old) }
 {
@@ -228,8 +236,9 @@ pub extern "C" fn timers_restart_at(
     action: u64,
     restarted: &mut CHandle,
 ) -> u32
-    ensures restarted { result ≡ OK → IsOpen t.old
-        × IsRestartedAt handle deadline action t.old.slot.state t.new.slot.state restarted.new }
+    ensures was_open { result ≡ OK → IsOpen t.old }
+    ensures call { DoesIfOk result (RestartedAt (base_handle handle) deadline action (base_handle restarted.new))
+        t.old t.new }
     ensures refused { 0 < result → IsRefused t.old result (IsRestartAtRefusal handle deadline t.old.slot.state result) }
     ensures kept { 0 < result → (t.new ≡ t.old) × (restarted.new ≡ restarted.old) }
     ensures only { t.new ≡ with_timers t.old t.new.slot.state }
@@ -255,8 +264,8 @@ pub extern "C" fn timers_set_at(
     deadline: u64,
     action: u64,
 ) -> u32
-    ensures set { result ≡ OK → IsOpen t.old
-        × IsSet handle.old deadline action t.old.slot.state t.new.slot.state handle.new }
+    ensures was_open { result ≡ OK → IsOpen t.old }
+    ensures call { DoesIfOk result (SetAt (base_handle handle.old) deadline action (base_handle handle.new)) t.old t.new }
     ensures refused { 0 < result → IsRefused t.old result (IsSetRefusal handle.old deadline t.old.slot.state result) }
     ensures kept { 0 < result → (t.new ≡ t.old) × (handle.new ≡ handle.old) }
     ensures only { t.new ≡ with_timers t.old t.new.slot.state }
@@ -276,6 +285,7 @@ pub extern "C" fn timers_set_at(
 /// Writes the timer with exactly this handle, pending or expired and not yet taken, and changes nothing.
 #[unsafe(no_mangle)]
 pub extern "C" fn timers_look(t: &mut ConstTimers, handle: CHandle, out: &mut Expired) -> u32
+    ensures call { Does Kept t.old.held t.new.held }
     ensures seen { result ≡ OK → IsOpen t.old.held × IsSeen handle t.old.held.slot.state.wheel out.new }
     ensures refused { 0 < result → IsRefused t.old.held result (IsStopRefusal handle t.old.held.slot.state result) }
     ensures kept { 0 < result → out.new ≡ out.old }
@@ -296,8 +306,10 @@ pub extern "C" fn timers_look(t: &mut ConstTimers, handle: CHandle, out: &mut Ex
 /// Stops the timer with exactly this handle, pending or expired and not yet taken, and writes its action.
 #[unsafe(no_mangle)]
 pub extern "C" fn timers_stop(t: &mut CTimers, handle: CHandle, action: &mut u64) -> u32
-    ensures stopped { result ≡ OK → IsOpen t.old × IsStopped handle t.old.slot.state t.new.slot.state
-        action.new }
+    ensures was_open { result ≡ OK → IsOpen t.old }
+    ensures call { (result ≡ OK → (timer : Timer) × (timer.action ≡ action.new)
+        × Does (Stopped (base_handle handle) timer) t.old t.new) × (0 < result → Does Kept t.old t.new) }
+    ensures dead { result ≡ OK → held_at (base_handle handle) t.new.slot.state.wheel ≡ None }
     ensures refused { 0 < result → IsRefused t.old result (IsStopRefusal handle t.old.slot.state result) }
     ensures kept { 0 < result → (t.new ≡ t.old) × (action.new ≡ action.old) }
     ensures only { t.new ≡ with_timers t.old t.new.slot.state }
@@ -317,7 +329,8 @@ pub extern "C" fn timers_stop(t: &mut CTimers, handle: CHandle, action: &mut u64
 /// Advances the clock by one tick. The timers that expire wait for `timers_expire`.
 #[unsafe(no_mangle)]
 pub extern "C" fn timers_tick(t: &mut CTimers) -> u32
-    ensures ticked { result ≡ OK → IsOpen t.old × IsTicked t.old.slot.state t.new.slot.state }
+    ensures was_open { result ≡ OK → IsOpen t.old }
+    ensures call { DoesIfOk result Ticked t.old t.new }
     ensures refused { 0 < result → IsRefused t.old result (IsTickRefusal t.old.slot.state result) }
     ensures kept { 0 < result → t.new ≡ t.old }
     ensures only { t.new ≡ with_timers t.old t.new.slot.state }
@@ -336,8 +349,8 @@ pub extern "C" fn timers_tick(t: &mut CTimers) -> u32
 /// were passed: 0 only if `most` is 0. Then nothing changes, and no reason is looked for.
 #[unsafe(no_mangle)]
 pub extern "C" fn timers_advance(t: &mut CTimers, most: u64, passed: &mut u64) -> u32
-    ensures advanced { result ≡ OK → IsOpen t.old × IsAdvanced counts_at_advance most passed.new
-        t.old.slot.state t.new.slot.state }
+    ensures was_open { result ≡ OK → IsOpen t.old }
+    ensures call { DoesIfOk result (Advanced most passed.new) t.old t.new }
     ensures refused { 0 < result → IsRefused t.old result (IsAdvanceRefusal most t.old.slot.state result) }
     ensures kept { 0 < result → (t.new ≡ t.old) × (passed.new ≡ passed.old) }
     ensures only { t.new ≡ with_timers t.old t.new.slot.state }
@@ -359,7 +372,8 @@ pub extern "C" fn timers_advance(t: &mut CTimers, most: u64, passed: &mut u64) -
 /// present one it does nothing.
 #[unsafe(no_mangle)]
 pub extern "C" fn timers_advance_to(t: &mut CTimers, tick: u64) -> u32
-    ensures advanced { result ≡ OK → IsOpen t.old × IsAdvancedTo tick t.old.slot.state t.new.slot.state }
+    ensures was_open { result ≡ OK → IsOpen t.old }
+    ensures call { DoesIfOk result (advance_to tick t.old t.new) t.old t.new }
     ensures refused { 0 < result → IsRefused t.old result
         (IsAdvanceRefusal (left_until tick t.old.slot.state) t.old.slot.state result) }
     ensures kept { 0 < result → t.new ≡ t.old }
@@ -379,10 +393,7 @@ pub extern "C" fn timers_advance_to(t: &mut CTimers, tick: u64) -> u32
 /// if not, the clock is at this tick, or at its last one, or was past it before.
 #[unsafe(no_mangle)]
 pub extern "C" fn timers_take(t: &mut CTimers, tick: u64, out: &mut Expired) -> bool
-    ensures taken { result ≡ true
-        → IsOpen t.old × IsNextTaken tick t.old.slot.state t.new.slot.state out.new }
-    ensures none { result ≡ false → IsOpen t.old → IsTakenBy counts_at_advance tick None
-        t.old.slot.state t.new.slot.state }
+    ensures call { (timer : Option Timer) × (told timer ≡ handed result out.new) × Does (Took tick timer) t.old t.new }
     ensures not_open { IsShut t.old → (result ≡ false) × (t.new ≡ t.old) }
     ensures kept { result ≡ false → out.new ≡ out.old }
     ensures only { t.new ≡ with_timers t.old t.new.slot.state }
@@ -402,11 +413,8 @@ pub extern "C" fn timers_take(t: &mut CTimers, tick: u64, out: &mut Expired) -> 
 /// Takes the first of the expired timers. Returns whether there was one.
 #[unsafe(no_mangle)]
 pub extern "C" fn timers_expire(t: &mut CTimers, out: &mut Expired) -> bool
-    ensures first { result ≡ true → IsOpen t.old × (told (first_due t.old.slot.state.wheel) ≡ Some out.new) }
+    ensures call { (timer : Option Timer) × (told timer ≡ handed result out.new) × Does (runs.Expired timer) t.old t.new }
     ensures none { result ≡ false → (t.new ≡ t.old) × (out.new ≡ out.old) }
-    ensures drained { result ≡ false → IsOpen t.old → first_due t.old.slot.state.wheel ≡ None }
-    ensures rest { IsOpen t.old → t.new.slot.state
-        ≡ with_wheel (after_expiry t.old.slot.state.wheel) t.old.slot.state }
     ensures only { t.new ≡ with_timers t.old t.new.slot.state }
 {
     let Some(timers) = t.timers() else {
@@ -424,6 +432,8 @@ pub extern "C" fn timers_expire(t: &mut CTimers, out: &mut Expired) -> bool
 /// Takes the first of the expired timers, as many as fit into `out`. Returns how many.
 #[unsafe(no_mangle)]
 pub extern "C" fn timers_expire_batch(t: &mut CTimers, out: &mut [Expired]) -> usize
+    ensures call { (timers : List Timer) × (map tell timers ≡ take result out.new)
+        × Does (ExpiredBatch timers) t.old t.new }
     ensures count { IsOpen t.old → result ≡ min (length out.old) (length t.old.slot.state.wheel.due) }
     ensures told { IsOpen t.old → out.new ≡ map tell (take result (timers_of t.old.slot.state.wheel.due))
         ++ drop result out.old }
@@ -448,6 +458,7 @@ pub extern "C" fn timers_expire_batch(t: &mut CTimers, out: &mut [Expired]) -> u
 /// Whether a timer expired and was not yet taken.
 #[unsafe(no_mangle)]
 pub extern "C" fn timers_has_due(t: &mut ConstTimers) -> bool
+    ensures call { Does Kept t.old.held t.new.held }
     ensures due { IsOpen t.old.held → (IsTrue result ↔ (0 < length t.old.held.slot.state.wheel.due)) }
     ensures not_open { IsShut t.old.held → result ≡ false }
     ensures same { t.new ≡ t.old }
@@ -461,6 +472,7 @@ pub extern "C" fn timers_has_due(t: &mut ConstTimers) -> bool
 /// The present tick, or 0 if `t` is not open.
 #[unsafe(no_mangle)]
 pub extern "C" fn timers_now(t: &mut ConstTimers) -> u64
+    ensures call { Does Kept t.old.held t.new.held }
     ensures now { IsOpen t.old.held → result ≡ t.old.held.slot.state.wheel.now }
     ensures not_open { IsShut t.old.held → result ≡ 0 }
     ensures same { t.new ≡ t.old }
@@ -475,6 +487,7 @@ pub extern "C" fn timers_now(t: &mut ConstTimers) -> u64
 /// not counted.
 #[unsafe(no_mangle)]
 pub extern "C" fn timers_len(t: &mut ConstTimers) -> usize
+    ensures call { Does Kept t.old.held t.new.held }
     ensures pending { IsOpen t.old.held → result ≡ length t.old.held.slot.state.wheel.pending }
     ensures not_open { IsShut t.old.held → result ≡ 0 }
     ensures same { t.new ≡ t.old }
@@ -490,6 +503,7 @@ pub extern "C" fn timers_len(t: &mut ConstTimers) -> usize
 /// wheel. With `TIMERS_SMOOTH` it is the one at which `TIMERS_WIDE` would move it.
 #[unsafe(no_mangle)]
 pub extern "C" fn timers_wakeup(t: &mut ConstTimers) -> u64
+    ensures call { Does Kept t.old.held t.new.held }
     ensures tick { IsOpen t.old.held → IsNextCall result t.old.held.slot.state.wheel }
     ensures not_open { IsShut t.old.held → result ≡ NEVER }
     ensures same { t.new ≡ t.old }
@@ -507,6 +521,7 @@ pub extern "C" fn timers_wakeup(t: &mut ConstTimers) -> u64
 /// when no timer is held, and otherwise exactly the first pending deadline.
 #[unsafe(no_mangle)]
 pub extern "C" fn timers_next(t: &mut ConstTimers) -> u64
+    ensures call { Does Kept t.old.held t.new.held }
     ensures deadline { IsOpen t.old.held → IsNextDeadline result t.old.held.slot.state.wheel }
     ensures not_open { IsShut t.old.held → result ≡ NEVER }
     ensures same { t.new ≡ t.old }
@@ -524,6 +539,7 @@ pub extern "C" fn timers_next(t: &mut ConstTimers) -> u64
 /// deadline of the bucket changes. C sees no other change.
 #[unsafe(no_mangle)]
 pub extern "C" fn timers_find_next(t: &mut CTimers) -> u64
+    ensures call { Does Kept t.old t.new }
     ensures deadline { IsOpen t.old → IsNextDeadline result t.old.slot.state.wheel }
     ensures not_open { IsShut t.old → result ≡ NEVER }
     ensures same { t.new ≡ t.old }
@@ -537,21 +553,6 @@ pub extern "C" fn timers_find_next(t: &mut CTimers) -> u64
     timers.find_next().unwrap_or(NEVER)
 }
 
-/// Makes at most so many of the moves of later ticks now, and returns how many it made: 0 if none is left for now, if the
-/// wheels are not smooth, or if `t` is not open. C sees no other change than in `timers_counts`.
-#[unsafe(no_mangle)]
-pub extern "C" fn timers_move_ahead(t: &mut CTimers, most: u64) -> u64
-    ensures at_most { result ≤ most }
-    ensures none { IsOpen t.old → is_smooth t.old.slot.state.wheel.layout ≡ false → result ≡ 0 }
-    ensures not_open { IsShut t.old → result ≡ 0 }
-    ensures same { t.new ≡ t.old }
-{
-    match t.timers() {
-        Some(timers) => timers.move_ahead(most),
-        None => 0,
-    }
-}
-
 /// Writes the first timer from the cursor's place on, pending or expired and not yet taken, with its handle,
 /// and moves the cursor past it. Returns whether there was one.
 #[unsafe(no_mangle)]
@@ -561,8 +562,10 @@ pub extern "C" fn timers_each(
     handle: &mut CHandle,
     out: &mut Expired,
 ) -> bool
+    ensures call { Does Kept t.old.held t.new.held }
     ensures visited { result ≡ true
         → IsOpen t.old.held × IsVisited cursor.old t.old.held.slot.state.wheel cursor.new handle.new out.new }
+    ensures alone { result ≡ true → IsAloneAt handle.new t.old.held.slot.state.wheel }
     ensures ended { result ≡ false → IsOpen t.old.held → IsAllVisited cursor.old t.old.held.slot.state.wheel }
     ensures kept { result ≡ false
         → (cursor.new ≡ cursor.old) × (handle.new ≡ handle.old) × (out.new ≡ out.old) }
@@ -588,9 +591,11 @@ pub extern "C" fn timers_each(
 /// its contract.
 #[unsafe(no_mangle)]
 pub extern "C" fn timers_counts(t: &mut ConstTimers, counts: &mut Counts) -> u32
+    ensures call { Does Kept t.old.held t.new.held }
     ensures counted { result ≡ OK → IsOpen t.old.held
         × IsCounted t.old.held.slot.state.wheel.layout t.old.held.slot.state.counts counts.new }
-    ensures few_moves { result ≡ OK → counts.new.moves ≤ 9 * counts.new.starts }
+    ensures few_moves { result ≡ OK → counts.new.moves
+        ≤ most_moves (radices_of t.old.held.slot.state.wheel.layout) * counts.new.starts }
     ensures refused { 0 < result → (result ≡ NOT_OPEN) × IsShut t.old.held }
     ensures kept { 0 < result → counts.new ≡ counts.old }
     ensures same { t.new ≡ t.old }

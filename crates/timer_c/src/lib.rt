@@ -5,6 +5,7 @@
 //!
 //!     exports      the functions that C calls: each checks the struct, if it takes one, and then does the call
 //!     conversions  what timer_total takes and returns, as C's statuses and structs
+//!     laws         where a run of these calls (timer_runs) begins: no code
 //!     wheel_maker  C's wheel, and how one is made by C's number for its table
 //!     c_timers     `struct timers`: the slot, and the last serial while the slot is empty
 //!     const_timers `struct timers` behind a const pointer, whose timers can only be read
@@ -17,6 +18,7 @@ mod c_timers;
 mod const_timers;
 mod conversions;
 mod exports;
+mod laws;
 mod layout;
 mod owned_cell;
 mod status;

@@ -1,13 +1,18 @@
-use Rattle.std.proofs.Common.{◌≡◌, refl, sym, ◌∙◌, ap}
-use Rattle.timer_base.proofs.HeldLaws.{none_removed}
-use Rattle.timer_base.specs.WheelState.{WheelState}
-use Rattle.timer_total.specs.TimersState.{with_wheel}
-use Rattle.timer_c.specs.Frames.{with_timers}
+use Rattle.std.proofs.Common.{◌≡◌, refl, sym, ap, arith}
+use Rattle.timer_c.specs.Calls.{state_of}
+use Rattle.timer_c.proofs.CallLemmas.{none_stopped}
 use Rattle.timer_c.proofs.exports.timers_stop.Goals as goal
 
+pub returns-in-None-clause-call : goal.returns-in-None-clause-call
+returns-in-None-clause-call c = (
+  λ ok. absurd (omega arith),
+  λ refused. ap state_of (none_stopped c.from_c_handle.result c.args.t.now c.in-Some.timers.now c.stop.new.self c.in-Some.ensures.same
+      (sym c.in-None.ensures.timer) c.in-None.ensures.stopped),
+)
+
 pub returns-in-None-clause-kept : goal.returns-in-None-clause-kept
-returns-in-None-clause-kept c = λ refused.
-    let s = c.in-Some.timers.now in
-    let same = none_removed c.from_c_handle.result s.wheel (sym c.in-None.ensures.timer) in
-    let kept : c.stop.new.self ≡ s = c.in-None.ensures.stopped ∙ ap (λ (w : WheelState). with_wheel w s) (sym same) in
-    (ap (with_timers c.args.t.now) kept ∙ c.in-Some.ensures.same, refl)
+returns-in-None-clause-kept c = λ refused. (
+  none_stopped c.from_c_handle.result c.args.t.now c.in-Some.timers.now c.stop.new.self c.in-Some.ensures.same
+      (sym c.in-None.ensures.timer) c.in-None.ensures.stopped,
+  refl,
+)
