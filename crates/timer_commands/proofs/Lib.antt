@@ -1,5 +1,4 @@
 pub mod IndentedLemmas
-mod NewestLemmas
 pub mod PictureLemmas
 mod MarkedLemmas
 mod VerbLemmas

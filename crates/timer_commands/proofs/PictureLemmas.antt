@@ -1,11 +1,12 @@
 -- The lines of lists, and the timers of them that are kept.
-use Rattle.std.proofs.Common.{◌≡◌, ◌+◌, ℕ, suc, true, false, List, [], ◌∷◌, ◌++◌, codes, decimal, arith, sym, ap, subst, ◌∙◌, cond, append_assoc, append-nil, Option, Some, Result, OnOk}
+use Rattle.std.proofs.Common.{◌≡◌, ◌<◌, ◌+◌, ℕ, suc, true, false, List, [], ◌∷◌, ◌++◌, length, codes, decimal, arith, sym, ap, subst, ◌∙◌, cond, append_assoc, append-nil, Option, None, Some, Result, OnOk}
 use Rattle.std.proofs.lemmas.List.Elements.{filter-append}
 use Rattle.std.proofs.lemmas.Grind.{flat_map-append}
 use Rattle.std.proofs.lemmas.Result.{on_ok_weaker}
 use Rattle.timer_links.specs.declared.kept.Node.{Node}
-use Rattle.timer_links.specs.Lists.{list_at, KeyedLists, Row, Rows}
-use Rattle.timer_base.proofs.Basics.{some_same}
+use Rattle.timer_links.specs.Lists.{list_at, node_at, first_key, AreApart, KeyedLists, Row, Rows}
+use Rattle.timer_base.proofs.Basics.{some_same, some_none}
+use Rattle.timer_wheels.proofs.WalkLemmas.{IsGathering, next_row, found}
 use Rattle.timer_commands.specs.declared.render.Naming.{Naming}
 use Rattle.timer_commands.specs.declared.shows.Filter.{Filter}
 use Rattle.timer_commands.specs.Shows.{is_kept}
@@ -83,6 +84,34 @@ pub drawn_dropped : (naming : Naming) (kept : Filter) (key : ℕ) (node same : N
     → IsDrawn naming kept old text (past ++ (key, node) ∷ [])
 drawn_dropped naming kept key node same at old text past f e k h =
     h ∙ ap (λ rows. old ++ rows_text naming rows) (sym (dropped_row kept key node same at past f e k))
+
+-- ---- the end of a walk
+
+-- where no key is next the rows that are behind are all
+rows_end : (past left : Rows) → first_key left ≡ None → past ++ left ≡ past
+rows_end past [] e = append-nil past
+rows_end past (x ∷ xs) e = absurd (some_none x.0 e)
+
+pub gathered_end : {P : Rows → Type 0} {l step : ℕ} {lists : KeyedLists} {at : Option ℕ} (g : IsGathering P l step lists at) → at ≡ None
+    → P (list_at l lists)
+gathered_end {P} g e = subst P (sym (g.walk.rows ∙ rows_end g.past g.walk.left (sym g.walk.next ∙ e))) g.holds
+
+-- no row so far is kept
+abbrev pub IsUnkept : Filter → Rows → Type 0
+IsUnkept kept past = kept_rows kept past ≡ []
+
+-- the next row is kept
+pub kept_here : {l step : ℕ} {lists : KeyedLists} {at : Option ℕ} (kept : Filter) (g : IsGathering (IsUnkept kept) l step lists at)
+    → l < length lists → AreApart lists → (key : ℕ) → at ≡ Some key → (same : Node) → Some same ≡ node_at key lists
+    → is_kept kept same.timer ≡ true → has_row (kept_rows kept (list_at l lists)) ≡ true
+kept_here {l} {step} {lists} {at} kept g b a key e same f k =
+    let w = next_row l step lists at key g.past g.walk e in
+    let is : same ≡ w.node = some_same same w.node (f ∙ found l step lists b a key g.past w) in
+    let here : is_kept kept w.node.timer ≡ true = ap (λ n. is_kept kept n.timer) (sym is) ∙ k in
+    let split : kept_rows kept (list_at l lists) ≡ kept_rows kept g.past ++ kept_rows kept ((key, w.node) ∷ w.rest) =
+    ap (kept_rows kept) w.rows ∙ filter-append (λ (r : Row). is_kept kept r.1.timer) g.past ((key, w.node) ∷ w.rest) in
+    ap has_row (split ∙ ap (λ rows. rows ++ kept_rows kept ((key, w.node) ∷ w.rest)) g.holds
+    ∙ ap (λ b. cond b ((key, w.node) ∷ kept_rows kept w.rest) (kept_rows kept w.rest)) here)
 
 -- ---- one list more
 

@@ -1,4 +1,4 @@
--- The options of `play`, `serve`, `show` and `check --why`, and when they are refused.
+-- The options of `play`, `serve` and `show`, and when they are refused.
 use Rattle.std.specs.Prelude.{◌≡◌, ℕ, ◌<◌, ◌≤◌, ◌⊎◌, List, codes, None, Some}
 use Rattle.timer_base.specs.declared.limits.TheConstants.{LAST}
 use Rattle.timer_base.specs.Layout.{Layout, NoSlots, OneWheel}
@@ -8,7 +8,6 @@ use Rattle.timer_wheels.specs.declared.table.Table.TheVariants as table
 use Rattle.timer_wheels.specs.Tables.{layout_of_table, smooth_layout}
 use Rattle.timer_commands.specs.declared.options.Scheme.{Scheme}
 use Rattle.timer_commands.specs.declared.options.RunOptions.{RunOptions}
-use Rattle.timer_commands.specs.declared.options.WhyOptions.{WhyOptions}
 use Rattle.timer_commands.specs.declared.options.OptionsFault.{OptionsFault}
 use Rattle.timer_commands.specs.declared.options.OptionsFault.TheVariants as faults
 -- made by tools/facts: definitions of schemes
@@ -49,16 +48,6 @@ config_of options = record {
   first_tick = options.first_tick;
   first_serial = 1;
   first_number = 1;
-}
-
--- the options of `check --why` as those of `play`
-abbrev pub over_hierarchy : WhyOptions → RunOptions
-over_hierarchy options = record {
-  scheme = Hier;
-  slots = 256;
-  clients = options.clients;
-  capacity = options.capacity;
-  first_tick = options.first_tick;
 }
 
 -- each number is in its range

@@ -1,6 +1,6 @@
 -- The lines in which `show` draws the lists of a wheel: one for each list with a timer that a filter keeps.
-use Rattle.std.specs.Prelude.{◌<◌, ◌≤◌, length, ℕ, zero, suc, ◌-◌, ◌/◌, ◌%◌, Bool, true, false, if◌then◌else◌, nat_lt, List, [], ◌∷◌, ◌++◌, codes, decimal}
-use Rattle.std.specs.List.{filter, flat_map, AllByRecursion}
+use Rattle.std.specs.Prelude.{ℕ, zero, suc, ◌-◌, ◌/◌, ◌%◌, Bool, true, false, if◌then◌else◌, nat_lt, List, [], ◌∷◌, ◌++◌, codes, decimal}
+use Rattle.std.specs.List.{filter, flat_map}
 use Rattle.timer_links.specs.declared.kept.Node.{Node}
 use Rattle.timer_links.specs.Lists.{list_at, KeyedLists, Rows}
 use Rattle.timer_wheels.specs.Digits.{lowest_radix}
@@ -18,15 +18,6 @@ kept_rows kept rows = filter (λ row. is_kept kept row.1.timer) rows
 abbrev pub has_row : Rows → Bool
 has_row [] = false
 has_row (row ∷ rows) = true
-
--- no row's serial is above that of a later row
-abbrev pub AreBySerial : Rows → Type 0
-AreBySerial [] = Unit {0}
-AreBySerial (row ∷ rows) = AllByRecursion (λ later. row.1.timer.serial ≤ later.1.timer.serial) rows × AreBySerial rows
-
--- in each list the rows stand by serial
-abbrev pub EachBySerial : KeyedLists → Type 0
-EachBySerial lists = (l : ℕ) → l < length lists → AreBySerial (list_at l lists)
 
 -- timers are shown with their rounds
 abbrev pub shows_rounds : Naming → Bool

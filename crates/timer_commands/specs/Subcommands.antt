@@ -10,7 +10,6 @@ use Rattle.timer_script.specs.declared.watched.Watched.{Watched}
 use Rattle.timer_script.specs.declared.cutter.OnBadLine.TheVariants.{Stop}
 use Rattle.timer_script.specs.ScriptRun.{HasRun}
 use Rattle.timer_script.specs.ScriptReport.{HasChecked}
-use Rattle.timer_script.specs.Explanation.{HasExplained}
 use Rattle.timer_script.specs.Decorator.{Decoration, AddsNothing}
 use Rattle.timer_script.specs.Service.{HasServedPeer, server_with}
 use Rattle.timer_script.specs.Streams.{Known, streams_state}
@@ -99,18 +98,3 @@ HasCheckedScript known old new Bad = (lines : ℕ) × (1 ≤ lines) × HasChecke
 -- by its input, its output or memory
 HasCheckedScript known old new CheckFailed = (fault : CheckFault) × HasChecked known old new (Err fault)
 HasCheckedScript known old new ending = ⊥
-
--- how explaining a script from a state on ended
-abbrev pub HasExplainedOver : {R S : Type 0} → FacilityState → Known R S → (old new : Streams R S) → Ending → Type 0
--- no line is bad, no stop or restart found no timer, and nothing was written
-HasExplainedOver before known old new Done = HasExplained before known old new (Ok false)
--- some line is bad, or some stop or restart found no timer, and the whole text was written
-HasExplainedOver before known old new Bad = HasExplained before known old new (Ok true)
-HasExplainedOver before known old new CheckFailed = (fault : CheckFault) × HasExplained before known old new (Err fault)
-HasExplainedOver before known old new ending = ⊥
-
--- that was done from the state of the options on, or the options are refused and the streams are untouched
-abbrev pub HasExplainedScript : {R S : Type 0} → RunOptions → Known R S → (old new : Streams R S) → Ending → Type 0
-HasExplainedScript options known old new ending =
-    (IsPlayable options × HasExplainedOver (opened_by options) known old new ending)
-    ⊎ (((fault : OptionsFault) × RefusesOptions fault options) × (new ≡ old) × (ending ≡ Refused))

@@ -9,14 +9,12 @@ use std::io::Write;
 #[derive(Clone, Copy, Debug, PartialEq, Eq)]
 pub enum Ending {
     // made by tools/facts: endings
-    /// All output was written, or the help or the version. `check`: no line is bad, and with `--why` none is
-    /// `no-such`.
+    /// All output was written, or the help or the version. `check`: no line is bad.
     Done,
     /// An error, with its one line on standard error. `check` ends so only if it can't write its help, or runs out of
     /// memory before it reads.
     Failed,
-    /// `check`: a line is bad, or with `--why` some stop or restart is `no-such`. Standard output has them all, and
-    /// standard error is empty.
+    /// `check`: a line is bad. Standard output has them all, and standard error is empty.
     Bad,
     /// `serve --keep-going`: a line was bad. All output was written.
     Skipped,

@@ -22,10 +22,10 @@ mod shows;
 mod threads_options;
 mod verbs;
 
-pub use cmd_check::{check_script, explain_script};
+pub use cmd_check::check_script;
 pub use cmd_threads::{end_clients, run_clients};
 pub use ending::{Ending, report};
-pub use options::{OptionsFault, RunOptions, Scheme, WhyOptions};
+pub use options::{OptionsFault, RunOptions, Scheme};
 pub use schemes::run_verb;
 pub use shows::Shows;
 pub use threads_options::ThreadsOptions;

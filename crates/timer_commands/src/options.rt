@@ -1,6 +1,6 @@
-//! The options of `play`, `serve`, `show` and `check --why`, and their ranges.
+//! The options of `play`, `serve` and `show`, and their ranges.
 ghost use Rattle.std.specs.Prelude.{◌≡◌, ◌<◌, ◌≤◌, IfOk, IfErr, OnOk};
-ghost use Rattle.timer_commands.specs.Options.{scheme_last, config_of, over_hierarchy, IsPlayable, RefusesOptions};
+ghost use Rattle.timer_commands.specs.Options.{scheme_last, config_of, IsPlayable, RefusesOptions};
 
 use thiserror::Error;
 use timer_base::LAST;
@@ -37,14 +37,6 @@ pub struct RunOptions {
     pub first_tick: u64,
 }
 
-/// The options of `check --why`. It plays over the hierarchy of wheels: the scheme changes none of its lines.
-#[derive(Clone, Copy, Debug, PartialEq, Eq)]
-pub struct WhyOptions {
-    pub clients: u64,
-    pub capacity: u64,
-    pub first_tick: u64,
-}
-
 /// Which option is out of range, in the order in which they are tested.
 #[derive(Clone, Copy, Debug, PartialEq, Eq, Error)]
 pub enum OptionsFault {
@@ -66,21 +58,6 @@ impl Scheme {
             // made by tools/facts: last ticks of schemes
             Scheme::Plain | Scheme::Hashed | Scheme::Hier | Scheme::Smooth => LAST,
             Scheme::Clock => LAST_OF_CLOCK,
-        }
-    }
-}
-
-impl WhyOptions {
-    /// These options of `play`, with its usual scheme.
-    pub fn over_hierarchy(&self) -> RunOptions
-        ensures { result ≡ over_hierarchy self.now }
-    {
-        RunOptions {
-            scheme: Scheme::Hier,
-            slots: 256,
-            clients: self.clients,
-            capacity: self.capacity,
-            first_tick: self.first_tick,
         }
     }
 }

@@ -21,14 +21,14 @@
 //! such line.
 //!
 //! A filter says which timers are kept of each list. One without a timer that is kept has no line.
-ghost use Rattle.std.specs.Prelude.{◌≡◌, ◌<◌, ◌++◌, length, decimal, OnOk, Some};
+ghost use Rattle.std.specs.Prelude.{◌≡◌, ◌<◌, ◌++◌, length, decimal, OnOk};
 ghost use Rattle.timer_script.specs.Decorator.{HasGrown};
 ghost use Rattle.timer_commands.specs.Indented.{HasGrownByIndented, HasGrownByPicture, HasGrownByBare, HasGrownByEnd};
 ghost use Rattle.std.specs.List.{filter};
 ghost use Rattle.timer_commands.specs.Shows.{is_kept};
-ghost use Rattle.timer_commands.specs.Pictures.{kept_rows, shows_rounds, node_text, rows_text, slot_name, hand_name, bucket_name, list_end, lines_below, AreBySerial, EachBySerial};
+ghost use Rattle.timer_commands.specs.Pictures.{kept_rows, shows_rounds, node_text, rows_text, slot_name, hand_name, bucket_name, list_end, lines_below, has_row};
 ghost use Rattle.timer_commands.specs.Wakeups.{wakeup_line};
-ghost use Rattle.timer_links.specs.Lists.{first_key, list_at};
+ghost use Rattle.timer_links.specs.Lists.{list_at};
 
 use crate::shows::Filter;
 use itoa::Buffer;
@@ -85,7 +85,7 @@ pub trait Placement {
 
 impl Placement for PlainWheel {
     fn push_placement(&self, text: &mut Vec<u8>, filter: Filter) -> Result<(), OutOfMemory> {
-        let mut timers = self.list_since(filter.least)?;
+        let mut timers = self.list()?;
         keep(&mut timers, filter);
         if timers.is_empty() {
             return Ok(());
@@ -128,9 +128,9 @@ impl Placement for HierWheel {
         let naming = naming_of(self.table());
         let links = self.links();
         for to in 0..bucket.min(links.lists()) {
-            if let Some(first) = first_kept(links, to, filter) {
+            if has_kept(links, to, filter) {
                 push_number(text, b"  moved at ", self.now())?;
-                push_move(text, links, bucket, to, first, naming, filter)?;
+                push_move(text, links, bucket, to, naming, filter)?;
             }
         }
         Ok(())
@@ -191,19 +191,17 @@ fn push_move<N: Kept>(
     links: &Links<N>,
     from: usize,
     to: usize,
-    first: usize,
     naming: Naming,
     filter: Filter,
 ) -> Result<(), OutOfMemory>
-    requires list { to < length links.now.lists }
-    requires first { Some first ≡ first_key (kept_rows filter (list_at to links.now.lists)) }
+    requires { to < length links.now.lists }
     ensures ended { OnOk result (HasGrownByEnd text.old.items text.new.items) }
     ensures kept { HasGrown text.old.items text.new.items }
 {
     text.extend_from_slice(b" from")?;
     push_name(text, from as u64, naming)?;
     text.extend_from_slice(b" to")?;
-    push_list(text, links, to, first, naming, filter)
+    push_list(text, links, to, naming, filter)
 }
 
 /// Appends a line for each list with a timer that is kept.
@@ -213,68 +211,58 @@ fn push_lists<N: Kept>(
     naming: Naming,
     filter: Filter,
 ) -> Result<(), OutOfMemory>
-    requires { EachBySerial links.now.lists }
     ensures lines { OnOk result (text.new.items
         ≡ text.old.items ++ lines_below naming filter links.now.lists (length links.now.lists)) }
     ensures indented { OnOk result (HasGrownByIndented text.old.items text.new.items) }
     ensures kept { HasGrown text.old.items text.new.items }
 {
     for list in 0..links.lists() {
-        if let Some(first) = first_kept(links, list, filter) {
+        if has_kept(links, list, filter) {
             text.push(b' ')?;
-            push_list(text, links, list, first, naming, filter)?;
+            push_list(text, links, list, naming, filter)?;
         }
     }
     Ok(())
 }
 
-/// The key of the first timer of a list that is kept, or None if none is.
-///
-/// It walks back from the end, and stops at a timer whose serial is too low: those before it are lower.
-fn first_kept<N: Kept>(links: &Links<N>, list: usize, filter: Filter) -> Option<usize>
-    requires list { list < length links.now.lists }
-    requires by_serial { AreBySerial (list_at list links.now.lists) }
-    ensures { result ≡ first_key (kept_rows filter (list_at list links.now.lists)) }
+/// Whether a list has a timer that is kept.
+fn has_kept<N: Kept>(links: &Links<N>, list: usize, filter: Filter) -> bool
+    requires { list < length links.now.lists }
+    ensures { result ≡ has_row (kept_rows filter (list_at list links.now.lists)) }
 {
     links.lemma_keys_unique();
-    let mut first = None;
-    let mut at = links.last(list);
+    let mut at = links.front(list);
     for step in 0..links.len() {
         let Some(key) = at else {
-            return first;
+            return false;
         };
         let Some(node) = links.get(key) else {
-            return first;
+            return false;
         };
-        if node.timer.serial < filter.least {
-            return first;
-        }
         if filter.keeps(node.timer) {
-            first = Some(key);
+            return true;
         }
-        at = links.previous(key);
+        at = links.next(key);
     }
-    first
+    false
 }
 
-/// Appends the timers of a list that are kept, from the first of them on.
+/// Appends the timers of a list that are kept.
 fn push_rows<N: Kept>(
     text: &mut Vec<u8>,
     links: &Links<N>,
     list: usize,
-    first: usize,
     naming: Naming,
     filter: Filter,
 ) -> Result<(), OutOfMemory>
-    requires list { list < length links.now.lists }
-    requires first { Some first ≡ first_key (kept_rows filter (list_at list links.now.lists)) }
+    requires { list < length links.now.lists }
     ensures rows { OnOk result (text.new.items
         ≡ text.old.items ++ rows_text naming (kept_rows filter (list_at list links.now.lists))) }
     ensures bare { OnOk result (HasGrownByBare text.old.items text.new.items) }
     ensures kept { HasGrown text.old.items text.new.items }
 {
     links.lemma_keys_unique();
-    let mut at = Some(first);
+    let mut at = links.front(list);
     for step in 0..links.len() {
         let Some(key) = at else {
             break;
@@ -290,17 +278,15 @@ fn push_rows<N: Kept>(
     Ok(())
 }
 
-/// Appends a list's name and its timers that are kept, the first of which is given, up to the end of the line.
+/// Appends a list's name and its timers that are kept, up to the end of the line.
 fn push_list<N: Kept>(
     text: &mut Vec<u8>,
     links: &Links<N>,
     list: usize,
-    first: usize,
     naming: Naming,
     filter: Filter,
 ) -> Result<(), OutOfMemory>
-    requires list { list < length links.now.lists }
-    requires first { Some first ≡ first_key (kept_rows filter (list_at list links.now.lists)) }
+    requires { list < length links.now.lists }
     ensures line { OnOk result (text.new.items
         ≡ text.old.items ++ list_end naming list (kept_rows filter (list_at list links.now.lists))) }
     ensures ended { OnOk result (HasGrownByEnd text.old.items text.new.items) }
@@ -308,7 +294,7 @@ fn push_list<N: Kept>(
 {
     push_name(text, list as u64, naming)?;
     text.push(b':')?;
-    push_rows(text, links, list, first, naming, filter)?;
+    push_rows(text, links, list, naming, filter)?;
     text.push(b'\n')?;
     Ok(())
 }

@@ -3,10 +3,12 @@ use Rattle.std.specs.Prelude.{◌≡◌, ℕ, ◌+◌, ◌-◌, ◌≤◌, ◌�
 use Rattle.timer_facility.specs.State.{FacilityState, pending_of}
 use Rattle.timer_facility.specs.Run.{run}
 use Rattle.timer_facility.specs.Facility.{NeedsMemory}
-use Rattle.timer_desk.specs.Types.{Numbered, Served, Done}
+use Rattle.timer_desk.specs.Types.{Numbered, Served, Done, Word}
 use Rattle.timer_desk.specs.declared.report.Served.TheVariants.{NoMemory}
 use Rattle.timer_desk.specs.declared.report.Done.TheVariants as Dones
 use Rattle.timer_desk.specs.Report.{Account, requests_left, held_list, asked, words, flushed, events, outs}
+use Rattle.timer_desk.specs.declared.word.Word.TheVariants as Words
+use Rattle.timer_desk.specs.Backlog.{BacklogState}
 use Rattle.timer_desk.specs.Member.{ServeRespectsRoom, IsRight, is_notice}
 
 -- the line may run out of memory, or the facility allocates for the first of these requests
@@ -42,3 +44,25 @@ pub record RespectsRoom (may_refuse : Bool) (c : ℕ) (s : FacilityState) (a b :
 pub record HasNoticesInTime (s : FacilityState) (past : List Done) (done : Done) : Type 0 where
   pub outs_are : is_notice done ≡ false → outs past ≡ (run s (events past)).outs
   pub right : IsRight (run s (events past)).state done
+
+-- What a client's outbox needs room for.
+
+-- how many of the words are notices
+abbrev pub notice_count : List Word → ℕ
+notice_count [] = 0
+notice_count (Words.Notice notice ∷ words) = 1 + notice_count words
+notice_count (word ∷ words) = notice_count words
+
+-- how many of the words are answers: each other one is a notice
+abbrev pub answer_count : List Word → ℕ
+answer_count [] = 0
+answer_count (Words.Notice notice ∷ words) = answer_count words
+answer_count (word ∷ words) = 1 + answer_count words
+
+-- the timers that client c keeps, as the desk sees them: those that are pending, and those whose notice waits in its outbox
+abbrev pub timers_kept : ℕ → FacilityState → BacklogState → ℕ
+timers_kept c s b = pending_of s c + notice_count b.outbox
+
+-- its requests without an answer: the one to be served next, and those whose answer waits in its outbox
+abbrev pub requests_unanswered : BacklogState → ℕ
+requests_unanswered b = 1 + answer_count b.outbox

@@ -1,13 +1,15 @@
 //! Lemmas about reports and drives. Each of these functions does nothing: its contract is the lemma.
-ghost use Rattle.std.specs.Prelude.{◌≡◌, ◌<◌, ◌≤◌, ℕ, false, List, [], ◌∷◌, ◌++◌, length, get_or, count_by};
-ghost use Rattle.timer_desk.specs.Types.{DriveEnd, Done};
+ghost use Rattle.std.specs.Prelude.{◌≡◌, ◌≢◌, ◌+◌, ◌<◌, ◌≤◌, ℕ, Bool, false, List, [], ◌∷◌, ◌++◌, length, get_or, count_by};
+ghost use Rattle.timer_desk.specs.Types.{DriveEnd, Done, Served};
 ghost use Rattle.timer_desk.specs.declared.driver.DriveEnd.TheVariants as DriveEnds;
-ghost use Rattle.timer_facility.specs.State.{IsSound};
+ghost use Rattle.timer_desk.specs.declared.report.Served.TheVariants.{NoRoom};
+ghost use Rattle.timer_facility.specs.State.{FacilityState, IsSound};
 ghost use Rattle.timer_desk.specs.Backlog.{BacklogState};
 ghost use Rattle.timer_desk.specs.Desk.{DeskState, clients_of, account_at, ReportHolds, NoticesFollow, AreOwed};
-ghost use Rattle.timer_desk.specs.Laws.{HasNoticesInTime, RespectsRoom};
+ghost use Rattle.timer_desk.specs.Laws.{HasNoticesInTime, RespectsRoom, timers_kept, requests_unanswered};
+ghost use Rattle.timer_desk.specs.Member.{IsServe};
 ghost use Rattle.timer_desk.specs.Driver.{Drives, HasUnfinishedClient, is_flush_of, joined};
-ghost use Rattle.timer_desk.specs.Report.{asked, ClientAccount, Runs, steps_of};
+ghost use Rattle.timer_desk.specs.Report.{asked, Account, ClientAccount, Runs, steps_of};
 
 use crate::inlet::Inlet;
 use timer_facility::laws::notices_are_owed;
@@ -47,6 +49,17 @@ pub fn each_member_accords_with_those_before<I: Inlet>()
         → (c : ℕ) (i : I) (b : BacklogState) → c < clients_of first
         → RespectsRoom I.kind.take_may_refuse c first.facility (account_at I.kind first c i b)
         (account_at I.kind second c i b) past done later }
+{}
+
+/// A room of k + q + 1 words holds back no request of a client that keeps at most k timers and has at most q requests
+/// without an answer. With one word less each request of one that has as many is held back.
+pub fn a_room_for_all_is_enough()
+    ensures enough { (k q c : ℕ) (may_refuse : Bool) (s : FacilityState) (a b : Account) (served : Served)
+        → timers_kept c s a.backlog ≤ k → requests_unanswered a.backlog ≤ q → k + q + 1 ≤ a.backlog.room
+        → IsServe may_refuse c s a served b → served ≢ NoRoom }
+    ensures least { (k q c : ℕ) (may_refuse : Bool) (s : FacilityState) (a b : Account) (served : Served)
+        → timers_kept c s a.backlog ≡ k → requests_unanswered a.backlog ≡ q → a.backlog.room ≤ k + q
+        → IsServe may_refuse c s a served b → served ≡ NoRoom }
 {}
 
 /// A drive does at most `goal` requests of each client, and flushes each

@@ -289,6 +289,6 @@ first_pending w from (Some handle) none h alone =
       from_on = h.0;
       timer = some.0;
       there = sym (held_when_none_due handle w none) ∙ some.1;
-      alone = alone some.0 some.1;
+      alone = (alone some.0 some.1).0;
       elsewhere = h.2;
     }

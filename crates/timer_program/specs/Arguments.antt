@@ -7,11 +7,10 @@ use Rattle.clap.specs.declared.parser.matches.Found.{Found}
 use Rattle.clap.specs.declared.error.kind.ErrorKind.{ErrorKind}
 use Rattle.clap.specs.declared.error.kind.ErrorKind.TheVariants as kinds
 use Rattle.timer_program.specs.declared.arguments.Subcommand.{Subcommand}
-use Rattle.timer_program.specs.declared.arguments.Subcommand.TheVariants.{Run, Threads, Check, Explain}
+use Rattle.timer_program.specs.declared.arguments.Subcommand.TheVariants.{Run, Threads, Check}
 use Rattle.timer_script.specs.declared.cutter.OnBadLine.{OnBadLine}
 use Rattle.timer_script.specs.declared.cutter.OnBadLine.TheVariants.{Stop, Report}
 use Rattle.timer_commands.specs.declared.options.RunOptions.{RunOptions}
-use Rattle.timer_commands.specs.declared.options.WhyOptions.{WhyOptions}
 use Rattle.timer_commands.specs.declared.shows.Shows.{Shows}
 use Rattle.timer_commands.specs.declared.verbs.Verb.TheVariants.{Play, Serve, Show}
 use Rattle.timer_commands.specs.Options.{name_of}
@@ -23,7 +22,6 @@ subcommand_name (Run (Serve on_bad wakeups) options) = codes "serve"
 subcommand_name (Run (Show shows) options) = codes "show"
 subcommand_name (Threads options) = codes "threads"
 subcommand_name Check = codes "check"
-subcommand_name (Explain options) = codes "check"
 
 -- the subcommand that the arguments after the program's name name: the first of them, or `play` if there is
 -- none
@@ -87,12 +85,6 @@ pub record AreShowsOptions (found : Found) (shows : Shows) : Type 0 where
   pub from : IsNumberIfGiven found (codes "from") shows.from
   pub to : IsNumberIfGiven found (codes "to") shows.to
 
--- those of `check --why`
-pub record AreWhyOptions (found : Found) (options : WhyOptions) : Type 0 where
-  pub clients : IsNumberOf found (codes "clients") options.clients
-  pub capacity : IsNumberOf found (codes "capacity") options.capacity
-  pub first_tick : IsNumberOf found (codes "first-tick") options.first_tick
-
 -- each option of the subcommand is the one that was found under its name
 abbrev pub HasOptions : Found → Subcommand → Type 0
 HasOptions found (Run Play options) = AreRunOptions found options
@@ -101,5 +93,4 @@ HasOptions found (Run (Serve on_bad wakeups) options) = AreRunOptions found opti
 HasOptions found (Run (Show shows) options) = AreRunOptions found options × AreShowsOptions found shows
 HasOptions found (Threads options) = IsNumberOf found (codes "clients") options.clients
     × IsNumberOf found (codes "timers") options.timers
-HasOptions found Check = IsFlagGiven found (codes "why") false
-HasOptions found (Explain options) = IsFlagGiven found (codes "why") true × AreWhyOptions found options
+HasOptions found Check = Unit {0}

@@ -9,8 +9,7 @@ use Rattle.timer_script.specs.declared.watched.Watched.{Watched}
 use Rattle.timer_script.specs.Watched.{inner_of, has_failed}
 use Rattle.timer_commands.specs.declared.ending.Ending.{Ending}
 use Rattle.timer_commands.specs.declared.ending.Ending.TheVariants.{Done, Failed, Refused}
-use Rattle.timer_commands.specs.Subcommands.{Bytes, Channels, HasRunVerb, HasCheckedScript, HasExplainedScript}
-use Rattle.timer_commands.specs.Options.{over_hierarchy}
+use Rattle.timer_commands.specs.Subcommands.{Bytes, Channels, HasRunVerb, HasCheckedScript}
 use Rattle.timer_commands.specs.Clients.{HasRunClients}
 use Rattle.timer_program.specs.declared.arguments.Subcommand.{Subcommand}
 use Rattle.timer_program.specs.declared.arguments.Subcommand.TheVariants as calls
@@ -31,8 +30,8 @@ HasNotPlayed kind contents writer writer' Refused = (kind ≢ kinds.OutOfMemory)
 HasNotPlayed kind contents writer writer' ending = ⊥
 
 -- What was done for arguments that were read as this: a script was played, or lines were answered; or clients
--- ran and nothing was read; or a script was checked or explained. If they are read as none of these, nothing but a
--- text was written.
+-- ran and nothing was read; or a script was checked. If they are read as none of these, nothing but a text was
+-- written.
 abbrev pub HasCalled : {R S F : Type 0} → Result Subcommand Error → Bytes R S F → (old new : Channels R S F)
     → Ending → Type 0
 HasCalled (Ok (calls.Run verb options)) bytes old new ending = HasRunVerb verb options bytes old new ending
@@ -40,8 +39,6 @@ HasCalled (Ok (calls.Threads options)) bytes old new ending =
     (new.streams.reader ≡ old.streams.reader)
     × HasRunClients options bytes.contents bytes.reports old.streams.writer new.streams.writer old.faults new.faults ending
 HasCalled (Ok calls.Check) bytes old new ending = HasCheckedScript
-    (record { remaining = bytes.remaining; contents = bytes.contents }) old.streams new.streams ending
-HasCalled (Ok (calls.Explain options)) bytes old new ending = HasExplainedScript (over_hierarchy options)
     (record { remaining = bytes.remaining; contents = bytes.contents }) old.streams new.streams ending
 HasCalled (Err error) bytes old new ending =
     (new.streams.reader ≡ old.streams.reader)

@@ -5,7 +5,7 @@
 //!     timers serve [OPTIONS]        answers the lines of standard input as they come
 //!     timers show [OPTIONS]         does so, and shows after each line where the timers are
 //!     timers threads [OPTIONS]      runs clients in threads of their own
-//!     timers check [OPTIONS]        reports each bad line of the script on standard input, or why it found no timers
+//!     timers check                  reports each bad line of the script on standard input
 //!     timers help, timers --help    what the program is
 //!     timers --version              its name and version
 //!
@@ -13,7 +13,7 @@
 ghost use Rattle.std.specs.Prelude.{◌≡◌, None, IfSome, IfOk, IfErr, IsTrue, Any, codes};
 ghost use Rattle.clap.specs.Words.{kind_of, found_of, one_text};
 ghost use Rattle.timer_commands.specs.Options.{name_of};
-ghost use Rattle.timer_program.specs.Arguments.{first_or_play, subcommand_name, IsShown, AsksForText, IsNumberOf, IsFlagGiven, reports, AreRunOptions, AreShowsOptions, AreWhyOptions, HasOptions};
+ghost use Rattle.timer_program.specs.Arguments.{first_or_play, subcommand_name, IsShown, AsksForText, IsNumberOf, IsFlagGiven, reports, AreRunOptions, AreShowsOptions, HasOptions};
 
 use crate::help::{
     ABOUT, CHECK_ABOUT, CHECK_USAGE, CHECKS, NAME, PLACEMENTS, PLAY_ABOUT, PLAY_USAGE, SCHEMES,
@@ -24,7 +24,7 @@ use clap::error::ErrorKind;
 use clap::{Arg, ArgAction, ArgMatches, Command, Error, value_parser};
 use std::alloc::{AllocError, Global};
 use std::convert::AsStr;
-use timer_commands::{RunOptions, Scheme, Shows, ThreadsOptions, Verb, WhyOptions};
+use timer_commands::{RunOptions, Scheme, Shows, ThreadsOptions, Verb};
 use timer_script::OnBadLine;
 
 /// A subcommand with its options.
@@ -36,8 +36,6 @@ pub enum Subcommand {
     Threads(ThreadsOptions),
     /// `check`: report each bad line of the script on standard input.
     Check,
-    /// `check --why`: say why each stop or restart of the script found no timer.
-    Explain(WhyOptions),
 }
 
 /// The names of the schemes.
@@ -186,30 +184,12 @@ fn threads_command<'a>(alloc: Global) -> Result<Command<'a>, AllocError> {
         .arg(number(alloc, "timers", "TIMERS", (1, 10000), "1000", timers))
 }
 
-/// The subcommand `check` with its options.
-fn check_command<'a>(alloc: Global) -> Result<Command<'a>, AllocError> {
-    // made by tools/facts: texts of options of check
-    let why = "Play the script, and say why each stop or restart was `no-such`";
-    let clients = "With `--why`, the number of clients, 1 to 64";
-    let capacity = "With `--why`, the most timers that may be pending at a time, 1 to 1048576";
-    let first_tick = "With `--why`, the tick at which the clock begins, 0 to 1152921504606846975";
-    // by hand
+/// The subcommand `check`, which has no options.
+fn check_command<'a>(alloc: Global) -> Command<'a> {
     Command::new(alloc, "check")
         .override_usage(CHECK_USAGE)
         .about(CHECK_ABOUT)
         .after_long_help(CHECKS)
-        // made by tools/facts: arguments of check
-        .arg(flag(alloc, "why", why))?
-        .arg(number(alloc, "clients", "CLIENTS", (1, 64), "64", clients))?
-        .arg(number(alloc, "capacity", "TIMERS", (1, 1048576), "1024", capacity))?
-        .arg(number(
-            alloc,
-            "first-tick",
-            "TICK",
-            (0, 1152921504606846975),
-            "0",
-            first_tick,
-        ))
 }
 
 /// The subcommands, in the order of the help.
@@ -222,7 +202,7 @@ fn command_line<'a>(alloc: Global, name: &str) -> Result<Command<'a>, AllocError
         "serve" => serve_command(alloc),
         "show" => show_command(alloc),
         "threads" => threads_command(alloc),
-        _ => check_command(alloc),
+        _ => Ok(check_command(alloc)),
     }
 }
 
@@ -315,29 +295,6 @@ fn threads_options(options: &ArgMatches) -> Option<ThreadsOptions>
     })
 }
 
-/// The options of `check --why`, if each has a value.
-fn why_options(options: &ArgMatches) -> Option<WhyOptions>
-    ensures { IfSome result (λ why. AreWhyOptions (found_of options.now) why) }
-{
-    Some(WhyOptions {
-        clients: number_of(options, "clients")?,
-        capacity: number_of(options, "capacity")?,
-        first_tick: number_of(options, "first-tick")?,
-    })
-}
-
-/// `check`, with `--why` or without it.
-fn check_of(options: &ArgMatches) -> Option<Subcommand>
-    ensures name { IfSome result (λ subcommand. subcommand_name subcommand ≡ codes "check") }
-    ensures options { IfSome result (λ subcommand. HasOptions (found_of options.now) subcommand) }
-{
-    if options.get_flag("why") {
-        Some(Subcommand::Explain(why_options(options)?))
-    } else {
-        Some(Subcommand::Check)
-    }
-}
-
 /// The subcommand of this name, if each of its options has a value.
 fn subcommand_of(name: &str, options: &ArgMatches) -> Option<Subcommand>
     ensures name { IfSome result (λ subcommand. name.now ≡ subcommand_name subcommand) }
@@ -355,7 +312,7 @@ fn subcommand_of(name: &str, options: &ArgMatches) -> Option<Subcommand>
             Some(Subcommand::Run(Verb::Show(shows), run_options(options)?))
         }
         "threads" => Some(Subcommand::Threads(threads_options(options)?)),
-        "check" => check_of(options),
+        "check" => Some(Subcommand::Check),
         _ => None,
     }
 }

@@ -13,7 +13,7 @@ use std::alloc::Global;
 use std::convert::AsStr;
 use std::io::{Read, Write};
 use std::thread::Threads;
-use timer_commands::{Ending, check_script, explain_script, report, run_clients, run_verb};
+use timer_commands::{Ending, check_script, report, run_clients, run_verb};
 use timer_script::{ScriptFault, Streams, Watched, write_text};
 
 /// Runs the program on the arguments after its name, and returns the exit status of its `Ending`.
@@ -60,7 +60,6 @@ fn run_subcommand<T: AllocGlobal + Threads, R: Read, W: Write, F: Write>(
             run_clients(rt, alloc, options, &mut streams.writer, faults)
         }
         Ok(Subcommand::Check) => check_script(alloc, streams, faults),
-        Ok(Subcommand::Explain(options)) => explain_script(alloc, options, streams, faults),
         Err(error) => end_unplayed(alloc, &error, &mut streams.writer, faults),
     }
 }

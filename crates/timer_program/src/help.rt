@@ -145,7 +145,7 @@ Less is shown, never fewer answers, with
   --new                                only timers that the line started or restarted
   --from 64 --to 128                   nothing while the clock is before 64 or after 128
 Each of them drops some of what is shown. With `--new --moves` each change is shown once.
-Why a stop of a script was `no-such`, `timers check --why` says.
+Why a stop was `no-such` is in the answers: some line ended the timer, or none began it.
 Without the lines that begin with a space the output is that of `timers serve`:
   timers show < script | grep -v '^ '
 
@@ -169,10 +169,10 @@ on standard error (`client C failed`, `desk failed`, `out of memory` or
 `write failed`). It is 2 if the arguments are refused. Nothing is read from standard
 input.";
 
-pub static CHECK_USAGE: &str = "timers check [OPTIONS] < FILE";
+pub static CHECK_USAGE: &str = "timers check < FILE";
 
 pub static CHECK_ABOUT: &str =
-    "Reports every bad line of the script on standard input; plays it only with --why";
+    "Reports every bad line of the script on standard input, and plays nothing";
 
 /// The text below the help of `check`.
 pub static CHECKS: &str = "\
@@ -187,14 +187,7 @@ byte at the column they no longer can. Columns are counted in bytes, from 1. For
 `timers help` describes the lines of a script. A well-formed line that would be refused,
 such as a start with interval 0, is good.
 
-With `--why` a script that has no bad line is played. For each stop or restart that is
-refused as `no-such` a line says what became of the timer. For example:
-  $ printf 'start 0 1 5 7\\ntick 5\\nstop 0 2 1\\nstop 0 3 2\\n' | timers check --why
-  line 3: no-such: timer 1 expired at tick 5
-  line 4: no-such: timer 2 had not been started
-Or the timer `was stopped by line M`, `was restarted by line M` or `is of client C`.
-
-The exit status is 0 if no line is bad, and nothing is written. It is 1 if a line is bad,
-or with `--why` is `no-such`. It is 1 after an error before the script is read, and 2
-after any other error, which is one line on standard error (`too long`, `read failed`,
-`write failed` or `out of memory`). It is 2 if the arguments are refused.";
+The exit status is 0 if no line is bad, and nothing is written. It is 1 if a line is bad.
+It is 1 after an error before the script is read, and 2 after any other error, which is
+one line on standard error (`too long`, `read failed`, `write failed` or
+`out of memory`). It is 2 if the arguments are refused.";

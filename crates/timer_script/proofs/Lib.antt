@@ -1,6 +1,4 @@
 pub mod Results
-pub mod FateLemmas
-pub mod ExplanationLemmas
 pub mod ScriptReportLemmas
 pub mod DiagnosisLemmas
 pub mod LineLemmas

@@ -13,5 +13,3 @@ pub mod Streams
 pub mod Decorator
 pub mod Cutter
 pub mod Service
-pub mod Fates
-pub mod Explanation

@@ -58,31 +58,26 @@ pub record IsScriptReport (bytes text : List ℕ) (bad : ℕ) : Type 0 where
   pub text_is : text ≡ flat_map (λ numbered. verdict_line numbered.0 numbered.1) (enumerate_from 1 verdicts)
   pub counted : bad ≡ count_by is_bad verdicts
 
--- what was done to a reader and a writer, by how it ended, if this holds of the bytes, the text and what was returned
-abbrev pub HasReportedOn : {A R S : Type 0} → (List ℕ → List ℕ → A → Type 0) → Known R S → (old new : Streams R S)
-    → Result A CheckFault → Type 0
+-- what a check did to its reader and its writer, by how it ended
+abbrev pub HasChecked : {R S : Type 0} → Known R S → (old new : Streams R S) → Result ℕ CheckFault → Type 0
 -- the whole report was written, and nothing else
-HasReportedOn Holds known old new (Ok returned) = (text : List ℕ)
-    × ReadsAs (λ bytes. Holds bytes text returned) (unread_of known old) (unread_of known new)
+HasChecked known old new (Ok bad) = (text : List ℕ)
+    × ReadsAs (λ bytes. IsScriptReport bytes text bad) (unread_of known old) (unread_of known new)
     × (has_failed new.reader ≡ false)
     × Appends (taken_by known old) (taken_by known new) text × (has_failed new.writer ≡ false)
 -- the reader failed in this call, after at most `MAX_BYTES` bytes, and nothing was written
-HasReportedOn Holds known old new (Err faults.Read) = ReadsUpTo MAX_BYTES (unread_of known old) (unread_of known new)
+HasChecked known old new (Err faults.Read) = ReadsUpTo MAX_BYTES (unread_of known old) (unread_of known new)
     × (has_failed new.reader ≡ true) × (new.writer ≡ old.writer)
 -- one byte more than `MAX_BYTES` was read, and nothing was written
-HasReportedOn Holds known old new (Err faults.TooLong) = ReadsTooMany (unread_of known old) (unread_of known new)
+HasChecked known old new (Err faults.TooLong) = ReadsTooMany (unread_of known old) (unread_of known new)
     × (has_failed new.reader ≡ false) × (new.writer ≡ old.writer)
 -- nothing was written, and at most one byte more than `MAX_BYTES` was read
-HasReportedOn Holds known old new (Err faults.OutOfMemory) =
+HasChecked known old new (Err faults.OutOfMemory) =
     ReadsUpTo (MAX_BYTES + 1) (unread_of known old) (unread_of known new) × (has_failed new.reader ≡ false)
     × (new.writer ≡ old.writer)
 -- the writer failed in this call, and a prefix of the report was written, of this length, and nothing else
-HasReportedOn {A} Holds known old new (Err (faults.Write written)) = (text : List ℕ) × (returned : A)
-    × ReadsAs (λ bytes. Holds bytes text returned) (unread_of known old) (unread_of known new)
+HasChecked known old new (Err (faults.Write written)) = (text : List ℕ) × (bad : ℕ)
+    × ReadsAs (λ bytes. IsScriptReport bytes text bad) (unread_of known old) (unread_of known new)
     × (has_failed new.reader ≡ false)
     × (written < length text) × Appends (taken_by known old) (taken_by known new) (take written text)
     × (has_failed new.writer ≡ true)
-
--- what a check did, which reports bad lines and returns their number
-abbrev pub HasChecked : {R S : Type 0} → Known R S → (old new : Streams R S) → Result ℕ CheckFault → Type 0
-HasChecked known old new result = HasReportedOn IsScriptReport known old new result

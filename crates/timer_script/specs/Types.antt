@@ -11,7 +11,6 @@ pub use Rattle.timer_facility.specs.declared.request.Reason.{Reason}
 pub use Rattle.timer_facility.specs.declared.request.TickFault.{TickFault}
 pub use Rattle.timer_script.specs.declared.cutter.Cutter.{Cutter}
 pub use Rattle.timer_script.specs.declared.cutter.OnBadLine.{OnBadLine}
-pub use Rattle.timer_script.specs.declared.fates.Fate.{Fate}
 pub use Rattle.timer_script.specs.declared.fault.CheckFault.{CheckFault}
 pub use Rattle.timer_script.specs.declared.fault.ReadFault.{ReadFault}
 pub use Rattle.timer_script.specs.declared.fault.RunFault.{RunFault}

@@ -13,14 +13,11 @@
 //!     streams     a stream cut into lines (`cutter`), `session`, `steps`, `peer`, `streams`,
 //!                 `service`, `decorator`
 //!     bad lines   `line_fault` and `diagnosis` (one line), `script_report` (those of a script)
-//!     no-such     what became of each timer (`fates`), and so why a request found none (`explanation`)
 #![tactic(auto)]
 
 mod cutter;
 mod decorator;
 mod diagnosis;
-mod explanation;
-mod fates;
 mod fault;
 mod input;
 pub mod laws;
@@ -41,7 +38,6 @@ mod watched;
 pub use cutter::OnBadLine;
 pub use decorator::{Decorator, Undecorated};
 pub use diagnosis::fault_in_line;
-pub use explanation::explain;
 pub use fault::{CheckFault, RunFault, ScriptFault, ServeFault, WriteFault};
 pub use input::MAX_BYTES;
 pub use line_fault::{Field, LineFault, LineReason};

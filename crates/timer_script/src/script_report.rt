@@ -16,7 +16,7 @@ use std::io::{Read, Write};
 use timer_base::OutOfMemory;
 
 /// Adds a number in decimal.
-pub fn push_decimal(text: &mut Vec<u8>, n: u64) -> Result<(), OutOfMemory>
+fn push_decimal(text: &mut Vec<u8>, n: u64) -> Result<(), OutOfMemory>
     ensures { OnOk result (text.new.items ≡ text.old.items ++ decimal n) }
 {
     let mut buffer = Buffer::new();
@@ -51,7 +51,7 @@ pub fn push_fault(text: &mut Vec<u8>, n: u64, fault: LineFault) -> Result<(), Ou
 }
 
 /// The report of a script, and how many of its lines are bad.
-pub fn report_of(alloc: Global, script: &[u8]) -> Result<(Vec<u8>, u64), OutOfMemory>
+fn report_of(alloc: Global, script: &[u8]) -> Result<(Vec<u8>, u64), OutOfMemory>
     ensures { IfOk result (λ r. IsScriptReport script.now r.0.items r.1) }
 {
     let mut text = Vec::new(alloc);

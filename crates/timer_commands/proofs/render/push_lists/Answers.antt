@@ -2,10 +2,9 @@ use Rattle.std.proofs.Common.{◌≡◌, ◌++◌, ◌+◌, ℕ, List, sym, subs
 use Rattle.timer_commands.specs.Indented.{HasGrownByIndented}
 use Rattle.timer_commands.specs.Pictures.{lines_below}
 use Rattle.timer_commands.proofs.IndentedLemmas.{grown_join, indented}
-use Rattle.timer_commands.proofs.NewestLemmas.{some_row, no_row}
 use Rattle.timer_commands.proofs.PictureLemmas.{then, line_more, no_line}
 use Rattle.timer_commands.proofs.render.push_lists.Goals as goal
-use Rattle.timer_commands.proofs.render.push_lists.Goals.{in-Some+in_ok-push+in_ok-push_list, in_default}
+use Rattle.timer_commands.proofs.render.push_lists.Goals.{then-has_kept+in_ok-push+in_ok-push_list, else-has_kept}
 
 pub loop-list-preserved : goal.loop-list-preserved
 loop-list-preserved g c =
@@ -14,20 +13,20 @@ loop-list-preserved g c =
     let n : ℕ = c.loop-list.list in
     let i = c.loop-list.invariant in
     record {
-      lines = elim c.match-first_kept.branch [
-        | in-Some+in_ok-push+in_ok-push_list w ↦
+      lines = elim c.if-has_kept.branch [
+        | then-has_kept+in_ok-push+in_ok-push_list w ↦
             subst (λ t. t ≡ old ++ lines_below c.args.naming c.args.filter lists (n + 1)) (search rules)
             (line_more c.args.naming c.args.filter lists n old c.loop-list.text.items w.push_list.new.text.items
-            (some_row _ _ (sym w.in-Some.is ∙ c.first_kept.ensures)) i.lines
+            (sym c.has_kept.ensures ∙ w.if-has_kept.true) i.lines
             (then _ _ _ (codes " ") _ w.in_ok-push.ensures.items w.in_ok-push_list.ensures.line))
-        | in_default w ↦
+        | else-has_kept w ↦
             subst (λ t. t ≡ old ++ lines_below c.args.naming c.args.filter lists (n + 1)) (search rules)
-            (no_line c.args.naming c.args.filter lists n old c.loop-list.text.items (no_row _ (sym w.in_default.is ∙ c.first_kept.ensures)) i.lines)
+            (no_line c.args.naming c.args.filter lists n old c.loop-list.text.items (sym c.has_kept.ensures ∙ w.if-has_kept.false) i.lines)
       ];
-      indented = elim c.match-first_kept.branch [
-        | in-Some+in_ok-push+in_ok-push_list w ↦ subst (HasGrownByIndented old) (search rules)
+      indented = elim c.if-has_kept.branch [
+        | then-has_kept+in_ok-push+in_ok-push_list w ↦ subst (HasGrownByIndented old) (search rules)
             (grown_join _ _ w.push_list.new.text.items i.indented
             (indented _ _ (rw w.in_ok-push.ensures.items at w.in_ok-push_list.ensures.ended)))
-        | in_default w ↦ subst (HasGrownByIndented old) (search rules) i.indented
+        | else-has_kept w ↦ subst (HasGrownByIndented old) (search rules) i.indented
       ];
     }
