@@ -3,6 +3,8 @@
 A function takes and returns numbers. It is called with all edge values of its parameters for which its guard, in C over a, b
 and c, holds: the module says nothing of the others."""
 # SPDX-License-Identifier: MIT OR Apache-2.0
+from translator.file import SMOOTH
+
 WIDTHS = (8, 16, 32, 64)
 FUNCTIONS = []                                          # name, width of the result, widths of the parameters, guard, text
 DECLARED = set()
@@ -455,6 +457,267 @@ never:
   unreachable""")
 for mask in (2305843009213693944, 2305843009213693951, 536870904, 1152921504606846968):
     case(f'shift_and_mask_{mask}', 64, [64], f'  %x = lshr i64 %a, 3\n  %r = and i64 %x, {mask}\n  ret i64 %r')
+value('shift_and_no_bit', 64, [64], 'and i64 %x, 0')
+FUNCTIONS[-1] = (*FUNCTIONS[-1][:4], FUNCTIONS[-1][4].replace('{\n', '{\n  %x = lshr i64 %a, 3\n'))
+# Arms that differ in one width alone.
+case('widths_of_arms', 64, [8], """  %c = icmp eq i8 %a, 0
+  br i1 %c, label %x, label %y
+x:
+  br label %narrow
+narrow:
+  %i = phi i32 [ 1, %x ], [ %i1, %more ]
+  %i1 = mul i32 %i, 5
+  %d = icmp eq i32 %i1, 1808548329
+  br i1 %d, label %found, label %more
+more:
+  %far = icmp ugt i32 %i1, 2000000000
+  br i1 %far, label %out, label %narrow
+y:
+  br label %wide
+wide:
+  %j = phi i64 [ 1, %y ], [ %j1, %again ]
+  %j1 = mul i64 %j, 5
+  %e = icmp eq i64 %j1, 1808548329
+  br i1 %e, label %found, label %again
+again:
+  %end = icmp ugt i64 %j1, 2000000000
+  br i1 %end, label %out, label %wide
+found:
+  ret i64 3
+out:
+  ret i64 7""")
+# Loops whose labels are named as the variables of C that are in them.
+case('labels_as_variables', 64, [64, 64], """start:
+  %x = mul i64 %a, %b
+  %y = add i64 %a, %b
+  %c = icmp ult i64 %a, 9
+  br i1 %c, label %p, label %q
+p:
+  br label %n3
+n3:
+  %i = phi i64 [ 0, %p ], [ %i1, %n3 ]
+  %s = phi i64 [ 1, %p ], [ %s1, %n3 ]
+  %s1 = mul i64 %s, %x
+  %i1 = add i64 %i, 1
+  %d = icmp eq i64 %i1, 5
+  br i1 %d, label %e, label %n3
+q:
+  br label %n4
+n4:
+  %j = phi i64 [ 0, %q ], [ %j1, %n4 ]
+  %t = phi i64 [ 1, %q ], [ %t1, %n4 ]
+  %t1 = mul i64 %t, %y
+  %j1 = add i64 %j, 1
+  %f = icmp eq i64 %j1, 5
+  br i1 %f, label %e, label %n4
+e:
+  %r = phi i64 [ %s1, %n3 ], [ %t1, %n4 ]
+  %v = mul i64 %r, %r
+  ret i64 %v""")
+# Arms that differ in which of two variables they use, or in the numbers of a switch.
+for name, one, other in (('same', '%u, %w', '%u2, %u2'), ('order', '%u, %w', '%w2, %u2')):
+    case(f'twins_{name}', 64, [8, 64], f"""  %m = alloca [16 x i8], align 8
+  %n = getelementptr inbounds i8, ptr %m, i64 8
+  store i64 %b, ptr %m, align 8
+  store i64 3, ptr %n, align 8
+  %c = icmp ult i8 %a, 9
+  br i1 %c, label %x, label %y
+x:
+  %u = load i64, ptr %m, align 8
+  %w = load i64, ptr %n, align 8
+  store i64 7, ptr %m, align 8
+  store i64 9, ptr %n, align 8
+  %v = sub i64 {one}
+  br label %e
+y:
+  %u2 = load i64, ptr %m, align 8
+  %w2 = load i64, ptr %n, align 8
+  store i64 7, ptr %m, align 8
+  store i64 9, ptr %n, align 8
+  %v2 = sub i64 {other}
+  br label %e
+e:
+  %r = phi i64 [ %v, %x ], [ %v2, %y ]
+  ret i64 %r""")
+case('twins_numbers', 8, [8, 8], """  %c = icmp ult i8 %a, 9
+  br i1 %c, label %x, label %y
+x:
+  switch i8 %b, label %e [
+    i8 1, label %p
+    i8 2, label %q
+  ]
+y:
+  switch i8 %b, label %e [
+    i8 1, label %p
+    i8 3, label %q
+  ]
+p:
+  br label %e
+q:
+  br label %e
+e:
+  %r = phi i8 [ 1, %x ], [ 1, %y ], [ 5, %p ], [ 6, %q ]
+  %s = mul i8 %r, %r
+  ret i8 %s""")
+# An arm that may jump does not end: what follows it is another case.
+case('exits_of_cases', 8, [8, 8], """  switch i8 %a, label %e [
+    i8 1, label %x
+    i8 2, label %y
+    i8 3, label %z
+  ]
+x:
+  %c = icmp ult i8 %b, 9
+  br i1 %c, label %far, label %e
+y:
+  %d = icmp ult i8 %b, 5
+  br i1 %d, label %far, label %e
+z:
+  br label %far
+e:
+  %s = mul i8 %b, 7
+  br label %far
+far:
+  %t = phi i8 [ 21, %x ], [ 22, %y ], [ 23, %z ], [ %s, %e ]
+  %u = mul i8 %t, %b
+  ret i8 %u""")
+# What was read is not read again where it is used: another block has written there.
+case('read_before', 64, [64, 64], """  %m = alloca i64, align 8
+  store i64 %a, ptr %m, align 8
+  %x = load i64, ptr %m, align 8
+  %c = icmp ult i64 %a, %b
+  br i1 %c, label %w, label %e
+w:
+  store i64 %b, ptr %m, align 8
+  br label %e
+e:
+  %r = add i64 %x, 5
+  ret i64 %r""")
+for how in ('ult', 'ule', 'ugt', 'uge'):
+    case(f'pointers_{how}', 1, [64, 64], f"""  %p = inttoptr i64 %a to ptr
+  %q = inttoptr i64 %b to ptr
+  %r = icmp {how} ptr %p, %q
+  ret i1 %r""")
+for number in ('true', 'false'):
+    case(f'switch_{number}', 8, [8], f"""  %c = icmp ult i8 %a, 9
+  switch i1 %c, label %x [
+    i1 {number}, label %y
+  ]
+x:
+  ret i8 %a
+y:
+  %r = mul i8 %a, 7
+  ret i8 %r""")
+case('one_of_three', 8, [8, 8], """  %k = urem i8 %a, 3
+  switch i8 %k, label %never [
+    i8 1, label %x
+    i8 0, label %y
+    i8 2, label %z
+  ]
+x:
+  ret i8 %b
+y:
+  %r = add i8 %b, 9
+  ret i8 %r
+z:
+  %s = mul i8 %b, 5
+  ret i8 %s
+never:
+  unreachable""")
+case('two_ends', 8, [8, 8], """  %c = icmp ult i8 %a, 9
+  br i1 %c, label %x, label %e
+x:
+  %d = icmp ult i8 %b, 9
+  br i1 %d, label %e, label %y
+y:
+  br label %e
+e:
+  %r = phi i8 [ %b, %0 ], [ %a, %x ], [ 5, %y ]
+  %s = phi i8 [ 1, %0 ], [ 2, %x ], [ %a, %y ]
+  ret i8 %r""")
+case('rotated', 64, [8, 64], """start:
+  br label %loop
+loop:
+  %i = phi i8 [ 0, %start ], [ %i1, %loop ]
+  %p = phi i64 [ %b, %start ], [ %q, %loop ]
+  %q = phi i64 [ 1, %start ], [ %s, %loop ]
+  %s = phi i64 [ 2, %start ], [ %t, %loop ]
+  %t = phi i64 [ 3, %start ], [ %u, %loop ]
+  %u = phi i64 [ 4, %start ], [ %p, %loop ]
+  %i1 = add i8 %i, 1
+  %c = icmp uge i8 %i1, %a
+  br i1 %c, label %out, label %loop
+out:
+  %v = mul i64 %p, %q
+  %w = mul i64 %s, 7
+  %x = mul i64 %t, %u
+  %y = sub i64 %v, %w
+  %r = sub i64 %y, %x
+  ret i64 %r""")
+# Constants behind what changes nothing are as wide as they were.
+for name, w, frozen, text in (('shift', 64, '1', 'shl i64 %f, 40'), ('sum', 32, '2147483647', 'add i32 %f, 2147483647'),
+                              ('product', 32, '65537', 'mul i32 %f, %f'), ('minus', 64, '3', 'sub i64 %f, 4'),
+                              ('choice', 64, '3', 'select i1 %c, i64 %f, i64 1'), ('divided', 64, '9', 'udiv i64 %f, 4')):
+    case(f'frozen_{name}', w, [w], f"""  %c = icmp ult i{w} %a, 9
+  %f = freeze i{w} {frozen}
+  %x = {text}
+  %y = shl i{w} %x, {w // 2 + 1 if name == 'choice' else 0}
+  %z = lshr i{w} %y, 1
+  %r = xor i{w} %z, %a
+  ret i{w} %r""")
+case('bit_shifted', 64, [8], '  %c = icmp ult i8 %a, 9\n  %x = zext i1 %c to i64\n  %r = shl i64 %x, 40\n  ret i64 %r')
+case('frozen_chosen', 8, [8], """  %f = freeze i64 5
+  switch i64 %f, label %x [
+    i64 1099511627781, label %y
+    i64 3, label %z
+  ]
+x:
+  ret i8 %a
+y:
+  ret i8 17
+z:
+  ret i8 18""")
+for w in (40, 48, 56):
+    case(f'widened{w}', 64, [64], f"""  %f = zext i{w} 7 to i64
+  %x = shl i64 %f, 33
+  %r = xor i64 %x, %a
+  ret i64 %r""")
+    case(f'narrowed{w}', 8, [64], f'  %x = trunc i64 %a to i{w}\n  %r = trunc i{w} %x to i8\n  ret i8 %r')
+for w in (1, *WIDTHS):
+    case(f'freeze_of{w}', w, [64], f"""  %m = alloca i64, align 8
+  store i64 %a, ptr %m, align 8
+  %x = load i64, ptr %m, align 8
+  %y = {f'trunc i64 %x to i{w}' if w < 64 else 'add i64 %x, 1'}
+  %r = freeze i{w} %y
+  ret i{w} %r""")
+case('freeze_of128', 64, [64, 64], """  %x = zext i64 %a to i128
+  %y = shl i128 %x, 61
+  %z = zext i64 %b to i128
+  %w = add i128 %y, %z
+  %f = freeze i128 %w
+  %h = lshr i128 %f, 64
+  %g = xor i128 %h, %f
+  %r = trunc i128 %g to i64
+  ret i64 %r""")
+case('freeze_of40', 64, [64], """  %x = trunc i64 %a to i40
+  %f = freeze i40 %x
+  %r = zext i40 %f to i64
+  ret i64 %r""")
+case('freeze_of_double', 64, [64], """  %x = uitofp i64 %a to double
+  %f = freeze double %x
+  %r = bitcast double %f to i64
+  ret i64 %r""")
+case('frozen_pointer', 64, [64], """  %m = alloca i64, align 8
+  store i64 %a, ptr %m, align 8
+  %f = freeze ptr %m
+  %r = load i64, ptr %f, align 8
+  ret i64 %r""")
+case('behind_null', 64, [64], """  %p = getelementptr i8, ptr null, i64 8
+  %q = getelementptr inbounds i8, ptr null, i64 %a
+  %x = ptrtoint ptr %p to i64
+  %y = ptrtoint ptr %q to i64
+  %z = mul i64 %y, 3
+  %r = add i64 %x, %z
+  ret i64 %r""", 'a < 99')
 case('same_way', 8, [8], """  %c = icmp eq i8 %a, 0
   br i1 %c, label %x, label %x
 x:
@@ -473,6 +736,10 @@ case('by_pointer', 64, [8, 64], """  %c = icmp ult i8 %a, 5
   %f = select i1 %c, ptr @triple, ptr @negated
   %r = call i64 %f(i64 %b)
   ret i64 %r""")
+case('by_pointer_of_two', 64, [8, 64], """  %c = icmp ult i8 %a, 5
+  %f = select i1 %c, ptr @minus, ptr @twice_minus
+  %r = call i64 %f(i64 %b, i64 3)
+  ret i64 %r""")
 case('is_even', 1, [8], """  %z = icmp eq i8 %a, 0
   br i1 %z, label %yes, label %no
 yes:
@@ -489,6 +756,62 @@ no:
   %b = sub i8 %a, 1
   %r = call i1 @is_even(i8 %b)
   ret i1 %r""")
+# A jump over a block that sets something: C++ allows none over a declaration that does.
+case('jump_over', 64, [8, 64], """  switch i8 %a, label %first [
+    i8 0, label %x
+    i8 1, label %second
+  ]
+x:
+  br label %first
+first:
+  %s = phi i64 [ 5, %0 ], [ %b, %x ]
+  %t = mul i64 %s, %b
+  %u = add i64 %t, 9
+  %v = mul i64 %u, %t
+  br label %second
+second:
+  %w = phi i64 [ %v, %first ], [ %b, %0 ]
+  %r = xor i64 %w, %b
+  ret i64 %r""")
+# A field that is kept is not the first one.
+case('kept_field', 64, [64, 64], """  %p = insertvalue { i64, i1 } poison, i64 %a, 0
+  %c = icmp ult i64 %a, %b
+  %q = insertvalue { i64, i1 } %p, i1 %c, 1
+  %s = insertvalue { i64, i1 } %q, i64 7, 0
+  %d = extractvalue { i64, i1 } %s, 1
+  %n = zext i1 %d to i64
+  %r = add i64 %n, 5
+  ret i64 %r""")
+# Arms that do the same, and then jump to other places.
+case('twins_far', 8, [8, 8], """  %m = alloca i8, align 1
+  %c = icmp ult i8 %a, 9
+  br i1 %c, label %x, label %y
+x:
+  store i8 %b, ptr %m, align 1
+  %d = icmp ult i8 %b, 64
+  br i1 %d, label %first, label %second
+y:
+  store i8 %b, ptr %m, align 1
+  %d2 = icmp ult i8 %b, 64
+  br i1 %d2, label %first, label %third
+first:
+  %e = icmp ult i8 %b, 8
+  br i1 %e, label %second, label %third
+second:
+  %v = load i8, ptr %m, align 1
+  %w = mul i8 %v, 3
+  store i8 %w, ptr %m, align 1
+  br label %out
+third:
+  %t = load i8, ptr %m, align 1
+  %u = add i8 %t, 100
+  store i8 %u, ptr %m, align 1
+  br label %out
+out:
+  %r = load i8, ptr %m, align 1
+  %f = mul i8 %r, %r
+  %g = add i8 %f, %r
+  ret i8 %g""")
 case('constants', 64, [8], """  %k = and i8 %a, 3
   %i = zext i8 %k to i64
   %p = getelementptr i8, ptr @table, i64 %i
@@ -550,6 +873,15 @@ define internal i64 @triple(i64 %n) {
   %r = mul i64 %n, 3
   ret i64 %r
 }
+define internal i64 @minus(i64 %n, i64 %m) {
+  %r = sub i64 %n, %m
+  ret i64 %r
+}
+define internal i64 @twice_minus(i64 %n, i64 %m) {
+  %k = shl i64 %n, 1
+  %r = sub i64 %k, %m
+  ret i64 %r
+}
 define internal i64 @negated(i64 %n) {
   %r = sub i64 0, %n
   ret i64 %r
@@ -576,6 +908,68 @@ EXPECTED = [(f'define i64 @f(ptr %a) {{\n  %r = load atomic i64, ptr %a {order},
      'attributes #0 = { cold noinline }\n', 'static COLD void c_f(void)', 'c_f();'),
     ('define i32 @f(i64 %a) {\n  %c = icmp eq i64 %a, 3\n  br i1 %c, label %x, label %y\nx:\n  ret i32 6\ny:\n'
      '  tail call void @f()\n  ret i32 0\n}\n', '\tif (RARE(n1 == 3))\n\t\treturn 6;'),
+    # A load that nothing uses orders what follows it.
+    ('define i64 @f(ptr %a, ptr %b) {\n  %x = load atomic i64, ptr %a acquire, align 8\n  %r = load i64, ptr %b, align 8\n  ret i64 %r\n}\n',
+     '\t(void)atomic_load64(p1, ORDER_ACQUIRE);\n\treturn load64(p2);'),
+    ('define i8 @f(ptr %a, ptr %b) {\n  %x = load volatile i8, ptr %a, align 1\n  ret i8 5\n}\n', '\t(void)load8_volatile(p1);'),
+    # What was read before a barrier, or before an atomic load, is not read behind it.
+    *[(f'define i64 @f(ptr %a, ptr %b) {{\n  %x = load i64, ptr %a, align 8\n  {between}\n  %r = add i64 %x, 3\n  ret i64 %r\n}}\n',
+       f'\tuint64_t n3 = load64(p1);\n\t{written}')
+      for between, written in (('call void asm sideeffect "", "~{memory}"()', 'BARRIER();'),
+                               ('%y = load atomic i8, ptr %b acquire, align 1', '(void)atomic_load8(p2, ORDER_ACQUIRE);'),
+                               ('%y = load volatile i8, ptr %b, align 1', '(void)load8_volatile(p2);'))],
+    # Alignment, and copies that overlap: most compilers and processors don't show that one is wrong.
+    ('define ptr @f(ptr %a) {\n  %r = load ptr, ptr %a, align 1\n  ret ptr %r\n}\n', 'loadptru(p1)',
+     'loadptru(const byte *p) { return (byte *)(uintptr_t)load64u(p); }'),
+    ('define void @f(ptr %a) {\n  store ptr %a, ptr %a, align 1\n  ret void\n}\n', 'storeptru(p1, p1)',
+     'storeptru(byte *p, byte *v) { store64u(p, (uint64_t)(uintptr_t)v); }'),
+    ('define void @f(ptr %a, ptr %b) {\n  call void @llvm.memmove.p0.p0.i64(ptr %a, ptr %b, i64 8, i1 false)\n  ret void\n}\n',
+     '\tmemmove(p1, p2, 8);'),
+    # A default that traps is no default that never is.
+    ('define i64 @f(i64 %a) {\n  switch i64 %a, label %x [\n    i64 1, label %y\n    i64 3, label %z\n  ]\nx:\n'
+     '  call void @llvm.trap()\n  unreachable\ny:\n  ret i64 6\nz:\n  ret i64 7\n}\n', '\tdefault: {\n\t\tTRAP();\n\t\tUNREACHABLE();\n'),
+    ('define internal void @f() #0 {\n  ret void\n}\ndefine void @g() {\n  call void @f()\n  ret void\n}\n'
+     'attributes #0 = { noinline }\n', 'static NOINLINE void c_f(void)'),
+    ('@x = private constant [2 x i8] c"ab", align 8\n', 'ALIGN(8) byte c_x[2] = { 97, 98 };'),
+    ('define i128 @f(ptr %a) {\n  %r = load i128, ptr %a, align 1\n  ret i128 %r\n}\n', 'load128u(p1)'),
+    # A name has as many parts as no other one has, or a number.
+    ('define void @"x::a::f"() {\n  ret void\n}\ndefine void @"y::a::f"() {\n  ret void\n}\n'
+     'define void @"y::a::f<z>"() {\n  ret void\n}\n', ' c_a_f(void)', ' c_y_a_f(void)', ' c_y_a_f_2(void)'),
+    # Each piece of a program has the constant, or one has it because its address says something.
+    *[(f'@x = private {unnamed}constant [1 x i8] c"a", align 1\ndefine void @timers_program_main() {{\n  ret void\n}}\n', written)
+      for unnamed, written in (('unnamed_addr ', '\nstatic const ALIGN(1) byte tp_x[1] = { 97 };\n'),
+                               ('', '#if !defined PIECE || PIECE == 0\nOWN const ALIGN(1) byte tp_x[1] = { 97 };\n#else\nextern '))],
+    # What may be any value is a 0 as wide as that is.
+    ('define i64 @f() {\n  %f = freeze i64 poison\n  %r = shl i64 %f, 40\n  ret i64 %r\n}\n', '(uint64_t)0 << 40'),
+    # Memory that was never written has one value.
+    (f'define i64 @f() {{\n  %m = alloca i64, align 8\n  %u = load i64, ptr %m, align 8\n  %f = freeze i64 %u\n'
+     '  %r = mul i64 %f, %f\n  ret i64 %r\n}\n', '\tALIGN(8) byte p1[8];\n\tuint64_t n2 = frozen64(load64(p1));\n\treturn n2 * n2;'),
+] + [
+    # An address is C's sum where the module reads or writes, and goes to a function that wants a value. Elsewhere it may be null's.
+    (f'define {result} @f(ptr %a, i64 %n, i1 %c) {{\n  %p = getelementptr inbounds i8, ptr %a, i64 8\n'
+     f'  %q = getelementptr inbounds i8, ptr %p, i64 %n\n{text}}}\n{more}', written)
+    for result, text, more, written in (
+        ('i1', '  %r = icmp eq ptr %p, null\n  ret i1 %r\n', '', 'at(p1, 8) == NULL'),
+        ('void', '  store ptr %p, ptr %a, align 8\n  ret void\n', '', 'storeptr(p1, at(p1, 8));'),
+        ('void', '  store i8 1, ptr %p, align 1\n  ret void\n', '', 'store8(p1 + 8, 1);'),
+        ('void', '  store i8 1, ptr %q, align 1\n  ret void\n', '', 'store8(inside(p1 + 8, n2), 1);'),
+        ('void', '  %s = getelementptr i8, ptr %a, i64 %n\n  store i8 1, ptr %s, align 1\n  ret void\n', '', 'store8(at(p1, n2), 1);'),
+        ('void', '  %s = getelementptr inbounds i8, ptr %a, i64 -8\n  store i8 1, ptr %s, align 1\n  ret void\n', '', 'store8(p1 - 8, 1);'),
+        ('void', '  %s = getelementptr i8, ptr null, i64 8\n  store i8 1, ptr %s, align 1\n  ret void\n', '', 'store8(at(NULL, 8), 1);'),
+        ('void', '  %s = getelementptr i8, ptr %a, i64 -8\n  store i8 1, ptr %s, align 1\n  ret void\n', '',
+         'store8(at(p1, UINT64_C(18446744073709551608)), 1);'),
+        ('void', '  call void @llvm.memmove.p0.p0.i64(ptr %p, ptr %a, i64 %n, i1 false)\n  ret void\n', '', '\tmemmove(at(p1, 8), p1, (size_t)n2);'),
+        ('i1', '  br i1 %c, label %x, label %y\nx:\n  br label %y\ny:\n  %s = phi ptr [ %p, %0 ], [ null, %x ]\n'
+         '  %r = icmp eq ptr %s, %a\n  ret i1 %r\n', '', ' = at(p1, 8);\n'),
+        ('ptr', '  ret ptr %p\n', '', 'return at(p1, 8);'), ('noundef ptr', '  ret ptr %p\n', '', 'return p1 + 8;'),
+        ('ptr', '  %r = select i1 %c, ptr null, ptr %q\n  ret ptr %r\n', '', 'b3 ? NULL : at(at(p1, 8), n2)'),
+        ('void', '  call void @g(ptr %p)\n  ret void\n', 'define internal void @g(ptr %a) {\n  ret void\n}\n', 'c_g(at(p1, 8));'),
+        ('void', '  call void @g(ptr %p)\n  ret void\n', 'define internal void @g(ptr noundef %a) {\n  ret void\n}\n', 'c_g(p1 + 8);'),
+        ('void', '  br i1 %c, label %x, label %y\nx:\n  ret void\ny:\n  store i8 1, ptr %q, align 1\n  store i8 1, ptr %q, align 1\n  ret void\n', '',
+         '\tbyte *p4 = at(at(p1, 8), n2);\n\tif (b3)'),
+        ('void', '  store i8 1, ptr %q, align 1\n  store i8 1, ptr %q, align 1\n  ret void\n', '', '\tbyte *p4 = inside(p1 + 8, n2);'),
+        ('void', '  call void @g()\n  store i8 1, ptr %q, align 1\n  store i8 1, ptr %q, align 1\n  ret void\n', 'declare void @g()\n',
+         '\tbyte *p4 = at(at(p1, 8), n2);\n\tg();'))
 ] + [
     # The first variant of an enum; of no number wider than that, since what compilers are told is a long.
     (f'define i64 @f(i{bits} %a) {{\n  switch i{bits} %a, label %x [\n    i{bits} {first}, label %y\n    i{bits} 3, label %z\n'
@@ -591,6 +985,79 @@ EXPECTED = [(f'define i64 @f(ptr %a) {{\n  %r = load atomic i64, ptr %a {order},
                                   ('%u2, %u2', '%v2', '\tif (load8(p1) == 0) {'), ('%u2, %n', '%n', '\tif (load8(p1) != 0) {'),
                                   ('%n, %u2', '%v2', '\tif (load8(p1) == 0) {'))
 ]
+
+# Names of fields: of a call of the library, of functions that it calls, and of one that two call with other types.
+NAMED = ''.join(f'define internal void @"{path}"() #0 {{\n  ret void\n}}\n' for path in SMOOTH) + """define internal void @"timer_wheels::hier::HierWheel::move"(ptr noundef %w) {
+  %p = getelementptr inbounds i8, ptr %w, i64 256
+  %k = getelementptr inbounds i8, ptr %w, i64 40
+  %n = load i64, ptr %p, align 8
+  %m = add i64 %n, 1
+  store i64 %m, ptr %p, align 8
+  call void @both(ptr %k)
+  call void @links(ptr %k)
+  ret void
+}
+define internal void @both(ptr noundef %x) {
+  %p = getelementptr inbounds i8, ptr %x, i64 8
+  store i64 7, ptr %p, align 8
+  ret void
+}
+define internal void @links(ptr noundef %x) {
+  %p = getelementptr inbounds i8, ptr %x, i64 64
+  store i64 11, ptr %p, align 8
+  ret void
+}
+define i32 @timers_stop(ptr %t, i64 %place, i64 %serial, ptr %action) {
+  %mark.at = getelementptr inbounds i8, ptr %t, i64 8
+  %mark = load i64, ptr %mark.at, align 8
+  %c = icmp eq i64 %mark, 1
+  br i1 %c, label %open, label %shut
+shut:
+  ret i32 1
+open:
+  %all = load ptr, ptr %t, align 8
+  %w = getelementptr inbounds i8, ptr %all, i64 8
+  call void @"timer_wheels::hier::HierWheel::move"(ptr noundef %w)
+  call void @both(ptr %all)
+  %tick.at = getelementptr inbounds i8, ptr %all, i64 24
+  %links = getelementptr inbounds i8, ptr %all, i64 48
+  call void @links(ptr %links)
+  %other.at = getelementptr inbounds i8, ptr %all, i64 136
+  %tick = load i64, ptr %tick.at, align 8
+  %tick1 = add i64 %tick, %place
+  store i64 %tick1, ptr %tick.at, align 8
+  store i64 %tick, ptr %other.at, align 8
+  %rows = load ptr, ptr %links, align 8
+  %far = shl i64 %place, 5
+  %near = shl i64 %place, 4
+  %entry = getelementptr inbounds i8, ptr %rows, i64 %far
+  %part = getelementptr inbounds i8, ptr %rows, i64 %near
+  %field = getelementptr inbounds i8, ptr %entry, i64 24
+  %none = getelementptr inbounds i8, ptr %part, i64 24
+  %a = load i64, ptr %field, align 8
+  %b = load i64, ptr %none, align 8
+  %found = icmp eq i64 %a, %serial
+  %either = select i1 %found, ptr %entry, ptr %t
+  %x = getelementptr inbounds i8, ptr %either, i64 16
+  store i64 %a, ptr %x, align 8
+  store i64 %b, ptr %action, align 8
+  ret i32 0
+}
+define i64 @timers_expire_batch(ptr %t, ptr %out, i64 %room) {
+  ret i64 %room
+}
+attributes #0 = { noinline }
+"""
+EXPECTED.append((NAMED, '\tif (RARE(load64(t + CTimers_mark) != 1))\n\t\treturn TIMERS_NOT_OPEN;\n\tbyte *timers1 = loadptr(t + CTimers_at);\n',
+                 '\tstore64(wheel1 + HierWheel_moves, load64(wheel1 + HierWheel_moves) + 1);\n\ttm_both(wheel1 + HierWheel_links);\n',
+                 'tm_HierWheel_move(timers1 + Timers_hier_or_smooth);\n\ttm_both(timers1);\n\ttm_links(timers1 + Timers_links);\n',
+                 'tm_both(byte *p1)\n{\n\tstore64(p1 + 8, 7);\n', 'tm_links(byte *links1)\n{\n\tstore64(links1 + Links_lists, 11);\n',
+                 '\tuint64_t tick2 = load64(timers1 + Timers_tick);\n\tstore64(timers1 + Timers_tick, tick2 + handle_1);\n',
+                 '\tstore64(timers1 + 136, tick2);\n', 'byte *entry4 = inside(entry3, handle_1 << 5);\n',
+                 'action5 = load64(entry4 + UnownedEntry_action);\n', 'n6 = load64(inside(entry3, handle_1 << 4) + 24);\n',
+                 '\tstore64(((action5 == handle_2) ? entry4 : t) + 16, action5);\n', '\treturn TIMERS_OK;\n',
+                 'Links_lists = 64', 'HierWheel_links = 40, HierWheel_moves = 256',
+                 '/* Stops the timer with exactly this handle', ' -> IsOpen t.old }', ' and Does (Stopped (base_handle handle) timer) t.old t.new)', '(byte *t, byte *out, uint64_t out_length)\n'))
 
 # Text, and the line that has to be named.
 REFUSED = [
@@ -632,6 +1099,13 @@ REFUSED = [
     ('@x = internal constant i64 0, align 8\n', 1),
     ('@x = internal constant <{ i8, i64 }> <{ i8 0, i64 1 }>, align 1\n', 1),
     ('target datalayout = "E-m:e-i64:64"\n', 1),
+    ('target datalayout = "e-p:32:32-i64:64"\n', 1),
+    ('target datalayout = "e-m:e-P1-i64:64"\n', 1),
+    *[(f'define void @f() #0 {{\n  ret void\n}}\nattributes #0 = {{ nounwind {word} }}\n', 4)
+      for word in ('null_pointer_is_valid', 'strictfp', '"denormal-fp-math"="preserve-sign"', '"no-nans-fp-math"="true"')],
+    ('@y = private constant [1 x i8] zeroinitializer, align 1\n'
+     '@x = internal constant <{ [3 x i8], ptr }> <{ [3 x i8] zeroinitializer, ptr @y }>, align 8\n', 2),
+    ('define { i64, i1 } @f({ i64, i1 } %a) {\n  %r = freeze { i64, i1 } %a\n  ret { i64, i1 } %r\n}', 2),
     ('define void @f() personality ptr null {\n  ret void\n}', 1),
     ('define void @f(ptr byval(i64) %a) {\n  ret void\n}', 1),
     ('define void @f() {\n  musttail call void @f()\n  ret void\n}', 2),

@@ -18,7 +18,7 @@ def toolchain_clang():
 
 
 def write(path, text):
-    with open(path, 'w', encoding='ascii') as file:
+    with open(path, 'w', encoding='utf-8') as file:
         file.write(text)
 
 
@@ -61,6 +61,13 @@ def program(translated):
     calls = ''.join(f'\ttry_{name}();\n' for name, *_ in cases.FUNCTIONS)
     return f'''#include <stdint.h>
 #include <stdio.h>
+#ifdef PLAIN_C                                          /* as a compiler that has nothing but C11 */
+#include <stdatomic.h>
+#include <stdlib.h>
+#include <string.h>
+#undef __GNUC__
+#undef __SIZEOF_INT128__
+#endif
 #ifdef __cplusplus
 #define REFERENCE extern "C"
 #else
@@ -115,7 +122,10 @@ tools, *paths = sys.argv[1:]
 sys.path.insert(0, tools)
 ends = []
 for path in paths:
-    sys.argv, error = [tools + "/translate", "test", path], None
+    with open(path) as file:
+        text = file.read()
+        kind = "program" if "@timers_program_main" in text else "timers" if "@timers_" in text else "test"
+    sys.argv, error = [tools + "/translate", kind, path], None
     with contextlib.redirect_stdout(io.StringIO()) as output:
         try:
             runpy.run_path(sys.argv[0], run_name="__main__")

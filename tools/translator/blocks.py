@@ -11,7 +11,8 @@ import re
 from collections import namedtuple
 
 from translator import expressions
-from translator.expressions import PURE, Expression, access, c_type, call, cast, intrinsic, number, plus, variable
+from translator.expressions import PURE, Expression, access, c_type, call, cast, intrinsic, literal, number, plus, variable
+from translator.instructions import names_in
 from translator.lines import AddressOf, Global, Local, Number, Offset, Real, Struct, Zero
 from translator.statements import Statement, branch
 
@@ -27,12 +28,14 @@ def is_trap(i):
 
 
 def is_optional(i):
-    """Whether nothing is lost without it if nothing uses its value."""
-    return i.op in PURE and not getattr(i, 'volatile', False) or i.op in ('phi', 'alloca', 'insertvalue', 'ignored')
+    """Whether nothing is lost without it if nothing uses its value. An atomic load also orders what follows it."""
+    return i.op in PURE and not (i.op == 'load' and (i.order or i.volatile)) or i.op in ('phi', 'alloca', 'insertvalue', 'ignored')
 
 
 class Writer:
-    def __init__(self, function, names, constants, words=()):
+    def __init__(self, function, names, constants, words=(), any_value=()):
+        """`any_value`: of functions of the module, the places of arguments that may be any value, poison too."""
+        self.any_value = dict(any_value)
         self.words = words if len(words) == len(function.parameters) else ()
         self.function, self.flow, self.names, self.constants = function, function.flow, names, constants
         self.values = {}                                # the expression of each value
@@ -89,7 +92,7 @@ class Writer:
             self.waiting.pop(value.name, None)
             return self.values[value.name]
         if isinstance(value, Number):
-            return Expression(number(value.number, of))
+            return literal(number(value.number, of))
         if isinstance(value, Real):
             return Expression(f'double_of({number(value.bits, 64)})')
         if isinstance(value, Zero):
@@ -98,7 +101,9 @@ class Writer:
             # A struct's address needs an operator, that of an array or a function none.
             sign = '&' if value.name in self.constants and isinstance(self.constants[value.name].of, Struct) else ''
             middle = '' if value.name in self.constants else '(uintptr_t)'
-            return Expression(f'(byte *){middle}{sign}{self.names[value.name]}', expressions.UNARY)
+            found = Expression(f'(byte *){middle}{sign}{self.names[value.name]}', expressions.UNARY)
+            found.room = getattr(getattr(self.constants.get(value.name), 'of', None), 'length', -1)
+            return found
         if isinstance(value, Offset):
             return plus(self.value('ptr', value.base), value.offset)
         if isinstance(value, AddressOf):
@@ -109,7 +114,7 @@ class Writer:
         if isinstance(of, Struct):
             return call(f'{c_type(of)}_of', *[self.zero(field) for field in of.fields])
         if isinstance(of, int):
-            return Expression(number(0, of))
+            return literal(number(0, of))
         known = {'ptr': 'NULL', 'double': '0.0', expressions.Vector(16, 8): 'bytes16_zero()'}
         if of not in known:
             self.function.line.fail(f'a zero of type {of}')
@@ -128,7 +133,33 @@ class Writer:
 
     def let(self, i, e, out):
         self.values[i.name] = self.new(i.type)
-        out.append(Statement('set', e, self.values[i.name].text))
+        out.append(Statement('set', e if self.is_accessed(i) else e.anywhere, self.values[i.name].text))
+
+    def operand(self, i, place):
+        """The expression of an operand. An address that C adds up has to be inside its object, so it is if the module says so."""
+        e = self.value(*i.operands[place])
+        return e if self.is_access(i, place) else e.anywhere
+
+    def is_access(self, i, place):
+        """Whether the module is wrong if this operand is the address of no object: it is read or written there."""
+        if i.op == 'call' and isinstance(i.callee, Global):
+            if i.callee.name.startswith('llvm.mem'):
+                return place < 2 and getattr(i.operands[2][1], 'number', 0) > 0
+            return place not in self.any_value.get(i.callee.name, ())
+        return place == 0 and i.op in ('load', 'store', 'atomicrmw', 'getelementptr') or i.op == 'ret' and self.function.noundef
+
+    def is_accessed(self, i):
+        """Whether the block goes on to read or write at this address, or at one that is added up from it."""
+        block = self.function.blocks[self.label]
+        names = {i.name}
+        for other in block[block.index(i) + 1:]:
+            if any(self.is_access(other, place) for place, (_, value) in enumerate(other.operands) if names.intersection(names_in(value))):
+                if other.op != 'getelementptr':
+                    return True
+                names.add(other.name)
+            if other.op == 'call' and not getattr(other.callee, 'name', '').startswith('llvm.'):
+                return False                            # it may not return
+        return False
 
     def before_a_change(self, out):
         """What waits, and reads memory, is written now."""
@@ -147,7 +178,7 @@ class Writer:
             if i.op == 'phi' and i.name in self.uses:
                 self.phi(i)
             elif i.name in self.uses or not is_optional(i):
-                self.instruction(i, [self.value(*operand) for operand in i.operands], out)
+                self.instruction(i, [self.operand(i, place) for place in range(len(i.operands))], out)
         return out
 
     def instruction(self, i, operands, out):
@@ -177,6 +208,7 @@ class Writer:
         name = self.new('ptr').text
         self.memory.append((name, max(i.size, 1), i.alignment))
         self.values[i.name] = variable(name)
+        self.values[i.name].room = i.size
 
     def insertvalue(self, i, whole, part):
         of = i.type
@@ -245,6 +277,8 @@ class Writer:
         following = [c for c in self.flow.below[label] if not self.stands_alone(label, c)]
         following.sort(key=self.flow.at.get)
         out += self.ending(label, inner._replace(after=following[0] if following else inner.after))
+        if out:
+            out[0].begins = [label]
         out += self.sequence(following, inner)
         if label in self.flow.loops:
             out = [Statement('loop', name=label, bodies=(out,)), *self.sequence(behind, context)]
@@ -299,12 +333,13 @@ class Writer:
         for i in others:
             if value == Local(i.name):
                 value = i.incoming[label]
-        return [Statement('return', self.value(of, value))]
+        e = self.value(of, value)
+        return [Statement('return', e if self.function.noundef else e.anywhere)]
 
     def copies(self, label, target):
         """What a jump sets. One that another one reads is set after it."""
         phis = [i for i in self.function.blocks[target] if i.op == 'phi' and i.name in self.uses]
-        left = [(self.phi(i).text, self.value(i.type, i.incoming[label])) for i in phis]
+        left = [(self.phi(i).text, self.value(i.type, i.incoming[label]).anywhere) for i in phis]
         left = [(name, e) for name, e in left if name != e.text]
         out = []
         while left:
@@ -319,7 +354,7 @@ class Writer:
 
     def ending(self, label, context):
         last = self.function.blocks[label][-1]
-        operands = [self.value(*operand) for operand in last.operands]
+        operands = [self.operand(last, place) for place in range(len(last.operands))]
         if last.op == 'ret':
             return [Statement('return', *operands)]
         if last.op == 'unreachable':
@@ -339,6 +374,8 @@ class Writer:
             condition = Expression(f'{e} == {cases[first][0]}', expressions.BINARY, [e], opposite=f'{e} != {cases[first][0]}')
             return branch(condition, self.jump(label, first, context), self.jump(label, second, context))
         cases[last.default] = []
+        if e.literal:
+            e = cast(c_type(last.operands[0][0]), e)
         if last.operands[0][0] == 8 and '0' in next(iter(cases.values())):
             # An enum, whose first variant is the usual one: compilers are told, so that they ask for it first.
             e = e.call('MOSTLY_0')

@@ -1,10 +1,11 @@
 """Expressions of C, and those of the instructions that change nothing.
 
-What C leaves undefined and the module does not is never written. Arithmetic is that of unsigned numbers. What is narrower than
-`int` is cast back to its width. Counts of shifts are masked. An address is a sum of integers, unless the module says that it is
-inside its object. Comparisons of order are those of integers."""
+What C leaves undefined and the module does not is never written, but for what docs/proofs.md names. Arithmetic is that of
+unsigned numbers. What is narrower than `int` is cast back to its width, and a literal is cast where C would compute with ints.
+Counts of shifts are masked. An address is a sum of integers, unless the module reads or writes there: then it has to be inside
+its object. Comparisons of order are those of integers."""
 # SPDX-License-Identifier: MIT OR Apache-2.0
-from translator.lines import Number, Struct, Vector, Zero
+from translator.lines import Number, Real, Struct, Vector, Zero
 
 TYPES = {1: 'bool', 8: 'uint8_t', 16: 'uint16_t', 32: 'uint32_t', 40: 'uint64_t', 48: 'uint64_t', 56: 'uint64_t', 64: 'uint64_t', 128: 'u128',
          'ptr': 'byte *', 'double': 'double', 'void': 'void', Vector(16, 8): 'bytes16', Vector(64, 8): 'bytes64',
@@ -19,13 +20,15 @@ ATOM, UNARY, BINARY, CHOICE = range(4)
 
 class Expression:
     """`variables`: those that it names. `reads`: whether it reads memory. `opposite`: of a condition, the text of its
-    opposite. `base` and `offset`: of an address, what a further offset is added to."""
+    opposite. `base` and `offset`: of an address, what a further offset is added to. `anywhere`: the same address where nothing
+    says that it is inside an object. `room`: of a whole object, its bytes. `literal`: whether C may take it for an int."""
 
-    def __init__(self, text, level=ATOM, operands=(), reads=False, opposite=None, base=None, offset=0):
+    def __init__(self, text, level=ATOM, operands=(), reads=False, opposite=None, base=None, offset=0, anywhere=None):
         self.text, self.level, self.opposite = text, level, opposite
         self.variables = frozenset().union(*[e.variables for e in operands])
         self.reads = reads or any(e.reads for e in operands)
-        self.base, self.offset, self.shifted = base or self, offset, None
+        self.base, self.offset, self.shifted, self.literal = base or self, offset, None, False
+        self.anywhere, self.room = anywhere or self, -1
 
     def __str__(self):
         """As an operand."""
@@ -47,6 +50,12 @@ def call(function, *operands, reads=False):
 
 def cast(ctype, e):
     return Expression(f'({ctype}){e}', UNARY, [e])
+
+
+def literal(text):
+    found = Expression(text)
+    found.literal = True
+    return found
 
 
 def c_type(of):
@@ -88,12 +97,13 @@ def opposite(e):
 
 def plus(pointer, offset, inside=True):
     """A pointer that is moved by a constant: to a field, where it is not said that both places are inside one object."""
-    if not inside and offset < 0:
-        return Expression(f'at({pointer.text}, {number(offset, 64)})', ATOM, [pointer])
+    if not inside and offset < 0 or pointer.text == 'NULL':
+        return call('at', pointer.anywhere, Expression(number(offset, 64)))
     base, offset = pointer.base, pointer.offset + offset
     if offset == 0:
         return base
-    return Expression(f'{base} {"+" if offset > 0 else "-"} {abs(offset)}', BINARY, [base], base=base, offset=offset)
+    anywhere = None if 0 <= offset <= base.room else call('at', base.anywhere, Expression(number(offset, 64)))
+    return Expression(f'{base} {"+" if offset > 0 else "-"} {abs(offset)}', BINARY, [base], base=base, offset=offset, anywhere=anywhere)
 
 
 # ------------------------------------------------------------------------------------------------------------- arithmetic
@@ -124,10 +134,10 @@ def sum_or_product(i, left, right):
     if i.op == 'and' and isinstance(constant, Number) and left.shifted:
         # All bits of a shifted number but the lowest: passes write so what is shifted further and back.
         e, count = left.shifted
-        lowest = (-constant.number & constant.number).bit_length() - 1
+        lowest = max((-constant.number & constant.number).bit_length() - 1, 0)
         if constant.number == (1 << i.type - count) - (1 << lowest):
             return Expression(f'({e} >> {count + lowest}) << {lowest}', BINARY, [e])
-    if isinstance(constant, Number) and isinstance(i.operands[0][1], Number):
+    if left.literal and right.literal:
         left = cast(TYPES[i.type], left)                # C's would be an operation of ints
     if i.op in ('add', 'sub') and isinstance(constant, Number) and constant.number < 0:
         sign = {'add': '-', 'sub': '+'}[i.op]
@@ -148,7 +158,7 @@ def shift(i, left, right):
         right = Expression(f'{right} & {i.type - 1}', BINARY, [right])
     if i.type < 32:
         left = cast('uint32_t', left)
-    elif isinstance(i.operands[0][1], Number):
+    elif left.literal:
         left = cast(TYPES[i.type], left)
     found = Expression(f'{left} {SIGNS[i.op]} {right}', BINARY, [left, right])
     if i.op == 'lshr' and i.type == 64 and isinstance(count, Number):
@@ -252,7 +262,7 @@ def bitcast(to, of, e):
 CONVERSIONS = {
     'zext': (zext, lambda to, of: of in (1, *WIDTHS) and to in (*WIDTHS, 128) or of in ODD_WIDTHS and to == 64),
     'sext': (sext, lambda to, of: of == 1 and to in WIDTHS or (to, of) == (Vector(64, 8), Vector(64, 1))),
-    'trunc': (trunc, lambda to, of: of in (*WIDTHS, 128) and to in (1, *WIDTHS) or of == 64 and to in ODD_WIDTHS),
+    'trunc': (trunc, lambda to, of: of in (*WIDTHS, *ODD_WIDTHS, 128) and to in (1, *WIDTHS) or of == 64 and to in ODD_WIDTHS),
     'bitcast': (bitcast, lambda to, of: (to, of) in ((16, Vector(16, 1)), (64, 'double'), ('double', 64))),
     'uitofp': (lambda to, of, e: cast('double', e), lambda to, of: to == 'double' and of in WIDTHS),
     'ptrtoint': (lambda to, of, e: cast('uint64_t', cast('uintptr_t', e)), lambda to, of: to == 64),
@@ -277,14 +287,16 @@ def select(i, condition, first, second):
     if i.type == 1 and first.text == 'true':
         return Expression(f'{condition} || {second}', BINARY, [condition, second])
     found = Expression(f'{condition} ? {first} : {second}', CHOICE, [condition, first, second])
-    both = all(isinstance(value, Number) for _, value in i.operands[1:])
-    return cast(TYPES[i.type], found) if both and i.type != 1 else found
+    return cast(TYPES[i.type], found) if first.literal and second.literal and i.type != 1 else found
 
 
 def address(i, base, index=None):
     if index is None:
         return plus(base, i.offset, i.inbounds)
-    return call('inside' if i.inbounds else 'at', base, index)
+    anywhere = call('at', base.anywhere, index)
+    if not i.inbounds or base.text == 'NULL':
+        return anywhere
+    return Expression(f'inside({base.text}, {index.text})', ATOM, [base, index], anywhere=anywhere)
 
 
 def access(i, of, alignment):
@@ -301,14 +313,23 @@ def load(i, pointer):
     return call(f'load{access(i, i.type, i.alignment)}', pointer, reads=True)
 
 
+def freeze(i, e):
+    """One value, also of memory that was never written: C could have another one at each use."""
+    if isinstance(i.operands[0][1], (Number, Zero, Real)):
+        return e
+    if i.type not in (1, *WIDTHS, *ODD_WIDTHS, 128, 'ptr', 'double'):
+        i.line.fail(f'freeze of {i.type}')
+    return call(f'frozen{64 if i.type in ODD_WIDTHS else i.type}', e)
+
+
 def extractvalue(i, e):
     return Expression(f'{e}.f{i.index}', ATOM, [e])
 
 
 PURE = dict.fromkeys(SIGNS, binary)
 PURE.update(dict.fromkeys(CONVERSIONS, convert))
-PURE.update(icmp=compare, fcmp=compare_doubles, select=select, getelementptr=address, load=load, extractvalue=extractvalue)
-PURE['freeze'] = lambda i, e: e
+PURE.update(icmp=compare, fcmp=compare_doubles, select=select, getelementptr=address, load=load, extractvalue=extractvalue,
+            freeze=freeze)
 PURE['shufflevector'] = lambda i, e: call('bytes64_part', e, Expression(str(i.part)))
 
 

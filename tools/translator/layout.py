@@ -4,12 +4,13 @@ that hold all its uses. No goto jumps over a declaration that sets something, so
 import re
 
 from translator.expressions import declared, opposite
+from translator.hints import Hints
 from translator.statements import Likeness, ends, labels_wanted, splice
 
 
 class Layout:
     def __init__(self, writer, body):
-        self.types, self.lines = writer.types, []
+        self.types, self.lines, self.hints = writer.types, [], Hints(writer)
         self.of = writer.function.type
         self.labels = {label: None for label in labels_wanted(body)}
         splice(body, self.labels)
@@ -29,7 +30,9 @@ class Layout:
         for place, s in enumerate(body):
             if s.kind == 'if' and all(s.bodies):
                 own = [{name for name, path in self.scopes.items() if any(arm is one for one in path)} for arm in s.bodies]
-                if Likeness(s.bodies, own).found:
+                likeness = Likeness(s.bodies, own, self.types)
+                if likeness.found:
+                    self.hints.merged(s, likeness.pairs[True][1])
                     body[place:place + 1] = s.bodies[0]
                     return True
             if any(map(self.join, s.bodies)):
@@ -84,6 +87,7 @@ class Layout:
         if write:
             write(s, indent)
         else:
+            self.hints.line(s, len(self.lines))
             self.lines.append(f'{indent}{self.simple(s, declares)};')
 
     def simple(self, s, declares):
@@ -111,6 +115,7 @@ class Layout:
             if body:
                 self.braces('{', body, indent)
         elif body and body[0].kind == 'if' and [[inner.kind for inner in arm] for arm in body[0].bodies] == [['break'], []]:
+            self.hints.line(body[0], len(self.lines))
             self.braces(f'while ({opposite(body.pop(0).e).text}) {{', body, indent)
         else:
             self.braces('for (;;) {', body, indent)
@@ -122,6 +127,7 @@ class Layout:
 
     def branch(self, s, indent, word='if'):
         then, other = s.bodies
+        self.hints.line(s, len(self.lines))
         if word == 'if' and not other and len(then) == 1 and not then[0].bodies and id(then) not in self.here:
             self.lines.append(f'{indent}if (RARE({s.e.text}))' if self.is_refusal(then[0]) else f'{indent}if ({s.e.text})')
             self.statement(then[0], indent + '\t')
@@ -140,6 +146,7 @@ class Layout:
         return self.of == 32 and s.kind == 'return' and re.fullmatch(r'[1-9]\d*', s.e.text)
 
     def switch(self, s, indent):
+        self.hints.line(s, len(self.lines))
         self.lines.append(f'{indent}switch ({s.e.text}) {{')
         for numbers, body in zip(s.cases, s.bodies):
             self.lines += [f'{indent}case {number}:' for number in numbers] or [f'{indent}default:']

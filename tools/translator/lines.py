@@ -36,7 +36,7 @@ TOKEN = re.compile(r'''\s*(?:
   | (?P<real>-?\d+\.\d+e[-+]\d+|0x[0-9A-F]{16}\b)
   | (?P<number>-?\d+(?![\w.]))
   | (?P<word>[A-Za-z_][\w.]*)
-  | (?P<mark>[(){}\[\]<>,=*])
+  | (?P<mark>[(){}\[\]<>,=*:])
 )''', re.X)
 
 # What promises something, or is about linking, or about how a call is made: read and dropped.
@@ -128,12 +128,15 @@ class Line:
         return found
 
     def attributes(self):
-        """Drops those that stand before a value, or with the result or the end of a function's head."""
+        """Reads those that stand before a value, or with the result or the end of a function's head."""
+        found = set()
         while self.peek() in DROPPED or self.peek() in DROPPED_WITH_MORE:
-            if self.next() == 'align':
+            found.add(self.next())
+            if self.tokens[self.at - 1][1] == 'align':
                 self.integer()
             elif self.peek() == '(':
                 self.skip_parentheses()
+        return found
 
     def skip_parentheses(self):
         self.want('(')

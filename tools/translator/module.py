@@ -7,8 +7,14 @@ from translator.flow import Flow
 from translator.instructions import instruction, names_in
 from translator.lines import Global, Line, Struct
 
-Constant = namedtuple('Constant', 'name of value alignment constant line')
-Parameter = namedtuple('Parameter', 'name of')
+# `unnamed`: whether nothing depends on its address, so that another with the same bytes may stand for it.
+Constant = namedtuple('Constant', 'name of value alignment constant unnamed line')
+Parameter = namedtuple('Parameter', 'name of noundef')
+# Attributes that promise something, or are about how code is made, and those that Function looks at. The others are refused.
+ATTRIBUTES = set('''alwaysinline cold hot inlinehint minsize mustprogress nobuiltin nocallback nocreateundeforpoison nofree
+    noinline norecurse noreturn nosync nounwind optsize memory speculatable uwtable willreturn allockind allocsize alloc-family
+    frame-pointer min-legal-vector-width no-trapping-math probe-stack rattle-sig stack-probe-size stack-protector-buffer-size target-cpu
+    target-features tune-cpu'''.split())
 LABEL = re.compile(r'("[^"]*"|[-\w.$]+):')
 
 
@@ -19,7 +25,7 @@ class Function:
         self.line = line
         line.want('define')
         self.internal = line.eat('internal')
-        line.attributes()
+        self.noundef = 'noundef' in line.attributes()
         self.type = line.type()
         self.name = line.name('globl')
         line.want('(')
@@ -31,8 +37,8 @@ class Function:
 
     def parameter(self):
         of = self.line.type()
-        self.line.attributes()
-        return Parameter(self.line.name('local'), of)
+        noundef = 'noundef' in self.line.attributes()
+        return Parameter(self.line.name('local'), of, noundef)
 
     def read(self, lines):
         label = None
@@ -57,18 +63,43 @@ class Function:
         self.structs = {of for of, _ in [*operands, *[(i.type, None) for i in instructions]] if isinstance(of, Struct)}
 
 
+def group(line):
+    """The name and the words of a group of attributes. Each has to be known: some change what a function does."""
+    line.want('attributes')
+    name, words = line.next(), []
+    line.want('=')
+    line.want('{')
+    while not line.eat('}'):
+        words.append(line.next().strip('"'))
+        if words[-1] not in ATTRIBUTES:
+            line.fail(f'unknown attribute "{words[-1]}"')
+        if line.eat('='):
+            line.next()
+        elif line.peek() == '(':
+            line.skip_parentheses()
+    line.ended()
+    return name, words
+
+
+def read_layout(line):
+    """Little-endian, with pointers of 64 bits, and one space of addresses for code, constants and the stack."""
+    parts = line.text.split('"')[1].split('-')
+    if parts[0] != 'e' or any(re.match(r'[AGP]|p0?:(?!64:64)', part) for part in parts):
+        line.fail('an unknown layout of data')
+
+
 class Module:
     def __init__(self, text):
         self.functions, self.constants, self.declared, self.structs = [], {}, set(), set()
-        groups = {name: words.split() for name, words in re.findall(r'^attributes (#\d+) = \{(.*)\}$', text, re.M)}
+        groups = dict(group(Line(text, number)) for number, text in enumerate(text.split('\n'), 1) if text.startswith('attributes '))
         lines = enumerate(text.split('\n'), 1)
         for number, text in lines:
             if not text.strip() or text.startswith((';', 'source_filename', 'attributes ', '!', 'target triple')):
                 continue
-            if text.startswith('target datalayout = "e-'):      # little-endian
-                continue
             line = Line(text, number)
-            if text.startswith('@'):
+            if text.startswith('target datalayout = '):
+                read_layout(line)
+            elif text.startswith('@'):
                 self.read_constant(line)
             elif text.startswith('declare '):
                 line.next()
@@ -88,6 +119,7 @@ class Module:
         line.want('=')
         if not (line.eat('private') or line.eat('internal')):
             line.fail('a global that others see')
+        unnamed = line.peek() in ('unnamed_addr', 'local_unnamed_addr')
         line.attributes()
         constant = line.peek() == 'constant'
         if line.next() not in ('constant', 'global'):
@@ -95,5 +127,5 @@ class Module:
         of, value = line.typed()
         alignment = line.alignment()
         line.ended()
-        self.constants[name] = Constant(name, of, value, alignment, constant, line)
+        self.constants[name] = Constant(name, of, value, alignment, constant, unnamed, line)
 

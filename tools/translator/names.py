@@ -41,19 +41,35 @@ class Names(dict):
         return f'{name}_{number}'
 
 
-def source_of(symbol, crates):
-    """The function of the crates that a symbol is, its file if it is one of ours, and the words of its parameters if C calls it."""
-    path = path_of(symbol)
-    if len(path) == 1:
-        for name in sorted(name for crate in crates for name in glob.glob(f'{TOP}/crates/{crate}/src/*.rt')):
-            found = re.search(rf'fn {symbol}\(([^)]*)\)', read(name))
-            if found:
-                return f'{symbol}: {os.path.relpath(name, TOP)}', words_of(found.group(1))
-    for count in range(len(path) - 1, 1, -1):
-        name = f'crates/{path[0]}/src/{"/".join(path[1:count])}.rt'
-        if os.path.exists(f'{TOP}/{name}'):
-            return f'{"::".join(path)}: {name}', []
-    return '::'.join(path), []
+# Signs of contracts, and what stands for them in C: some compilers read ASCII alone.
+SIGNS = str.maketrans({'≡': '=', '≢': '!=', '≤': '<=', '→': '->', '↔': '<->', '×': 'and', '⊎': 'or'})
+
+
+class Source:
+    """The function of the crates that a symbol is: `text` names it and its file, if that is one of ours. If C calls it, `words` are
+    those of its parameters, `types` the crate's of what these point to, and `contract` has the lines of what is said of it, and proved."""
+
+    def __init__(self, symbol, crates):
+        path = path_of(symbol)
+        self.text, self.words, self.types, self.contract = '::'.join(path), [], None, []
+        if len(path) == 1:
+            for name in sorted(name for crate in crates for name in glob.glob(f'{TOP}/crates/{crate}/src/*.rt')):
+                self.find_export(symbol, name)
+            return
+        for count in range(len(path) - 1, 1, -1):
+            name = f'crates/{path[0]}/src/{"/".join(path[1:count])}.rt'
+            if os.path.exists(f'{TOP}/{name}'):
+                self.text += f': {name}'
+                return
+
+    def find_export(self, symbol, name):
+        found = re.search(rf'((?:^///.*\n)*)(?:^#.*\n)*^pub extern "C" fn {symbol}\(([^)]*)\).*\n((?:^(?: .*)?\n)*)^\{{', read(name), re.M)
+        if found:
+            said, parameters, clauses = found.groups()
+            self.text, self.words = f'{symbol}: {os.path.relpath(name, TOP)}', words_of(parameters)
+            # A ConstTimers is a CTimers that is only read.
+            self.types = {word: re.sub('^Const', 'C', of) for word, of in re.findall(r'(\w+): &(?:mut )?\[?(\w+)', parameters)}
+            self.contract = (said.replace('///', '').replace('\n ', '\n') + clauses).strip().translate(SIGNS).split('\n')
 
 
 def words_of(parameters):

@@ -12,6 +12,7 @@ class Statement:
 
     def __init__(self, kind, e=None, name=None, bodies=(), cases=()):
         self.kind, self.e, self.name, self.bodies, self.cases = kind, e, name, bodies, cases
+        self.begins = []                                # blocks of the module whose first statement it is
 
 
 def ends(body):
@@ -64,24 +65,27 @@ def within(body):
 
 
 class Likeness:
-    """Whether two lists of statements are the same but for the names of what is in each alone: `own` has the variables."""
+    """Whether two lists of statements are the same but for the names of what is in each alone: `own` has the variables. Those
+    that stand for each other have the same type: texts don't say in how many bits they are computed."""
 
-    def __init__(self, lists, own):
-        self.own = [names | {s.name for s in within(body) if s.kind in ('block', 'loop')} for names, body in zip(own, lists)]
-        self.pairs = [{}, {}]
+    def __init__(self, lists, own, types):
+        labels = [{s.name for s in within(body) if s.kind in ('block', 'loop')} for body in lists]
+        self.own, self.types, self.pairs = {True: own, False: labels}, types, {True: ({}, {}), False: ({}, {})}
         self.found = self.lists(*lists)
 
-    def names(self, one, other):
-        own = [name in names for name, names in zip((one, other), self.own)]
+    def names(self, one, other, variables):
+        own = [name in names for name, names in zip((one, other), self.own[variables])]
         if not any(own):
             return one == other
-        return all(own) and self.pairs[0].setdefault(one, other) == other and self.pairs[1].setdefault(other, one) == one
+        left, right = self.pairs[variables]
+        alike = not variables or self.types[one] == self.types[other]
+        return all(own) and alike and left.setdefault(one, other) == other and right.setdefault(other, one) == one
 
     def texts(self, one, other):
         words = [re.split(r'\b([a-z]\d+)\b', e.text if e else '') for e in (one, other)]
-        return len(words[0]) == len(words[1]) and all(self.names(*pair) for pair in zip(*words))
+        return len(words[0]) == len(words[1]) and all(self.names(*pair, True) for pair in zip(*words))
 
     def lists(self, one, other):
         return len(one) == len(other) and all(
-            a.kind == b.kind and a.cases == b.cases and len(a.bodies) == len(b.bodies) and self.names(a.name, b.name)
+            a.kind == b.kind and a.cases == b.cases and len(a.bodies) == len(b.bodies) and self.names(a.name, b.name, a.kind == 'set')
             and self.texts(a.e, b.e) and all(map(self.lists, a.bodies, b.bodies)) for a, b in zip(one, other))
