@@ -78,10 +78,6 @@ OF_ANY = dict(zip(["TOO_LONG", "READ_FAILED", "WRITE_FAILED", "OUT_OF_MEMORY"], 
 TOO_LONG, READ_FAILED, WRITE_FAILED, OUT_OF_MEMORY = (f"{line}\n".encode() for line in OF_ANY.values())
 
 
-# How a row of COSTS begins whose time grows with the timers that are pending or were.
-GROWING = ("each timer that is held", "the most timers that were held")
-
-
 def costs():
     """What each call of timers.h takes time for, by its name without timers_."""
     with open(os.path.join(TOP, "include", "timers.h"), encoding="utf-8") as file:

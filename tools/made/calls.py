@@ -1,7 +1,7 @@
 """Calls: those of C are declared in include/, and those of Python and JavaScript are read in the code of their wrappers."""
 import re
 
-from formats import GROWING, costs
+from formats import costs
 from made.forms import markdown, read
 
 CALL = re.compile(r"^TIMERS_(?:CALL|CHECKED)\n([^;(]+?)(\w+)\(([^;]*)\);", re.MULTILINE)
@@ -68,19 +68,19 @@ def passed_on(header, but):
 
 def reads(form, writing=None):
     """The functions of timers.h that read a struct, and write to no more than one object. `writing` is the form of those that do."""
-    for of, name, (struct, *objects) in calls("timers.h"):
+    for _, name, (struct, *objects) in calls("timers.h"):
         if struct == "const struct timers *t" and (not objects or len(objects) == 1 and "*" in objects[0]):
             yield (writing if writing and objects else form).format(
-                name=name.removeprefix("timers_"), unwanted=", NULL" * len(objects), of="".join(objects).partition(" *")[0],
-                seen="status_seen" if of == "enum timers_status" else "(uint64_t)")
+                name=name.removeprefix("timers_"), unwanted=", NULL" * len(objects), of="".join(objects).partition(" *")[0])
 
 
 def costs_of_reads():
-    """Reads as calls that are counted: once, if their time grows with the timers. If it has two cases, they are by hand."""
-    for line in reads("COST({name}, sum += timers_{name}(&t{unwanted}));"):
-        says = costs()[re.match(r"COST\((\w+)", line)[1]]
+    """Reads as calls that are counted. They walk what waits, if their time grows with it. If it has two cases, they are by hand."""
+    for line in reads("{name}, sum += timers_{name}(&t{unwanted}));"):
+        says = costs()[line.partition(",")[0]]
         if ", or " not in says:
-            yield f"\t{'if (rounds == 0) ' * says.startswith(GROWING)}{line}"
+            name, call = line.split(", ", 1)
+            yield f"\tCOST({line}" if says.startswith("constant") else f"\tWALK({name}, waiting(), {call}"
 
 
 OF_PYTHON = {"action": "_T", "handle": "Handle | None", "run": "Callable[[int, int, _T], object] | None"}
@@ -96,7 +96,8 @@ def rows_of_python():
     """The methods, and the first paragraph of each docstring."""
     for name, _, signature, lines in methods_in_python():
         text = "".join(re.findall(r'"(.*)"', lines)).partition(r"\n\n")[0].replace(r"\n", " ")
-        yield [f"`{name}({', '.join(re.findall('[^ ,]+', signature)[1:-1])})`", text]
+        given = [word for word in re.findall("[^ ,]+", signature)[1:] if word != "/"]
+        yield [f"`{name}({', '.join(given)})`", text]
 
 
 def hints_of_calls():
@@ -134,9 +135,9 @@ LISTS = {
     "exported calls": exported,
     "calls that pass numbers on": lambda: passed_on("timers.h", but=["timers_new", "timers_free", "timers_restart", "timers_look"]),
     "calls of desks that pass numbers on": lambda: passed_on("timers_desk.h", but=["timers_line_receive"]),
-    "reads": lambda: reads("static void make_{name}(void) {{ TOLD(timers_{name}, timers_{name}(t)); }}",
-                           "static void make_{name}(void) {{ TOLD_OBJECT(timers_{name}, {of}, {seen}); }}"),
-    "steps of reads": lambda: reads("\t{{ make_{name}, 4 }},"),
+    "reads": lambda: reads("static void make_{name}(void) {{ READ({name}); }}",
+                           "static void make_{name}(void) {{ READ_OBJECT({name}, {of}); }}"),
+    "steps of reads": lambda: reads("\t{{ make_{name}, 4, false }},"),
     "costs of reads": costs_of_reads,
     "reads that write nothing": lambda: reads("\tsum += timers_{name}(t{unwanted}), sum += timers_{name}(&all->later{unwanted});"),
     "hints of calls": hints_of_calls,

@@ -69,7 +69,7 @@ def synopsis():
 
     yield "    timers"
     yield from (*form("play", "play"), *form("serve", "play", "serve"), *form("show", "play", "show"), *form("threads", "threads"))
-    yield from (*form("check", "check"), "    timers help [COMMAND]", "    timers --help | --version")
+    yield from ("    timers check", "    timers help [COMMAND]", "    timers --help | --version")
 
 
 LISTS = {
@@ -79,7 +79,7 @@ LISTS = {
     "exit statuses": lambda: markdown(["Status", "When"], ([str(end["status"]), end["when"]] for end in OPTIONS["exit"].values())),
     "synopsis": synopsis,
 }
-for each in "play", "serve", "show", "threads", "check":
+for each in "play", "serve", "show", "threads":
     LISTS[f"options of {each}"] = lambda command=each: table_of(command)
     LISTS[f"texts of options of {each}"] = lambda command=each: texts_of(command)
     LISTS[f"arguments of {each}"] = lambda command=each: arguments(command)

@@ -39,7 +39,7 @@ def definitions():
     layouts = {1: "NoSlots", 6: "OneWheel slots", 7: "{layout} table.{of}"}
     rows = {}
     for name, scheme in SCHEMES.items():
-        layout = layouts[scheme["paper"]].format(**OF_TIERS.get(scheme.get("table"), {}))
+        layout = layouts[scheme["paper"]].format(**{**OF_TIERS, **OF_CRATES}.get(scheme.get("table"), {}))
         rows[name] = {"Name": name.capitalize(), "name": name, "last": LASTS[name], "layout": layout}
     yield f"use Rattle.timer_wheels.specs.declared.table.TheConstants.{{{', '.join(sorted({*LASTS.values()} - {'LAST'}))}}}"
     yield from (f"use Rattle.timer_commands.specs.declared.options.Scheme.TheVariants.{{{names('{Name}', rows)}}}", "")

@@ -13,11 +13,14 @@ def without(names, others):
     return {name: fact for name, fact in names.items() if name not in others}
 
 
-def errors(form, statuses):
-    """Arms of a match of Rust: the number or the text of each status that is an error there."""
+def errors(statuses):
+    """Rows of `errors!` of Rust, for each status that is an error there."""
     for name, fact in statuses.items():
-        if fact.get("rust", True):
-            yield " " * 12 + form.format(error="Error::" + "".join(map(str.capitalize, name.split("_"))), **fact)
+        error, means = "".join(map(str.capitalize, name.split("_"))), fact.get("rust", True)
+        if means is not False:
+            yield f'    {fact["number"]} {error} "{fact["text"]}"' + "," * (means is True)
+        if isinstance(means, str):
+            yield f'        "{means}",'
 
 
 def constants(statuses):
@@ -35,10 +38,8 @@ LISTS = {
     "constants of timers": lambda: constants(TIMERS),
     "constants of desks": lambda: constants(DESKS),
     "constants of words": lambda: constants(KINDS),
-    "errors of timers": lambda: errors("{number} => {error},", TIMERS),
-    "errors of desks": lambda: errors("{number} => {error},", DESKS),
-    "texts of errors of timers": lambda: errors('{error} => "{text}",', TIMERS),
-    "texts of errors of desks": lambda: errors('{error} => "{text}",', DESKS),
+    "errors of timers": lambda: errors(TIMERS),
+    "errors of desks": lambda: errors(DESKS),
     "kinds in Rust": lambda: listed("const {name}: c_uint = {number};", without(KINDS, ["NOT_TAKEN"])),
     "statuses in JavaScript": lambda: in_rows("  ", listed("{name}: {number}", TIMERS)),
     "texts in JavaScript": lambda: in_rows("  ", listed('"{text}"', TIMERS)),

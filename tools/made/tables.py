@@ -1,6 +1,9 @@
 """Tables of wheels, as C and the wrappers name and describe them: facts/tables.toml."""
-from formats import LIMITS, TABLES
+from formats import LIMITS, TABLES as ALL_TABLES
 from made.forms import capital, comment, enumerators, in_rows, listed, markdown, wrapped
+
+# The tables that C and the wrappers name.
+TABLES = {name: fact for name, fact in ALL_TABLES.items() if "only" not in fact}
 
 
 def size(count):
@@ -71,7 +74,7 @@ def variants():
 def last_ticks_in_rust():
     for end, table in ENDS.items():
         of = " and ".join(f"[`Table::{name.capitalize()}`]" for name, other in TABLES.items() if other["end"] == end)
-        yield from (f"/// The last tick of {of}: {table['ends']}.", f"pub const {table['last']}: u64 = {LIMITS[table['last']]:_};")
+        yield from (f"/// The last tick of {of}: {table['ends']}.", f"pub const {table['last']}: Tick = Tick({LIMITS[table['last']]:_});")
     yield ""
 
 

@@ -2,7 +2,7 @@
 import math
 import sys
 
-from formats import LIMITS
+from formats import LIMITS, TABLES as ALL_TABLES
 from made.forms import capital, listed
 from made.tables import TABLES, in_code, what_is
 
@@ -37,7 +37,7 @@ def code_of(name, fact):
 def with_names(name, fact):
     """A table, with what the crates say of it. `of` is the table of crates/timer_wheels with the same radices."""
     radices, is_smooth, said = fact["radices"], "revolutions" in fact, what_is(fact, in_code)
-    of = next(other for other, table in TABLES.items() if table["radices"] == radices and "revolutions" not in table)
+    of = next(other for other, table in ALL_TABLES.items() if table["radices"] == radices and "revolutions" not in table)
     return fact | {
         "NAME": name, "Name": name.capitalize(), "name": name.lower(), "Is": capital(said), "said": said, "of": of.capitalize(),
         "wheel": "SmoothWheel" if is_smooth else "HierWheel", "layout": "smooth_layout" if is_smooth else "layout_of_table",
@@ -48,7 +48,8 @@ def with_names(name, fact):
 
 
 OF_TIERS = {name: with_names(name, fact) for name, fact in TABLES.items()}
-OF_CRATES = {name: fact for name, fact in OF_TIERS.items() if "revolutions" not in fact}
+HIERARCHIES = {name: fact for name, fact in OF_TIERS.items() if "revolutions" not in fact}
+OF_CRATES = {name: with_names(name, fact) for name, fact in ALL_TABLES.items() if "revolutions" not in fact}
 OWN = {name: fact for name, fact in OF_CRATES.items() if not fact["digits"]}
 WITH_LAST = {name: fact for name, fact in OF_CRATES.items() if fact["last"] != "LAST"}
 LIMITS["MOST_LISTS"] = max(table["turned"] for table in OF_CRATES.values())
@@ -155,7 +156,7 @@ LISTS = {
     "tiers": lambda: tabled("    /// A `{wheel}` of `Table::{of}`: {said}.\n    {Name},", OF_TIERS),
     "tiers with numbers": lambda: tabled("            {NAME} => Some(Tiers::{Name}),", OF_TIERS),
     "tables of tiers": lambda: tabled("            Tiers::{Name} => Table::{of},", OF_TIERS),
-    "tables of hierarchies": lambda: tabled("            Tiers::{Name} => Table::{Name},"),
+    "tables of hierarchies": lambda: tabled("            Tiers::{Name} => Table::{Name},", HIERARCHIES),
     "definitions of tables": definitions_of_tables,
     "definitions of tiers": definitions_of_tiers,
     "imports of laws of tables": lambda: [f"ghost {VARIANTS};", f"ghost {CONSTANTS};"],
