@@ -14,7 +14,6 @@
  *     timers_look, timers_each - read one timer, iterate over all of them
  *     timers_now, timers_len, timers_has_due, timers_wakeup, timers_next - read the state
  *     timers_find_next - read the next deadline, and keep it for later calls
- *     timers_move_ahead - make moves of later ticks while there is time (TIMERS_SMOOTH)
  *     timers_counts - read what the wheels have done so far
  *     timers_message, timers_version - return the text of a status, and the version of the library
  *     timers_set_allocator - take memory from functions other than malloc, realloc and free
@@ -63,8 +62,9 @@
  *
  *     The functions were proved, and then translated into C. Each meets the contract that the sources state for it
  *     (crates/timer_c/src/exports.rt), for every call that keeps the rules below. Nothing checks that a caller keeps
- *     them. Tests alone cover the translation and the C around it, which allocates, accepts NULL for results that
- *     nobody wants, and has timers_set_allocator and timers_message.
+ *     them. A checker, which is trusted, shows of each translated function that it does what was proved. Tests alone
+ *     cover the C around them, which allocates, accepts NULL for results that nobody wants, and has
+ *     timers_set_allocator and timers_message.
  *
  * COSTS
  *     The timers are in arrays, and each is in the bucket of a wheel. A bucket of the lowest wheel has one tick. One of
@@ -84,7 +84,6 @@
  *         counts, message         constant
  *         version, set_allocator  constant
  *         next, find_next         constant, or each timer of one bucket
- *         move_ahead              each move that it makes
  *         len                     each expired timer that waits
  *         each                    each place up to the next timer
  *         reserve                 the most timers that were held at once
@@ -94,19 +93,18 @@
  *     TIMERS_SMOOTH are below, under WHICH TABLE.
  *
  *     From the first timers_find_next that walks a bucket on, the first deadline of each bucket above the lowest
- *     wheel is kept. A start, a restart, a stop and a move update it in constant time. A bucket that has timers by
- *     then is walked once before its first deadline is known, unless it becomes empty before. It stays known while
- *     the timers of the bucket were started in the order of their deadlines, as those of one length are. In any
- *     other bucket it is forgotten when the last timer that is known to have it is stopped, or restarted for a later
- *     tick, and others are left in the bucket. Then the next call walks the bucket again: both calls look at each
- *     timer of the next deadline's bucket if its first deadline is not known.
- *     timers_find_next keeps what it found, timers_next does not. So a loop that asks in each turn calls
- *     timers_find_next.
+ *     wheel is kept. That call takes time for the buckets, too. A start, a restart, a stop and a move update a first
+ *     deadline in constant time. A bucket that has timers by then is walked once before its first deadline is known,
+ *     unless it becomes empty before. It stays known while the timers of the bucket were started in the order of
+ *     their deadlines, as those of one length are. In any other bucket it is forgotten when the last timer that is
+ *     known to have it is stopped, or restarted for a later tick, and others are left in the bucket. Then the next
+ *     call walks the bucket again: both calls look at each timer of the next deadline's bucket if its first deadline
+ *     is not known. timers_find_next keeps what it found, timers_next does not. So a loop that asks in each turn
+ *     calls timers_find_next.
  *
  * WHICH TABLE
  *         table          is for
  *         TIMERS_WIDE    all but the cases below
- *         TIMERS_CLOCK   showing the hands of a clock
  *         TIMERS_SMOOTH  a loop that must not pause, with some 100,000 timers or more: no
  *                        tick moves all timers of a bucket
  *         TIMERS_SMALL   machines with little memory
@@ -131,14 +129,13 @@
  *     A loop that sleeps until timers_wakeup and then passes thousands of ticks at once makes the moves of all these
  *     ticks in one call. It gains nothing. One that wakes at each tick, or at each 16th, does.
  *
- *     A loop with time to spare calls timers_move_ahead before it sleeps. Moves that are made then are not made by
- *     later ticks. While none is left, no tick moves a timer.
- *
  *     The calls of TIMERS_SMOOTH take more instructions than those of TIMERS_WIDE: with 10,000 timers a start 1.4 times
  *     as many, a restart 1.4, a stop 1.2, a take 2.2, and a tick at which nothing expires or moves 1.1 times
  *     (bench/README.md). timers_wakeup, timers_next and timers_find_next look at one wheel after another, until none
- *     above can have an earlier deadline. timers_wakeup walks no bucket, the others at most one in each wheel, and none
- *     of them keeps what it found.
+ *     above can have an earlier deadline. timers_wakeup walks no bucket, the others at most one in each wheel. None of
+ *     them keeps what it found. So each call of timers_find_next walks, unless a timer waits or expires before the next
+ *     multiple of a revolution. With 10,000 timers in the bucket it takes 260,000 instructions, and with TIMERS_WIDE
+ *     fewer than 100 once the first deadline is kept.
  *
  *     If timers.c was compiled with TIMERS_NO_SMOOTH, it has no TIMERS_SMOOTH: timers_new returns TIMERS_NO_TABLE.
  *
@@ -146,8 +143,8 @@
  *     Of these costs two are proved. No start returns TIMERS_NO_MEMORY while fewer timers are held than
  *     timers_reserve made room for. And there are at most 9 moves for each start and restart. (With fewer
  *     wheels there are fewer, which is proved of the wheel and not of timers_counts.) The other
- *     costs are in no contract: they follow from the code. Tests count the allocations of each call, and what it
- *     runs with a thousand timers pending and with a million.
+ *     costs are in no contract: they follow from the code. Tests count the allocations and moves of each call, and
+ *     what it runs with a hundred timers and with 100,000, over each table.
  *
  * MEMORY
  *     Only timers_new, timers_reserve, timers_start and timers_start_at allocate, and timers_set_at if no
@@ -320,18 +317,16 @@ enum timers_status {
 enum timers_table {
 	/* made by tools/facts: tables */
 	TIMERS_WIDE = 0,    /* ten wheels of 64 slots: the last tick is TIMERS_LAST; 15 + 5 KB */
-	TIMERS_CLOCK = 1,   /* 60 seconds, 60 minutes, 24 hours, 100 days: the last tick is TIMERS_CLOCK_LAST; 6 + 2.2 KB */
-	TIMERS_SMOOTH = 2,  /* as TIMERS_WIDE, with twice the slots, and a few moves at a tick; 11 + 10 KB */
-	TIMERS_SMALL = 3    /* six wheels of 16 slots: the last tick is TIMERS_SMALL_LAST; 2.7 + 1.0 KB */
+	TIMERS_SMOOTH = 1,  /* as TIMERS_WIDE, with twice the slots, and a few moves at a tick; 11 + 10 KB */
+	TIMERS_SMALL = 2    /* six wheels of 16 slots: the last tick is TIMERS_SMALL_LAST; 2.7 + 1.0 KB */
 };
 
 /* made by tools/facts: last ticks */
 #define TIMERS_LAST UINT64_C(1152921504606846975)   /* 2^60 - 1 */
-#define TIMERS_CLOCK_LAST UINT64_C(8639999)         /* day 99, 23:59:59, or 2.4 hours of milliseconds */
 #define TIMERS_SMALL_LAST UINT64_C(16777215)        /* 2^24 - 1, or 4.6 hours of milliseconds */
 #define TIMERS_LAST_OF(table) \
-	((table) == TIMERS_CLOCK ? TIMERS_CLOCK_LAST : (table) == TIMERS_SMALL ? TIMERS_SMALL_LAST : TIMERS_LAST)
-#define TIMERS_TABLES 4                             /* how many tables there are: their numbers are less than this */
+	((table) == TIMERS_SMALL ? TIMERS_SMALL_LAST : TIMERS_LAST)
+#define TIMERS_TABLES 3                             /* how many tables there are: their numbers are less than this */
 /* by hand */
 #define TIMERS_NEVER UINT64_MAX                     /* of timers_wakeup, timers_next and timers_find_next */
 
@@ -540,17 +535,10 @@ uint64_t timers_next(const struct timers *t);
  * happens. The last timer with that deadline is stopped, or restarted for a later tick, and others are left in its
  * bucket. Or the next deadline is in a bucket whose first deadline is not known (COSTS). With timers of one length
  * it stays known. With several lengths, a loop that pushes back the first timer in each turn may walk in each turn.
- * It can sleep until timers_wakeup, which never walks. Does not allocate. */
+ * With TIMERS_SMOOTH nothing is kept, and each call takes the time of timers_next. A loop can sleep until
+ * timers_wakeup, which never walks. Does not allocate. */
 TIMERS_CALL
 uint64_t timers_find_next(struct timers *t);
-
-/* Makes at most `most` of the moves of later ticks now, and returns how many it made. Of other calls only
- * timers_counts returns anything else for it. A timer still moves at most 9 times. Call it before the loop sleeps,
- * if there is time, with as many moves as there is time for: each takes constant time. If it returns less than
- * `most`, none is left for now, and later ticks bring new ones. With a table other than TIMERS_SMOOTH there are
- * none, and it returns 0. It also returns 0 if `t` is not open. Never waits. Does not allocate. */
-TIMERS_CALL
-uint64_t timers_move_ahead(struct timers *t, uint64_t most);
 
 /* Writes `*counts`, what the wheels have done since timers_new, at TIMERS_OK. `starts` counts each start and
  * restart that returned TIMERS_OK. `moves` is at most as many times `starts` as there are wheels above the lowest: 9

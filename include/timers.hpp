@@ -8,6 +8,9 @@
  * bytes: a `struct timers` and the last tick of its clock. Each call makes one call of C. Exceptions: catch_up and each
  * make several, and in_ticks, at_least, at and raw none.
  *
+ * C has a `struct timers`, and C++ then allows no namespace of that name. So the namespace is `timing`. A using
+ * directive for it makes a bare `timers` ambiguous: write `timing::timers`.
+ *
  * TICKS. `Tick` is the length of a tick, a std::chrono::duration. A deadline is a std::chrono::time_point of `Clock`,
  * and so are `now` and the deadlines that come back. An interval in place of a time point does not compile. An interval
  * is a duration. Both are whole numbers, and are rounded up to ticks. An interval of n ticks lasts more than n - 1 and
@@ -346,10 +349,6 @@ public:
 	std::optional<time_point> wakeup() const noexcept { return unless_never(timers_wakeup(&raw_)); }
 	std::optional<time_point> next() const noexcept { return unless_never(timers_next(&raw_)); }
 	std::optional<time_point> find_next() noexcept { return unless_never(timers_find_next(&raw_)); }
-
-	/* timers_move_ahead: makes at most `most` moves of later ticks now, and returns how many. With TIMERS_SMOOTH, for a
-	 * loop with time to spare. */
-	std::uint64_t move_ahead(std::uint64_t most) noexcept { return timers_move_ahead(&raw_, most); }
 
 	/* timers_counts: the starts, moves and visits since the timers were made. Throws error: TIMERS_NOT_OPEN. */
 	timers_counters counts() const

@@ -9,7 +9,7 @@ int main(void)
 	struct timers t = TIMERS_INIT;
 	struct timers_handle tea, egg, call;
 	struct timers_expired e;
-	if (timers_new(&t, TIMERS_WIDE, 0) != TIMERS_OK               /* the clock is at tick 0 */
+	if (timers_new(&t, TIMERS_WIDE, 0) != TIMERS_OK               /* the usual wheels, at tick 0 */
 	    || timers_start(&t, 300, 'T', &tea) != TIMERS_OK          /* 'T' comes back at tick 300 */
 	    || timers_start(&t, 240, 'E', &egg) != TIMERS_OK
 	    || timers_start(&t, 900, 'C', &call) != TIMERS_OK)

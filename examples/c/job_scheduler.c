@@ -1,9 +1,9 @@
-/* A scheduler of jobs, as cron is one, over the table of seconds, minutes, hours and days.
+/* A scheduler of jobs, as cron is one, over the table for small machines.
  *
  *     cc job_scheduler.c $(pkg-config --cflags --libs timers) && ./a.out
  *
  * A tick is a second. The clock here is a number that jumps from one job to the next, so that eight days
- * pass at once. A daemon would sleep until then. TIMERS_CLOCK has 100 days. When the last of them begins, the
+ * pass at once. A daemon would sleep until then. TIMERS_SMALL has 194 days of seconds. When they are over, the
  * timers are freed and made again at tick 0, and the jobs that are left are started anew. */
 #include <inttypes.h>
 #include <stdio.h>
@@ -12,7 +12,7 @@
 #include <timers.h>
 
 enum { MINUTE = 60, HOUR = 60 * MINUTE, DAY = 24 * HOUR };
-enum { FIRST_DAY = 96, LAST_DAY = 104, DAYS_OF_CLOCK = 99 };
+enum { FIRST_DAY = 191, LAST_DAY = 199, DAYS_OF_CLOCK = 194 };
 
 /* A job runs `first` seconds after the first day began, then once each period; only once if that is 0. */
 static struct job {
@@ -77,7 +77,7 @@ static void begin_anew(void)
 {
 	first_second += timers_now(&timers);
 	timers_free(&timers);
-	check(timers_new(&timers, TIMERS_CLOCK, 0), "timers_new");
+	check(timers_new(&timers, TIMERS_SMALL, 0), "timers_new");
 	for (struct job *job = jobs; job < jobs + JOBS; job++)
 		if (job->next != NO_MORE)
 			start(job);
@@ -100,7 +100,7 @@ static uint64_t least(uint64_t one, uint64_t other)
 int main(void)
 {
 	const uint64_t begin = (uint64_t)FIRST_DAY * DAY, end = (uint64_t)LAST_DAY * DAY;
-	check(timers_new(&timers, TIMERS_CLOCK, begin), "timers_new");
+	check(timers_new(&timers, TIMERS_SMALL, begin), "timers_new");
 	for (struct job *job = jobs; job < jobs + JOBS; job++) {
 		job->next = begin + job->first;
 		start(job);

@@ -3,7 +3,6 @@
  *     cc -DTIMERS_NO_MALLOC -DTIMERS_NO_DESK static_memory.c timers.c
  *
  * docs/embedded.md has what each table takes for other numbers of timers. */
-#include <inttypes.h>
 #include <stddef.h>
 #include <stdio.h>
 
@@ -62,7 +61,7 @@ int main(void)
 		now += ticks - (uint32_t)now;                 /* the count of 32 bits goes round; the clock must not */
 		while (timers_take(&timers, now, &timer))
 			if (timer.action < 10)
-				printf("%" PRIu64 ": timer %" PRIu64 " and others\n", timer.deadline, timer.action);
+				printf("%lu: timer %lu and others\n", (unsigned long)timer.deadline, (unsigned long)timer.action);
 	}
 	return 0;
 }
