@@ -70,3 +70,11 @@ int main()
 	timers.start(1s, 1);
 #endif
 }
+
+/* Why the namespace isn't `timers`, and why that of a using directive is written out all the same: C has a struct of the name. */
+#if MISUSE == 17    /* is ambiguous */
+using namespace timing;
+timers<> others;
+#elif MISUSE == 18  /* as different kind of */
+namespace timers {}
+#endif

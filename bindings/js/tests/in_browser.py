@@ -2,7 +2,8 @@
 # SPDX-License-Identifier: MIT OR Apache-2.0
 """in_browser.py FOLDER SCRIPT..   runs modules in a headless Chromium, and prints what they log
 
-The page is served from this machine. It has modules of the folder, whose node_modules has the package. An error, a warning
+The page is served from this machine. It has modules of the folder, whose node_modules has the package. Other files that are
+named may be loaded, too. An error, a warning
 or anything else that the page loads is a failure.
 """
 import functools
@@ -33,7 +34,7 @@ class Quiet(http.server.SimpleHTTPRequestHandler):
 
 folder, scripts = sys.argv[1], sys.argv[2:]
 with open(os.path.join(folder, "page.html"), "w", encoding="utf-8") as file:
-    file.write(PAGE % (PACKAGE, " ".join(f'await import("./{script}");' for script in scripts)))
+    file.write(PAGE % (PACKAGE, " ".join(f'await import("./{script}");' for script in scripts if script.endswith(".mjs"))))
 server = http.server.ThreadingHTTPServer(("127.0.0.1", 0), functools.partial(Quiet, directory=folder))
 threading.Thread(target=server.serve_forever, daemon=True).start()
 site = f"http://127.0.0.1:{server.server_port}"

@@ -19,11 +19,36 @@ struct module_state {
 static struct module_state *state_of(PyTypeObject *type);
 
 typedef PyObject *(*fast_function)(PyObject *, PyObject *const *, Py_ssize_t);
+typedef PyObject *(*named_function)(PyObject *, PyObject *const *, Py_ssize_t, PyObject *);
 #define FAST(function) ((PyCFunction)(void (*)(void))(fast_function)(function)), METH_FASTCALL
+#define NAMED(function) ((PyCFunction)(void (*)(void))(named_function)(function)), METH_FASTCALL | METH_KEYWORDS
+
+/* A method or, of void, an attribute, whose result is that of a call of C. */
+#define CALL(of, ours, theirs, held, result) \
+	static PyObject *ours(PyObject *self, of *unused) \
+	{ \
+		(void)unused; \
+		return result(theirs(held(self))); \
+	}
 
 #define MEMBER(type, name, text) { #name, T_ULONGLONG, offsetof(type, name), READONLY, text }
 
 /* Numbers */
+
+static void refuse_number(PyObject *index, unsigned bits)
+{
+	PyObject *text;
+
+	PyErr_Clear();
+	text = PyObject_Str(index);
+	if (text == NULL) {
+		PyErr_Clear();    /* Python writes no number of more than 4,300 digits */
+		PyErr_Format(PyExc_OverflowError, "the number is not from 0 to 2^%u - 1", bits);
+	} else {
+		PyErr_Format(PyExc_OverflowError, "%U is not from 0 to 2^%u - 1", text, bits);
+		Py_DECREF(text);
+	}
+}
 
 /* Reads a number by its __index__, for what is no int, and for the text if it is out of range. */
 static bool read_index(PyObject *value, unsigned bits, uint64_t *number)
@@ -35,10 +60,8 @@ static bool read_index(PyObject *value, unsigned bits, uint64_t *number)
 		return false;
 	*number = PyLong_AsUnsignedLongLong(index);
 	fits = (*number != UINT64_MAX || !PyErr_Occurred()) && (bits >= 64 || *number >> bits == 0);
-	if (!fits) {
-		PyErr_Clear();
-		PyErr_Format(PyExc_OverflowError, "%S is not from 0 to 2^%u - 1", index, bits);
-	}
+	if (!fits)
+		refuse_number(index, bits);
 	Py_DECREF(index);
 	return fits;
 }
@@ -72,6 +95,24 @@ static bool has_arguments(const char *name, Py_ssize_t given, Py_ssize_t least, 
 	else
 		PyErr_Format(PyExc_TypeError, "%s() takes %zd or %zd arguments, not %zd", name, least, most, given);
 	return false;
+}
+
+/* Reads the arguments of a call whose last one may be left out, or be given by its name: `given` are by position, and `names`,
+ * a tuple or NULL, has the names of those after them. The last one stays as it is if it is left out. */
+static bool read_last(const char *call, const char *name, PyObject *const *arguments, Py_ssize_t given, PyObject *names,
+                      Py_ssize_t most, PyObject **last)
+{
+	const Py_ssize_t named = names == NULL ? 0 : PyTuple_Size(names);
+
+	if (!has_arguments(call, given + named, most - 1, most))
+		return false;
+	if (named > 1 || (named == 1 && (given < most - 1 || PyUnicode_CompareWithASCIIString(PyTuple_GetItem(names, 0), name) != 0))) {
+		PyErr_Format(PyExc_TypeError, "%s() takes %s alone by its name", call, name);
+		return false;
+	}
+	if (given + named == most)
+		*last = arguments[most - 1];
+	return true;
 }
 
 /* A tick, or None in place of TIMERS_NEVER. */

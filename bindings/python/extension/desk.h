@@ -176,17 +176,8 @@ static PyObject *line_client(PyObject *self, void *unused)
 	return PyLong_FromUnsignedLongLong(line_by(self)->client);
 }
 
-static PyObject *line_ended(PyObject *self, void *unused)
-{
-	(void)unused;
-	return PyBool_FromLong(timers_line_ended(line_by(self)));
-}
-
-static PyObject *line_abandoned(PyObject *self, void *unused)
-{
-	(void)unused;
-	return PyBool_FromLong(timers_line_abandoned(line_by(self)));
-}
+CALL(void, line_ended, timers_line_ended, line_by, PyBool_FromLong)
+CALL(void, line_abandoned, timers_line_abandoned, line_by, PyBool_FromLong)
 
 static PyGetSetDef line_attributes[] = {
 	{ "client", line_client, NULL, "The number of its client.", NULL },
@@ -396,12 +387,14 @@ static PyObject *desk_exit(PyObject *self, PyObject *const *arguments, Py_ssize_
 	return desk_free(self, NULL);
 }
 
-static PyObject *desk_serve(PyObject *self, PyObject *given)
-{
-	size_t client;
-
-	return read_size(given, &client) ? PyLong_FromLong(timers_desk_serve(desk_by(self), client)) : NULL;
-}
+/* A method of a desk with a client's number. */
+#define CALL_OF_CLIENT(ours, theirs, result) \
+	static PyObject *ours(PyObject *self, PyObject *given) \
+	{ \
+		size_t client; \
+		return read_size(given, &client) ? result(theirs(desk_by(self), client)) : NULL; \
+	}
+CALL_OF_CLIENT(desk_serve, timers_desk_serve, PyLong_FromLong)
 
 static PyObject *desk_serve_all(PyObject *self, PyObject *const *arguments, Py_ssize_t given)
 {
@@ -412,18 +405,8 @@ static PyObject *desk_serve_all(PyObject *self, PyObject *const *arguments, Py_s
 	return PyLong_FromLong(timers_desk_serve_all(desk_by(self), most));
 }
 
-static PyObject *desk_flush(PyObject *self, PyObject *given)
-{
-	size_t client;
-
-	return read_size(given, &client) ? PyLong_FromSize_t(timers_desk_flush(desk_by(self), client)) : NULL;
-}
-
-static PyObject *desk_flush_all(PyObject *self, PyObject *unused)
-{
-	(void)unused;
-	return PyBool_FromLong(timers_desk_flush_all(desk_by(self)));
-}
+CALL_OF_CLIENT(desk_flush, timers_desk_flush, PyLong_FromSize_t)
+CALL(PyObject, desk_flush_all, timers_desk_flush_all, desk_by, PyBool_FromLong)
 
 static PyObject *desk_advance(PyObject *self, PyObject *given)
 {
@@ -495,44 +478,12 @@ static PyObject *desk_reserve(PyObject *self, PyObject *unused)
 	Py_RETURN_NONE;
 }
 
-static PyObject *desk_pending(PyObject *self, PyObject *given)
-{
-	size_t client;
-
-	return read_size(given, &client) ? PyLong_FromSize_t(timers_desk_pending(desk_by(self), client)) : NULL;
-}
-
-static PyObject *desk_outbox(PyObject *self, PyObject *given)
-{
-	size_t client;
-
-	return read_size(given, &client) ? PyLong_FromSize_t(timers_desk_outbox(desk_by(self), client)) : NULL;
-}
-
-static PyObject *desk_line_freed(PyObject *self, PyObject *given)
-{
-	size_t client;
-
-	return read_size(given, &client) ? PyBool_FromLong(timers_desk_line_freed(desk_by(self), client)) : NULL;
-}
-
-static PyObject *desk_wakeup(PyObject *self, PyObject *unused)
-{
-	(void)unused;
-	return tick_or_none(timers_desk_wakeup(desk_by(self)));
-}
-
-static PyObject *desk_next(PyObject *self, PyObject *unused)
-{
-	(void)unused;
-	return tick_or_none(timers_desk_next(desk_by(self)));
-}
-
-static PyObject *desk_now(PyObject *self, void *unused)
-{
-	(void)unused;
-	return PyLong_FromUnsignedLongLong(timers_desk_now(desk_by(self)));
-}
+CALL_OF_CLIENT(desk_pending, timers_desk_pending, PyLong_FromSize_t)
+CALL_OF_CLIENT(desk_outbox, timers_desk_outbox, PyLong_FromSize_t)
+CALL_OF_CLIENT(desk_line_freed, timers_desk_line_freed, PyBool_FromLong)
+CALL(PyObject, desk_wakeup, timers_desk_wakeup, desk_by, tick_or_none)
+CALL(PyObject, desk_next, timers_desk_next, desk_by, tick_or_none)
+CALL(void, desk_now, timers_desk_now, desk_by, PyLong_FromUnsignedLongLong)
 
 static Py_ssize_t desk_length(PyObject *self) { return (Py_ssize_t)timers_desk_len(desk_by(self)); }
 

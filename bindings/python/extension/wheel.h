@@ -6,8 +6,10 @@ struct timers_object {
 	struct timers held;
 	size_t count;    /* of the timers that are held, pending and expired */
 	uint64_t last_tick;
+	uint64_t last_serial;    /* of the last handle */
 	struct module_state *state;
 	PyObject *weak_references;
+	struct timers_object *next_deferred;
 };
 
 static struct timers_object *timers_in(PyObject *self) { return (struct timers_object *)self; }
@@ -97,7 +99,7 @@ static int timers_object_init(PyObject *self, PyObject *arguments, PyObject *nam
 	static char *names[] = { "table", "first_tick", NULL };
 	PyObject *table_given = NULL, *tick_given = NULL;
 	uint64_t table = TIMERS_WIDE, first_tick = 0;
-	struct timers made = TIMERS_INIT, earlier;
+	struct timers made = { .last_serial = timers_in(self)->last_serial }, earlier;    /* as one that was freed: no handle comes again */
 	enum timers_status status;
 
 	if (!PyArg_ParseTupleAndKeywords(arguments, named, "|OO:Timers", names, &table_given, &tick_given))
@@ -136,13 +138,37 @@ static int timers_object_clear(PyObject *self)
 	return 0;
 }
 
+/* Actions of timers may be timers, any number of them one inside another. Each would take some of the stack while the one
+ * around it is released, so those that are deep inside wait until the outermost one is. */
+#define NESTED_MOST 50
+static _Thread_local unsigned releasing;    /* releases that have begun and not ended, one inside another */
+static _Thread_local struct timers_object *deferred;
+
+static void release(PyObject *self)
+{
+	releasing++;
+	drop_all(self);
+	releasing--;
+	free_object(self);
+}
+
 static void timers_object_dealloc(PyObject *self)
 {
+	struct timers_object *next;
+
 	PyObject_GC_UnTrack(self);
 	if (timers_in(self)->weak_references != NULL)
 		PyObject_ClearWeakRefs(self);
-	drop_all(self);
-	free_object(self);
+	if (releasing >= NESTED_MOST) {
+		timers_in(self)->next_deferred = deferred;
+		deferred = timers_in(self);
+		return;
+	}
+	release(self);
+	while (releasing == 0 && (next = deferred) != NULL) {
+		deferred = next->next_deferred;
+		release((PyObject *)next);
+	}
 }
 
 static PyObject *timers_object_close(PyObject *self, PyObject *unused)
@@ -187,6 +213,7 @@ static inline PyObject *started(PyObject *self, enum timers_status status, struc
 		Py_DECREF(made);
 		return refused(self, status);
 	}
+	timers_in(self)->last_serial = made->handle.serial;
 	Py_INCREF(action);
 	return (PyObject *)made;
 }
@@ -220,17 +247,17 @@ static PyObject *timers_object_start_at(PyObject *self, PyObject *const *argumen
 
 /* Without an action the new timer has that of the old one. */
 static inline PyObject *restart_by(restart_call *restart, const char *name, PyObject *self, PyObject *const *arguments,
-                                   Py_ssize_t given)
+                                   Py_ssize_t given, PyObject *names)
 {
 	const struct module_state *state = timers_in(self)->state;
 	struct timers_handle handle;
 	struct timers_expired old;
 	struct handle_object *made;
 	enum timers_status status;
-	PyObject *action, *result;
+	PyObject *action = NULL, *result;
 	uint64_t tick;
 
-	if (!has_arguments(name, given, 2, 3) || !read_handle_or_none(state, arguments[0], &handle) || !read_number(arguments[1], &tick))
+	if (!read_last(name, "action", arguments, given, names, 3, &action) || !read_handle_or_none(state, arguments[0], &handle) || !read_number(arguments[1], &tick))
 		return NULL;
 	status = timers_look(held_by(self), handle, &old);
 	if (status != TIMERS_OK)
@@ -238,7 +265,8 @@ static inline PyObject *restart_by(restart_call *restart, const char *name, PyOb
 	made = new_handle(state);
 	if (made == NULL)
 		return NULL;
-	action = given == 3 ? arguments[2] : object_of(old.action);
+	if (action == NULL)
+		action = object_of(old.action);
 	status = restart(held_by(self), handle, tick, action_of(action), &made->handle);
 	result = started(self, status, made, action);
 	if (result != NULL)
@@ -246,14 +274,14 @@ static inline PyObject *restart_by(restart_call *restart, const char *name, PyOb
 	return result;
 }
 
-static PyObject *timers_object_restart(PyObject *self, PyObject *const *arguments, Py_ssize_t given)
+static PyObject *timers_object_restart(PyObject *self, PyObject *const *arguments, Py_ssize_t given, PyObject *names)
 {
-	return restart_by(timers_restart, "restart", self, arguments, given);
+	return restart_by(timers_restart, "restart", self, arguments, given, names);
 }
 
-static PyObject *timers_object_restart_at(PyObject *self, PyObject *const *arguments, Py_ssize_t given)
+static PyObject *timers_object_restart_at(PyObject *self, PyObject *const *arguments, Py_ssize_t given, PyObject *names)
 {
-	return restart_by(timers_restart_at, "restart_at", self, arguments, given);
+	return restart_by(timers_restart_at, "restart_at", self, arguments, given, names);
 }
 
 static PyObject *timers_object_set_at(PyObject *self, PyObject *const *arguments, Py_ssize_t given)
@@ -392,14 +420,14 @@ static PyObject *run_timer(PyObject *run, const struct timers_expired *timer)
 	return result;
 }
 
-static PyObject *timers_object_catch_up(PyObject *self, PyObject *const *arguments, Py_ssize_t given)
+static PyObject *timers_object_catch_up(PyObject *self, PyObject *const *arguments, Py_ssize_t given, PyObject *names)
 {
 	struct timers_expired timer;
 	enum timers_status status;
-	PyObject *result;
+	PyObject *run = Py_None, *result;
 	uint64_t now;
 
-	if (!has_arguments("catch_up", given, 1, 2) || !read_number(arguments[0], &now))
+	if (!read_last("catch_up", "run", arguments, given, names, 2, &run) || !read_number(arguments[0], &now))
 		return NULL;
 	status = status_if_open(self);
 	if (status != TIMERS_OK)
@@ -410,7 +438,7 @@ static PyObject *timers_object_catch_up(PyObject *self, PyObject *const *argumen
 		Py_RETURN_NONE;
 	while (timers_take(held_by(self), now, &timer)) {
 		timers_in(self)->count--;
-		result = run_timer(given == 2 ? arguments[1] : Py_None, &timer);
+		result = run_timer(run, &timer);
 		if (result == NULL)
 			return NULL;
 		Py_DECREF(result);
@@ -463,7 +491,7 @@ static bool advance_until(PyObject *self, uint64_t until, PyObject *list)
 	enum timers_status status;
 
 	while (take_expired(self, list)) {
-		if (timers_now(held_by(self)) == until)
+		if (timers_now(held_by(self)) >= until)    /* past it if an action that was released took timers itself */
 			return true;
 		status = timers_advance_to(held_by(self), until);
 		if (status != TIMERS_OK && status != TIMERS_DUE) {
@@ -497,44 +525,11 @@ static PyObject *timers_object_advance(PyObject *self, PyObject *given)
 
 /* The state */
 
-static PyObject *timers_object_has_due(PyObject *self, PyObject *unused)
-{
-	(void)unused;
-	return PyBool_FromLong(timers_has_due(held_by(self)));
-}
-
-static PyObject *timers_object_now(PyObject *self, PyObject *unused)
-{
-	(void)unused;
-	return PyLong_FromUnsignedLongLong(timers_now(held_by(self)));
-}
-
-static PyObject *timers_object_wakeup(PyObject *self, PyObject *unused)
-{
-	(void)unused;
-	return tick_or_none(timers_wakeup(held_by(self)));
-}
-
-static PyObject *timers_object_next(PyObject *self, PyObject *unused)
-{
-	(void)unused;
-	return tick_or_none(timers_next(held_by(self)));
-}
-
-static PyObject *timers_object_find_next(PyObject *self, PyObject *unused)
-{
-	(void)unused;
-	return tick_or_none(timers_find_next(held_by(self)));
-}
-
-static PyObject *timers_object_move_ahead(PyObject *self, PyObject *given)
-{
-	uint64_t most;
-
-	if (!read_number(given, &most))
-		return NULL;
-	return PyLong_FromUnsignedLongLong(timers_move_ahead(held_by(self), most));
-}
+CALL(PyObject, timers_object_has_due, timers_has_due, held_by, PyBool_FromLong)
+CALL(PyObject, timers_object_now, timers_now, held_by, PyLong_FromUnsignedLongLong)
+CALL(PyObject, timers_object_wakeup, timers_wakeup, held_by, tick_or_none)
+CALL(PyObject, timers_object_next, timers_next, held_by, tick_or_none)
+CALL(PyObject, timers_object_find_next, timers_find_next, held_by, tick_or_none)
 
 static PyObject *timers_object_counts(PyObject *self, PyObject *unused)
 {
@@ -548,16 +543,9 @@ static PyObject *timers_object_counts(PyObject *self, PyObject *unused)
 	                     (unsigned long long)counts.visits);
 }
 
-static PyObject *timers_object_pending(PyObject *self, PyObject *unused)
-{
-	(void)unused;
-	return PyLong_FromSize_t(timers_len(held_by(self)));
-}
+CALL(PyObject, timers_object_pending, timers_len, held_by, PyLong_FromSize_t)
 
 static Py_ssize_t timers_object_length(PyObject *self) { return (Py_ssize_t)timers_in(self)->count; }
-
-/* Also if none is held: the length would say no. */
-static int timers_object_is_true(PyObject *self) { (void)self; return 1; }
 
 static PyObject *timers_object_repr(PyObject *self)
 {
@@ -653,12 +641,12 @@ static PyMethodDef timers_methods[] = {
 	  "start_at($self, deadline, action, /)\n--\n\n"
 	  "Starts a timer that expires at this tick, and returns its handle.\n\n"
 	  "One that is not after now() is due at once: it is taken after those that have expired already." },
-	{ "restart", FAST(timers_object_restart), /* -> Handle */
-	  "restart($self, handle, interval, action=..., /)\n--\n\n"
+	{ "restart", NAMED(timers_object_restart), /* -> Handle */
+	  "restart($self, handle, interval, /, action=...)\n--\n\n"
 	  "Stops the timer with this handle, starts another in its place, and returns the new handle. Without an action\n"
 	  "the new timer has that of the old one. The old handle names no timer any more." },
-	{ "restart_at", FAST(timers_object_restart_at), /* -> Handle */
-	  "restart_at($self, handle, deadline, action=..., /)\n--\n\n"
+	{ "restart_at", NAMED(timers_object_restart_at), /* -> Handle */
+	  "restart_at($self, handle, deadline, /, action=...)\n--\n\n"
 	  "The same as restart, for a timer that expires at this tick, or at once, as by start_at." },
 	{ "set_at", FAST(timers_object_set_at), /* -> Handle */
 	  "set_at($self, handle, deadline, action, /)\n--\n\n"
@@ -680,8 +668,8 @@ static PyMethodDef timers_methods[] = {
 	  "as the last, while catch_up refuses it. A tick before now() is none to pass.\n\n"
 	  "Don't take by LAST to get what is left. The clock is at its end then, and each later start is refused\n"
 	  "(TOO_LATE), also after clear. An iteration has all timers, and passes no tick." },
-	{ "catch_up", FAST(timers_object_catch_up), /* -> None */
-	  "catch_up($self, now, run=None, /)\n--\n\n"
+	{ "catch_up", NAMED(timers_object_catch_up), /* -> None */
+	  "catch_up($self, now, /, run=None)\n--\n\n"
 	  "Passes the ticks up to `now`, and calls run(deadline, serial, action) for each timer on the way. Without `run` it\n"
 	  "calls action().\n\n"
 	  "The timers are taken one at a time: what one of them stops does not come out. If a call raises, that timer\n"
@@ -732,10 +720,6 @@ static PyMethodDef timers_methods[] = {
 	{ "find_next", timers_object_find_next, METH_NOARGS, /* -> int | None */
 	  "find_next($self, /)\n--\n\n"
 	  "The same as next. What it found is kept for later calls, for a loop that asks in each turn." },
-	{ "move_ahead", timers_object_move_ahead, METH_O, /* -> int */
-	  "move_ahead($self, most, /)\n--\n\n"
-	  "Makes at most so many moves of later ticks now, and returns how many: with the table SMOOTH, for a loop with\n"
-	  "time to spare. If it returns fewer, none is left for now. With another table there are none." },
 	{ "counts", timers_object_counts, METH_NOARGS, /* -> tuple[int, int, int] */
 	  "counts($self, /)\n--\n\n"
 	  "What the wheels did since they were made, as (starts, moves, visits)." },
@@ -763,7 +747,7 @@ static PyType_Slot timers_slots[] = {
 		"deadlines, and those of one deadline in the order of their starts.\n\n"
 		"len(timers) is how many are held, pending and expired. `handle in timers` is whether a timer has this\n"
 		"handle; None is none's. An iteration has all of them in no order: pairs of a handle and what look\n"
-		"returns. Meanwhile timers may be started, stopped and taken. The object is true also if no timer is held." },
+		"returns. Meanwhile timers may be started, stopped and taken. The object is true if a timer is held." },
 	{ Py_tp_new, timers_object_new },
 	{ Py_tp_init, timers_object_init },
 	{ Py_tp_dealloc, timers_object_dealloc },
@@ -775,7 +759,6 @@ static PyType_Slot timers_slots[] = {
 	{ Py_tp_members, timers_members },
 	{ Py_sq_contains, timers_object_contains },
 	{ Py_sq_length, timers_object_length },
-	{ Py_nb_bool, timers_object_is_true },
 	{ 0, NULL },
 };
 static PyType_Spec timers_spec = {

@@ -1,8 +1,7 @@
-"""Desks: random calls against a dictionary, clients that come and go, clients in threads, and memory."""
+"""Desks: clients that come and go, clients in threads, and memory. Random calls are in replay_test.py."""
 import copy
 import gc
 import pickle
-import random
 import threading
 import tracemalloc
 
@@ -15,7 +14,7 @@ except ImportError:
     _testcapi = None
 TABLES = [
     # made by tools/facts: tables of desks in Python
-    td.WIDE, td.CLOCK, td.SMOOTH, td.SMALL,
+    td.WIDE, td.SMOOTH, td.SMALL,
 ]
 
 
@@ -31,80 +30,6 @@ def refused(status, call, *arguments):
 def turn(desk):
     while (desk.serve_all() == td.OK) | desk.flush_all():
         pass
-
-
-def agrees(seed):
-    draw = random.Random(seed)
-    model = {}                          # by (deadline, serial): handle, number, action
-    with Desk(1, 20, 20, 1) as desk:
-        line, sent, serial = desk.lines[0], 0, 0
-        assert desk and len(desk) == 0
-        for _ in range(4000):
-            interval, action = draw.randrange(200), draw.randrange(2**64)
-            chosen = draw.choice(sorted(model)) if model and draw.random() < .9 else None
-            handle = model[chosen][0] if chosen else Handle()
-            choice = draw.randrange(5)
-            if choice < 4:
-                sent += 1
-                deadline = desk.now + interval if interval else draw.randrange(desk.now + 1)
-                at = choice == 1 or choice == 3 and action % 2
-                calls = [(line.start, interval, action), (line.start_at, deadline, action), (line.stop, handle),
-                         (line.restart, handle, interval, action), (line.restart_at, handle, deadline, action)]
-                call, *arguments = calls[4 if choice == 3 and at else choice]
-                assert call(*arguments) == sent
-                refused(td.LINE_FULL, line.start, 1, 1)
-                turn(desk)
-                word = line.receive()
-                assert (word.number, word.action) == (sent, 0 if choice == 2 else action) and line.receive() is None
-                assert repr(word).startswith(f"timers.desk.Word(kind={word.kind}, reason={word.reason}, number={sent}, ")
-            if choice < 2:
-                reason = td.ZERO_INTERVAL if interval == 0 and not at else td.CAPACITY if len(model) == 20 else 0
-                assert (word.kind, word.reason) == (td.REFUSED if reason else td.STARTED, reason)
-            elif choice == 2:
-                assert (word.kind, word.reason) == ((td.STOPPED, 0) if chosen else (td.REFUSED, td.NOT_PENDING))
-                assert not chosen or word.handle.serial == chosen[1]
-            elif choice == 3:
-                reason = td.NOT_PENDING if not chosen else td.ZERO_INTERVAL if interval == 0 and not at else 0
-                assert (word.kind, word.reason) == (td.REFUSED if reason else td.RESTARTED, reason)
-                assert word.other == (0 if reason else chosen[1])
-            if choice < 4 and word.kind in (td.STOPPED, td.RESTARTED):
-                del model[chosen]
-            if choice < 4 and word.kind in (td.STARTED, td.RESTARTED):
-                serial += 1
-                assert (word.handle.serial, word.deadline) == (serial, desk.now + interval)
-                if interval:
-                    model[word.deadline, serial] = word.handle, sent, action
-                else:       # it expires at once, after its answer
-                    turn(desk)
-                    word = line.receive()
-                    assert (word.kind, word.number, word.action) == (td.EXPIRED, sent, action)
-                    assert (word.handle.serial, word.deadline) == (serial, desk.now)
-            if choice == 4:
-                tick = desk.now + interval
-                while desk.now < tick:
-                    desk.advance(tick - desk.now)
-                    turn(desk)
-                    while word := line.receive():
-                        assert (word.deadline, word.handle.serial) == min(model) and word.deadline == desk.now
-                        assert (word.kind, word.number, word.action) == (td.EXPIRED, *model.pop(min(model))[1:])
-                        turn(desk)
-                    assert not model or min(model)[0] > desk.now
-            assert len(desk) == desk.pending(0) == len(model)
-            assert desk.next() == (min(model)[0] if model else None)
-            assert (desk.wakeup() or 0) <= (desk.next() or 0)
-        assert desk.close() == len(model)
-        turn(desk)
-        for key in sorted(model):
-            word = line.receive()
-            assert (word.kind, word.deadline, word.handle.serial, word.action) == (td.RETURNED, *key, model[key][2])
-            turn(desk)
-        assert line.start(1, 1) == sent + 1
-        turn(desk)
-        word = line.receive()
-        assert (word.kind, word.reason, word.number) == (td.NOT_TAKEN, td.CLOSED, sent + 1)
-        line.finish()
-        assert desk.end(0, line) == 0 and line.ended and not line.abandoned
-        refused(td.FINISHED, line.start, 1, 1)
 
 
 def come_and_go():
@@ -212,7 +137,7 @@ def numbers_out_of_range():
         for call in calls:
             for wrong in (-1, 2**64):
                 out_of_range(wrong, 64, call, wrong)
-        with Desk(1, 1, 1, 1, first_tick=8639998, table=td.CLOCK) as clock:
+        with Desk(1, 1, 1, 1, first_tick=16777214, table=td.SMALL) as clock:
             assert clock.advance(9) == 1 and desk.advance(9) == 9
 
 
@@ -316,19 +241,19 @@ class Number:
 
 
 def whole_numbers():
-    with Desk(*map(Number, (2, 9, 4, 4, 5, td.CLOCK))) as desk:
+    with Desk(*map(Number, (2, 9, 4, 4, 5, td.SMALL))) as desk:
         line = desk.lines[1]
         assert len(desk.lines) == 2 and line.start(Number(3), Number(7)) == 1
         assert desk.serve(Number(1)) == td.OK and desk.flush(Number(1)) == 1
-        assert line.stop(Handle(Number(line.receive().handle.place), Number(1))) == 2
+        word = line.receive()
+        assert repr(word).startswith("timers.desk.Word(kind=1, reason=0, number=1, ")
+        assert line.stop(Handle(Number(word.handle.place), Number(1))) == 2
         assert desk.serve_all(Number(9)) == td.OK and desk.pending(Number(1)) == 0 and desk.advance(Number(9)) == 9
 
 
 assert Handle(1, 7) == Handle(1, 7) and hash(Handle(1, 7)) == hash(Handle(1, 7))
 assert Handle(1, 7) not in (Handle(1, 8), Handle(2, 7), (1, 7))
 assert (str(DeskError(td.NO_ROOM)), str(DeskError(99))) == ("the outbox has no room", "no status")
-for seed in range(3):
-    agrees(seed)
 come_and_go()
 threads(4)
 numbers_out_of_range()

@@ -1,4 +1,4 @@
-"""Random calls of Timers agree with a dictionary; then its edges, its memory, what it refers to, and the end of the clock."""
+"""The edges of Timers, its memory, what it refers to, and the end of the clock. Random calls are in replay_test.py."""
 import contextlib
 import copy
 import gc
@@ -10,7 +10,7 @@ import tracemalloc
 import weakref
 
 import timers as module
-from timers import (CLOCK, CLOCK_END, CLOCK_LAST, DUE, LAST, NO_MEMORY, NO_TABLE, NOT_OPEN, NOT_PENDING, OK, SMOOTH, TOO_LATE,
+from timers import (CLOCK_END, LAST, NO_MEMORY, NO_TABLE, NOT_OPEN, NOT_PENDING, OK, SMALL, SMALL_LAST, TOO_LATE,
                     WIDE, ZERO_INTERVAL, Handle, Timers, TimersError, desk)
 
 try:
@@ -39,107 +39,6 @@ def refused(call, *arguments):
     except TimersError as error:
         return error.status
     return OK
-
-
-def numbered(timer):
-    deadline, serial, action = timer
-    return deadline, serial, action.number
-
-
-def start(timers, rng, tick, interval):
-    action = Action()
-    handle = timers.start_at(tick, action) if rng.randrange(2) else timers.start(interval, action)
-    return action.number, handle
-
-
-def restart(timers, rng, handle, tick, interval):
-    """Restarts it with another action, or with the same, in each way that there is. The number of the action, and the handle."""
-    call, end = rng.choice([(timers.restart, interval), (timers.restart_at, tick), (timers.set_at, tick)])
-    if call != timers.set_at and rng.randrange(2):
-        return timers.look(handle)[2].number, call(handle, end)
-    action = Action()
-    return action.number, call(handle, end, action)
-
-
-def pass_ticks(timers, rng, most):
-    """Passes so many ticks, and takes what expires, in each way that there is."""
-    got, how, end = [], rng.randrange(5), timers.now() + most
-    if how == 0:
-        got = timers.advance(most)
-    elif how == 1:
-        timers.catch_up(end, lambda *timer: got.append(timer))
-    elif how == 2:
-        while timer := timers.take(end):
-            got.append(timer)
-    elif how == 3:
-        got += timers.expired()
-        while timers.now() < end:
-            timers.advance_to(end)
-            got += timers.expired()
-    else:
-        while timers.now() < end or timers.has_due():
-            while timer := timers.expire():
-                got.append(timer)
-            timers.advance_to(end)
-    return [numbered(timer) for timer in got]
-
-
-def compare(calls=20000):
-    """Only the timers refer to an action that they hold, and nothing to one that they don't."""
-    rng = random.Random(5)
-    held, now = {}, 1000  # by serial: deadline, number of the action, handle
-    with Timers(first_tick=now) as timers:
-        for _ in range(calls):
-            which, interval = rng.randrange(5), 1 + rng.randrange(3000)
-            tick = now + interval if rng.randrange(4) else rng.randrange(now + 1)
-            if rng.randrange(64) == 0:
-                timers.reserve(rng.randrange(1000))
-            if which < 2 or (which < 4 and not held):
-                number, handle = start(timers, rng, tick, interval)
-                deadline = timers.look(handle)[0]
-                assert deadline in (max(tick, now), now + interval)  # at once, if it is not after now
-                assert numbered(timers.look(handle)) == (deadline, handle.serial, number)
-                held[handle.serial] = deadline, number, handle
-            elif which < 4:
-                serial = rng.choice(list(held)[:50])
-                _, number, old = held.pop(serial)
-                if which == 2:
-                    assert timers.stop(old).number == number
-                else:
-                    number, handle = restart(timers, rng, old, tick, interval)
-                    held[handle.serial] = timers.look(handle)[0], number, handle
-                assert old.serial == serial and refused(timers.stop, old) == NOT_PENDING and old not in timers
-                if which == 2 and rng.randrange(3) == 0:
-                    handle = timers.set_at(rng.choice([old, None]), tick, Action())
-                    held[handle.serial] = max(tick, now), Action.made, handle
-            else:
-                most = rng.randrange(200)
-                now += most
-                got = pass_ticks(timers, rng, most)
-                want = sorted((d, s, a) for s, (d, a, _) in held.items() if d <= now)
-                assert got == want, (got, want)
-                for _, serial, _ in got:
-                    del held[serial]
-                timers.advance_to(rng.randrange(now + 1))  # passes nothing
-                if rng.randrange(200) == 0:
-                    timers.clear()
-                    held.clear()
-            due = sum(d == now for d, _, _ in held.values())
-            first = min((d for d, _, _ in held.values()), default=None)
-            wakeup = timers.wakeup()
-            if due:
-                assert wakeup == now and refused(timers.tick) == DUE
-            else:
-                assert wakeup is None if first is None else now < wakeup <= first
-            assert timers.next() == timers.find_next() == timers.next() == first
-            assert timers.has_due() == (due > 0) and timers
-            assert timers.now() == now and len(timers) == len(held) and timers.pending() == len(held) - due
-            assert Action.live == {number for _, number, _ in held.values()}
-            assert all(handle in timers for _, _, handle in list(held.values())[:3])
-        visited = {handle.serial: numbered(timer) for handle, timer in timers}
-        assert visited == {serial: (deadline, serial, number) for serial, (deadline, number, _) in held.items()}
-    assert Action.live == set()
-    print(f"{calls} calls from Python agree; tick {now}")
 
 
 def raises(kind, call, *arguments):
@@ -196,8 +95,8 @@ def meet_the_edges():
             assert raises(TypeError, call, *wrong)
         assert timers.look(handle) == (2**60 - 1, 1, 2**64 - 1) and len(timers) == 1
         assert timers.stop(handle) == 2**64 - 1
-        assert timers and len(timers) == 0 and timers.next() is timers.find_next() is timers.wakeup() is None
-    assert timers and refused(timers.start, 1, 1) == refused(timers.set_at, handle, 1, 1) == NOT_OPEN
+        assert not timers and len(timers) == 0 and timers.next() is timers.find_next() is timers.wakeup() is None
+    assert not timers and refused(timers.start, 1, 1) == refused(timers.set_at, handle, 1, 1) == NOT_OPEN
     assert refused(timers.advance, 0) == refused(timers.advance, 1) == refused(timers.advance_to, 1) == NOT_OPEN
     assert refused(timers.catch_up, 0, print) == refused(timers.tick) == NOT_OPEN
     for closed in (timers, Timers.__new__(Timers)):
@@ -234,19 +133,19 @@ def take_nothing_if_refused():
 
 def catch_up_with_other_times():
     """A time before the clock passes no tick and runs nothing. One after its end is refused, and nothing has run."""
-    with Timers(CLOCK, 1000) as timers:
+    with Timers(SMALL, 1000) as timers:
         ran = []
         timers.start(500, 1)
         timers.start_at(0, 2)
         for now in (999, 0):
             timers.catch_up(now, lambda *timer: ran.append(timer))
             timers.advance_to(now)
-        for now in (8640000, 2**64 - 1):
+        for now in (16777216, 2**64 - 1):
             assert refused(timers.catch_up, now, lambda *timer: ran.append(timer)) == TOO_LATE
         assert ran == [] and timers.now() == 1000 and timers.has_due() and len(timers) == 2
         timers.catch_up(1000, lambda *timer: ran.append(timer[2]))
-        timers.catch_up(8639999, lambda *timer: ran.append(timer[2]))
-        assert ran == [2, 1] and timers.now() == 8639999
+        timers.catch_up(16777215, lambda *timer: ran.append(timer[2]))
+        assert ran == [2, 1] and timers.now() == 16777215
 
 
 def take_many():
@@ -354,17 +253,17 @@ class Number:
 
 def take_whole_numbers():
     """A number is read once, and stands for itself wherever it is used. Handles are equal if their numbers are."""
-    timers, last = Timers(Number(CLOCK), Number(8639990)), 8639999
+    timers, last = Timers(Number(SMALL), Number(16777206)), 16777215
     timers.reserve(Number(9))
     handle = timers.start(Number(1), 7)
     for call in (timers.restart, timers.restart_at, timers.set_at):
         handle = call(handle, Number(9 if call == timers.restart else last), 7)
     assert timers.look(Handle(Number(handle.place), Number(handle.serial))) == (last, handle.serial, 7)
-    assert timers.take(Number(8639991)) is None and timers.advance(Number(1)) == []
-    timers.advance_to(Number(8639993))
-    timers.catch_up(Number(8639994), print)
-    assert refused(timers.catch_up, Number(last + 1), print) == TOO_LATE and timers.now() == 8639994
-    for wrong in ((99, 0), (CLOCK, last + 1)):
+    assert timers.take(Number(16777207)) is None and timers.advance(Number(1)) == []
+    timers.advance_to(Number(16777209))
+    timers.catch_up(Number(16777210), print)
+    assert refused(timers.catch_up, Number(last + 1), print) == TOO_LATE and timers.now() == 16777210
+    for wrong in ((99, 0), (SMALL, last + 1)):
         assert refused(timers.__init__, *wrong) != OK and len(timers) == 1  # and it keeps what it has
     place, serial = handle.place, handle.serial
     same, others = Handle(place, serial), (Handle(place, 9), Handle(9, serial), (place, serial))
@@ -402,12 +301,12 @@ def hold_the_lock(most=3000):
 
 def keep_what_is_refused():
     """A call that is refused leaves the timer its action, and takes none."""
-    timers, shared = Timers(CLOCK, 5), [7]
+    timers, shared = Timers(SMALL, 5), [7]
     handle, number = timers.start(3, Action()), Action.made
-    calls = ((timers.restart, handle, 0, shared), (timers.restart, handle, 0), (timers.restart, handle, CLOCK_LAST),
-             (timers.restart_at, handle, CLOCK_LAST + 1, shared), (timers.restart_at, handle, CLOCK_LAST + 1),
-             (timers.set_at, handle, CLOCK_LAST + 1, shared), (timers.set_at, None, CLOCK_LAST + 1, shared),
-             (timers.start, 0, shared), (timers.start_at, CLOCK_LAST + 1, shared), (timers.restart, Handle(), 1),
+    calls = ((timers.restart, handle, 0, shared), (timers.restart, handle, 0), (timers.restart, handle, SMALL_LAST),
+             (timers.restart_at, handle, SMALL_LAST + 1, shared), (timers.restart_at, handle, SMALL_LAST + 1),
+             (timers.set_at, handle, SMALL_LAST + 1, shared), (timers.set_at, None, SMALL_LAST + 1, shared),
+             (timers.start, 0, shared), (timers.start_at, SMALL_LAST + 1, shared), (timers.restart, Handle(), 1),
              (timers.restart_at, Handle(), 1, shared), (timers.stop, Handle()), (timers.look, Handle()))
     references = sys.getrefcount(shared)
     for call, *arguments in calls:
@@ -490,7 +389,7 @@ def derive():
     """A class of the user's has the same calls, and may have more."""
     class Named(Timers[str]):
         def __init__(self, name):
-            super().__init__(CLOCK, 7)
+            super().__init__(SMALL, 7)
             self.name = name
 
         def start(self, interval, action):
@@ -498,7 +397,7 @@ def derive():
 
     named = Named("a")
     handle = named.start(3, "b")
-    assert named.look(handle) == (10, handle.serial, "ab") and named.name == "a" and refused(named.start, 8639999, "") == TOO_LATE
+    assert named.look(handle) == (10, handle.serial, "ab") and named.name == "a" and refused(named.start, SMALL_LAST - 6, "") == TOO_LATE
     assert repr(named) == "<timers, 1 held, tick 7>"
     empty = Timers.__new__(Timers)
     assert refused(empty.start, 1, 1) == NOT_OPEN and repr(empty) == "<timers, closed>" and len(empty) == 0 and list(empty) == []
@@ -529,7 +428,7 @@ def name_what_is_refused():
         assert raises(OverflowError, kind, -1) and raises(TypeError, lambda kind=kind: kind(status=1))
     last_ticks = [
         # made by tools/facts: last ticks of tables in Python
-        module.LAST, module.CLOCK_LAST, module.LAST, module.SMALL_LAST,
+        module.LAST, module.LAST, module.SMALL_LAST,
     ]
     for wrong in (len(last_ticks), 2**32 - 1):
         assert refused(Timers, wrong) == NO_TABLE
@@ -641,8 +540,8 @@ def count_what_waits():
 
 def come_to_the_last_tick():
     """Nothing that expired is lost at the end of the clock, and what is refused there has taken nothing."""
-    last = 8639999
-    with Timers(CLOCK, last - 9) as timers:
+    last = 16777215
+    with Timers(SMALL, last - 9) as timers:
         first, second = timers.start(5, 7), timers.start(9, 8)
         assert refused(timers.start, 10, 9) == TOO_LATE
         assert timers.advance(100) == [(last - 4, first.serial, 7), (last, second.serial, 8)]
@@ -651,10 +550,10 @@ def come_to_the_last_tick():
         assert timers.take(LAST) is None and timers.now() == last
         timers.clear()
         assert refused(timers.start_at, last, 1) == refused(timers.start_at, 0, 1) == TOO_LATE
-    with Timers(CLOCK, last - 9) as timers:
+    with Timers(SMALL, last - 9) as timers:
         assert timers.advance(100) == [] and timers.now() == last
         assert refused(timers.advance, 100) == CLOCK_END
-    with Timers(CLOCK, last - 1) as timers:
+    with Timers(SMALL, last - 1) as timers:
         handle = timers.start(1, 6)
         timers.tick()
         assert timers.advance(1) == [(last, handle.serial, 6)]
@@ -662,42 +561,24 @@ def come_to_the_last_tick():
 
 
 def count_the_moves():
-    """A timer for 11 days 11:15:15, started at 10:24:30, moves at 11:00:00 and at 11:15:00."""
-    with Timers(CLOCK, 987870) as timers:
-        handle = timers.start_at(990915, 7)
+    """A timer for tick 0x123, in wheels of 16 slots, moves at 0x100 and at 0x120."""
+    with Timers(SMALL) as timers:
+        handle = timers.start_at(0x123, 7)
         assert timers.counts() == (1, 0, 0)
-        timers.advance(989999 - 987870)
-        assert timers.counts() == (1, 0, 35)
-        timers.advance(990899 - 989999)
-        assert timers.counts() == (1, 1, 50)
-        assert timers.advance(16) == [(990915, handle.serial, 7)]
-        assert timers.counts() == (1, 2, 52)
+        timers.advance(0xff)
+        assert timers.counts() == (1, 0, 15)
+        timers.advance(0x11f - 0xff)
+        assert timers.counts() == (1, 1, 17)
+        assert timers.advance(4) == [(0x123, handle.serial, 7)]
+        assert timers.counts() == (1, 2, 19)
         timers.stop(timers.restart(timers.start(1, 8), 2, 9))
-        assert timers.counts() == (3, 2, 52)
+        assert timers.counts() == (3, 2, 19)
     assert refused(timers.counts) == NOT_OPEN
 
 
-def move_ahead():
-    """At tick 64 the slot of tick 130 is the next one of wheel 1: a hundred timers in it move before their ticks."""
-    with Timers(SMOOTH) as timers:
-        handles = [timers.start(130, i) for i in range(100)]
-        assert timers.move_ahead(9) == 0
-        timers.advance_to(64)
-        assert [timers.move_ahead(most) for most in (0, 60, 2**64 - 1, 1)] == [0, 60, 40, 0]
-        assert timers.counts() == (100, 100, 0) and timers.next() == 130
-        assert timers.advance(66) == [(130, handle.serial, i) for i, handle in enumerate(handles)]
-        assert timers.counts() == (100, 100, 0)
-        assert raises(OverflowError, timers.move_ahead, -1) and raises(TypeError, timers.move_ahead, None)
-    assert timers.move_ahead(9) == 0
-    with Timers(WIDE) as timers:
-        timers.start(130, 1)
-        timers.advance_to(64)
-        assert timers.move_ahead(9) == 0
-
-
 if __name__ == "__main__":
-    for test in (compare, meet_the_edges, close_if_the_block_raises, stop_what_expired,
-                 count_what_waits, come_to_the_last_tick, count_the_moves, move_ahead, take_nothing_if_refused,
+    for test in (meet_the_edges, close_if_the_block_raises, stop_what_expired,
+                 count_what_waits, come_to_the_last_tick, count_the_moves, take_nothing_if_refused,
                  catch_up_with_other_times, take_many, keep_what_an_iteration_gave, raise_from_a_run, make_room, free_what_is_closed, take_whole_numbers, hold_the_lock,
                  keep_what_is_refused, release_what_calls_back, refer_in_circles, derive, call_the_actions, name_what_is_refused,
                  keep_handles, refuse_memory):

@@ -4,11 +4,12 @@
 // SPDX-License-Identifier: MIT OR Apache-2.0
 use std::thread;
 use timers::desk::{Config, Desk, Error, Line, Word};
+use timers::Ticks;
 
 /// Starts two timers, and receives words until both have expired.
 fn work(mut line: Line, owner: &thread::Thread) -> Result<(), Error> {
-    line.start(300, 7)?;
-    line.start(240, 8)?;
+    line.start(Ticks(300), 7)?;
+    line.start(Ticks(240), 8)?;
     owner.unpark();
     let mut expired = 0;
     while expired < 2 {

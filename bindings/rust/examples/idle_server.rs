@@ -92,7 +92,7 @@ impl Server {
                 self.handle(event)?;
             }
             // 3. Hang up on those whose time was up at 1.
-            for timer in self.timers.expired(due) {
+            for timer in self.timers.take_due(due) {
                 self.idle.remove(&timer.value.number);
                 println!("client {} was silent for too long", timer.value.number);
             }

@@ -6,11 +6,11 @@
 //     cargo run --example retries
 // SPDX-License-Identifier: MIT OR Apache-2.0
 use std::collections::HashMap;
-use timers::{Error, Handle, Timers};
+use timers::{Error, Handle, Tick, Ticks, Timers};
 
 const FIRST_WAIT: u64 = 200;
 const ATTEMPTS: u32 = 5;
-const ROUND_TRIP: u64 = 50;
+const ROUND_TRIP: Ticks = Ticks(50);
 
 struct Packet {
     number: u32,
@@ -44,14 +44,14 @@ impl Queue {
         if !lost {
             self.timers.start(ROUND_TRIP, Event::Acknowledged(packet.number))?;
         }
-        let wait = FIRST_WAIT << (packet.attempt - 1);
+        let wait = Ticks(FIRST_WAIT << (packet.attempt - 1));
         let number = packet.number;
         let handle = self.timers.start(wait, Event::Late(packet))?;
         self.waiting.insert(number, handle);
         Ok(())
     }
 
-    fn handle(&mut self, now: u64, event: Event) -> Result<(), Error> {
+    fn handle(&mut self, now: Tick, event: Event) -> Result<(), Error> {
         match event {
             Event::Acknowledged(number) => {
                 let packet = self.waiting.remove(&number).and_then(|handle| self.timers.stop(handle));

@@ -11,7 +11,7 @@ use std::sync::{Arc, Mutex};
 use std::task::{Context, Poll, Wake, Waker};
 use std::thread;
 use std::time::Duration;
-use timers::{Clock, Error, Handle, Timers};
+use timers::{Clock, Error, Handle, Tick, Timers};
 
 type Sleepers = Rc<RefCell<Timers<Waker>>>;
 
@@ -19,7 +19,7 @@ type Sleepers = Rc<RefCell<Timers<Waker>>>;
 struct Sleep {
     sleepers: Sleepers,
     clock: Clock,
-    tick: u64,
+    tick: Tick,
     handle: Handle,
 }
 
@@ -72,7 +72,7 @@ fn run(sleepers: &Sleepers, clock: Clock, jobs: Vec<Job>) -> Result<(), Error> {
         }
         let wakeup = sleepers.borrow().wakeup();
         thread::sleep(wakeup.map_or(Duration::ZERO, |tick| clock.until(tick)));
-        for timer in sleepers.borrow_mut().expired(clock.now()) {
+        for timer in sleepers.borrow_mut().take_due(clock.now()) {
             timer.value.wake();
         }
     }
@@ -83,7 +83,7 @@ fn main() -> Result<(), Error> {
     let clock = Clock::new(Duration::from_millis(1));
     let sleepers = Rc::new(RefCell::new(Timers::new()?));
     let sleep = |tick| Sleep { sleepers: Rc::clone(&sleepers), clock, tick, handle: Handle::default() };
-    let (egg, tea, call) = (sleep(24), sleep(30), sleep(90_000));
+    let (egg, tea, call) = (sleep(Tick(24)), sleep(Tick(30)), sleep(Tick(90_000)));
     let jobs: Vec<Job> = vec![
         Box::pin(async {
             tea.await?;

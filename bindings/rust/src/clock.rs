@@ -1,5 +1,6 @@
 //! A clock of real time, in ticks.
 // SPDX-License-Identifier: MIT OR Apache-2.0
+use crate::Tick;
 use std::time::{Duration, Instant};
 
 const NANOS_OF_SECOND: u128 = 1_000_000_000;
@@ -16,7 +17,7 @@ const NANOS_OF_SECOND: u128 = 1_000_000_000;
 /// timers.start_at(clock.after(Duration::from_millis(2)), "tea")?;
 /// while let Some(tick) = timers.wakeup() {
 ///     std::thread::sleep(clock.until(tick));
-///     for timer in timers.expired(clock.now()) {
+///     for timer in timers.take_due(clock.now()) {
 ///         println!("{}", timer.value);
 ///     }
 /// }
@@ -25,7 +26,7 @@ const NANOS_OF_SECOND: u128 = 1_000_000_000;
 ///
 /// A timer that is started for [`after`](Clock::after) or [`at`](Clock::at), and taken by [`now`](Clock::now), never comes
 /// early: all three are rounded towards late. It counts from the call and not from the tick up to which the timers were
-/// advanced. A time that is too far away for a tick is `u64::MAX`, which a start refuses as
+/// advanced. A time that is too far away for a tick is `Tick(u64::MAX)`, which a start refuses as
 /// [`TooLate`](crate::Error::TooLate).
 #[derive(Clone, Copy, Debug, Eq, Hash, PartialEq)]
 pub struct Clock {
@@ -58,40 +59,40 @@ impl Clock {
 
     /// The last tick that has begun; 0 before the start.
     #[must_use]
-    pub fn now(&self) -> u64 {
+    pub fn now(&self) -> Tick {
         let passed = Instant::now().saturating_duration_since(self.start).as_nanos();
-        u64::try_from(passed / self.tick).unwrap_or(u64::MAX)
+        Tick(u64::try_from(passed / self.tick).unwrap_or(u64::MAX))
     }
 
     /// The first tick that begins no earlier than `time` from now: the deadline of a time-out.
     #[must_use]
-    pub fn after(&self, time: Duration) -> u64 {
-        Instant::now().checked_add(time).map_or(u64::MAX, |instant| self.at(instant))
+    pub fn after(&self, time: Duration) -> Tick {
+        Instant::now().checked_add(time).map_or(Tick(u64::MAX), |instant| self.at(instant))
     }
 
     /// The first tick that begins no earlier than `instant`; 0 before the start.
     #[must_use]
-    pub fn at(&self, instant: Instant) -> u64 {
+    pub fn at(&self, instant: Instant) -> Tick {
         let passed = instant.saturating_duration_since(self.start).as_nanos();
-        u64::try_from(passed.div_ceil(self.tick)).unwrap_or(u64::MAX)
+        Tick(u64::try_from(passed.div_ceil(self.tick)).unwrap_or(u64::MAX))
     }
 
     /// When a tick begins; `None` if that is later than an `Instant` can be.
     #[must_use]
-    pub fn instant(&self, tick: u64) -> Option<Instant> {
-        self.start.checked_add(self.length(tick)?)
+    pub fn instant(&self, tick: Tick) -> Option<Instant> {
+        self.start.checked_add(self.begins(tick)?)
     }
 
     /// How long it is until a tick begins: how long to sleep, or to wait for input. Zero if it has begun, which the time-outs
     /// of sockets don't take, and [`Duration::MAX`] if that is later than an `Instant` can be.
     #[must_use]
-    pub fn until(&self, tick: u64) -> Duration {
+    pub fn until(&self, tick: Tick) -> Duration {
         self.instant(tick).map_or(Duration::MAX, |instant| instant.saturating_duration_since(Instant::now()))
     }
 
-    /// The length of so many ticks.
-    fn length(&self, ticks: u64) -> Option<Duration> {
-        let nanos = self.tick.checked_mul(u128::from(ticks))?;
+    /// How long after the start a tick begins.
+    fn begins(&self, tick: Tick) -> Option<Duration> {
+        let nanos = self.tick.checked_mul(u128::from(tick.0))?;
         let seconds = u64::try_from(nanos / NANOS_OF_SECOND).ok()?;
         Some(Duration::new(seconds, (nanos % NANOS_OF_SECOND) as u32))
     }

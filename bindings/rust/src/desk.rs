@@ -13,15 +13,16 @@
 //!
 //! ```
 //! use timers::desk::{Config, Desk, Error, Word};
+//! use timers::{Tick, Ticks};
 //!
 //! let (mut desk, mut lines) = Desk::new(1, Config::new(10, 2, 2))?; // one client, which has at most 2 timers and 2 requests
 //! let mut line = lines.remove(0); // sent to the client's thread
-//! line.start(5, 7)?;
+//! line.start(Ticks(5), 7)?;
 //! desk.serve_all(64)?;
-//! desk.advance_to(5)?;
+//! desk.advance_to(Tick(5))?;
 //! desk.flush_all();
 //! assert!(matches!(line.receive(), Some(Word::Started { number: 1, .. })));
-//! assert!(matches!(line.receive(), Some(Word::Expired(timer)) if timer.action == 7 && timer.deadline == 5));
+//! assert!(matches!(line.receive(), Some(Word::Expired(timer)) if timer.action == 7 && timer.deadline == Tick(5)));
 //! # Ok::<(), Error>(())
 //! ```
 //!
@@ -43,7 +44,7 @@
 //! `timers_desk_tick`, `timers_desk_settle` and `timers_desk_end_all` of the C library are not wrapped.
 
 // SPDX-License-Identifier: MIT OR Apache-2.0
-use crate::Table;
+use crate::{Table, Tick, Ticks};
 use alloc::vec::Vec;
 use core::cell::Cell;
 use core::error;
@@ -55,7 +56,6 @@ use core::sync::atomic::{AtomicU64, Ordering};
 
 const OK: c_uint = 0;
 const IDLE: c_uint = 20;
-const NEVER: u64 = u64::MAX;
 // made by tools/facts: kinds in Rust
 const STARTED: c_uint = 1;
 const RESTARTED: c_uint = 2;
@@ -67,121 +67,38 @@ const RETURNED: c_uint = 7;
 /// The most clients of a desk.
 pub const CLIENTS: usize = 64;
 
-/// Why a call was refused, or a request.
-#[derive(Clone, Copy, Debug, Eq, PartialEq)]
-#[non_exhaustive]
-pub enum Error {
-    /// No desk or no line is held.
-    NotOpen,
-    /// A desk or a line is held already.
-    Open,
-    /// Out of memory.
-    NoMemory,
-    /// No timer of the client has this handle.
-    NotPending,
-    /// The interval is 0.
-    ZeroInterval,
-    /// After the last tick.
-    TooLate,
-    /// Every serial was used.
-    SerialsSpent,
-    /// The clock is at its last tick.
-    ClockEnd,
-    /// The desk was closed.
-    Closed,
-    /// As many timers are pending as may be.
-    Capacity,
-    /// No such client.
-    NoClient,
-    /// Every number of the client was used.
-    NumbersSpent,
-    /// The line is full.
-    LineFull,
-    /// The line has finished.
-    Finished,
-    /// A number is out of its range.
-    OutOfRange,
-    /// The outbox has no room.
-    NoRoom,
-    /// The line is not this client's.
-    OtherLine,
-    /// The line has not finished.
-    NotFinished,
-    /// Something of the client is left.
-    Left,
-    /// The client's line was not freed.
-    NotFreed,
-    /// A status of a later library.
-    Other(c_uint),
+crate::error::errors! {
+    /// Why a call was refused, or a request.
+    #[derive(Clone, Copy, Debug, Eq, PartialEq)]
+    // made by tools/facts: errors of desks
+    1 NotOpen "no desk or no line is held",
+    2 Open "a desk or a line is held already",
+    4 NoMemory "out of memory",
+    6 NotPending "no timer of the client has this handle",
+    7 ZeroInterval "the interval is 0",
+    8 TooLate "after the last tick",
+    9 SerialsSpent "every serial was used",
+    10 ClockEnd "the clock is at its last tick",
+    11 Closed "the desk was closed",
+    12 Capacity "as many timers are pending as may be",
+    13 NoClient "no such client",
+    14 NumbersSpent "every number of the client was used",
+    17 LineFull "the line is full",
+    18 Finished "the line has finished",
+    19 OutOfRange "a number of clients, room or configuration is out of range",
+    21 NoRoom "the outbox has no room",
+    22 OtherLine "the line is another client's, or of another desk",
+    23 NotFinished "the line has not finished",
+    24 Left "something of the client is left",
+    25 NotFreed "the client's line was not freed",
+    // by hand
 }
-
-impl Error {
-    fn of(status: c_uint) -> Error {
-        match status {
-            // made by tools/facts: errors of desks
-            1 => Error::NotOpen,
-            2 => Error::Open,
-            4 => Error::NoMemory,
-            6 => Error::NotPending,
-            7 => Error::ZeroInterval,
-            8 => Error::TooLate,
-            9 => Error::SerialsSpent,
-            10 => Error::ClockEnd,
-            11 => Error::Closed,
-            12 => Error::Capacity,
-            13 => Error::NoClient,
-            14 => Error::NumbersSpent,
-            17 => Error::LineFull,
-            18 => Error::Finished,
-            19 => Error::OutOfRange,
-            21 => Error::NoRoom,
-            22 => Error::OtherLine,
-            23 => Error::NotFinished,
-            24 => Error::Left,
-            25 => Error::NotFreed,
-            // by hand
-            other => Error::Other(other),
-        }
-    }
-}
-
-impl fmt::Display for Error {
-    fn fmt(&self, f: &mut fmt::Formatter<'_>) -> fmt::Result {
-        f.write_str(match self {
-            // made by tools/facts: texts of errors of desks
-            Error::NotOpen => "no desk or no line is held",
-            Error::Open => "a desk or a line is held already",
-            Error::NoMemory => "out of memory",
-            Error::NotPending => "no timer of the client has this handle",
-            Error::ZeroInterval => "the interval is 0",
-            Error::TooLate => "after the last tick",
-            Error::SerialsSpent => "every serial was used",
-            Error::ClockEnd => "the clock is at its last tick",
-            Error::Closed => "the desk was closed",
-            Error::Capacity => "as many timers are pending as may be",
-            Error::NoClient => "no such client",
-            Error::NumbersSpent => "every number of the client was used",
-            Error::LineFull => "the line is full",
-            Error::Finished => "the line has finished",
-            Error::OutOfRange => "a number of clients, room or configuration is out of range",
-            Error::NoRoom => "the outbox has no room",
-            Error::OtherLine => "the line is another client's, or of another desk",
-            Error::NotFinished => "the line has not finished",
-            Error::Left => "something of the client is left",
-            Error::NotFreed => "the client's line was not freed",
-            // by hand
-            Error::Other(status) => return write!(f, "status {status}"),
-        })
-    }
-}
-
-impl error::Error for Error {}
 
 fn done<T>(status: c_uint, value: T) -> Result<T, Error> {
     if status == OK {
         Ok(value)
     } else {
-        Err(Error::of(status))
+        Err(Error::named(status))
     }
 }
 
@@ -199,7 +116,7 @@ fn served(status: c_uint) -> Result<bool, Error> {
 #[non_exhaustive]
 pub struct Config {
     /// The tick at which the clock begins.
-    pub first_tick: u64,
+    pub first_tick: Tick,
     /// The most timers that may be pending at a time, of all clients.
     pub capacity: u64,
     /// How many words each client's outbox has room for.
@@ -217,7 +134,7 @@ impl Config {
     #[must_use]
     pub fn new(capacity: u64, timers: u64, requests: u64) -> Config {
         let room = timers.saturating_add(requests).saturating_add(1);
-        Config { first_tick: 0, capacity, room, line: requests, table: Table::Wide }
+        Config { first_tick: Tick(0), capacity, room, line: requests, table: Table::Wide }
     }
 }
 
@@ -245,7 +162,7 @@ pub struct Timer {
     /// The serial of its handle.
     pub serial: u64,
     /// The tick at which it expired, or would have.
-    pub deadline: u64,
+    pub deadline: Tick,
     /// The action that its request had.
     pub action: u64,
 }
@@ -261,7 +178,7 @@ pub enum Word {
         /// The handle of the timer.
         handle: Handle,
         /// The tick at which it expires.
-        deadline: u64,
+        deadline: Tick,
         /// The action that the request had.
         action: u64,
     },
@@ -272,7 +189,7 @@ pub enum Word {
         /// The handle of the new timer.
         handle: Handle,
         /// The tick at which it expires.
-        deadline: u64,
+        deadline: Tick,
         /// The action that the request had.
         action: u64,
         /// The serial of the timer that it replaced.
@@ -322,16 +239,17 @@ struct RawWord {
 
 impl RawWord {
     fn word(&self) -> Word {
-        let RawWord { number, handle, deadline, action, .. } = *self;
+        let RawWord { number, handle, action, .. } = *self;
+        let deadline = Tick(self.deadline);
         let timer = Timer { number, serial: handle.serial, deadline, action };
         match self.kind {
             STARTED => Word::Started { number, handle, deadline, action },
             RESTARTED => Word::Restarted { number, handle, deadline, action, old: self.other },
             STOPPED => Word::Stopped { number, serial: handle.serial },
-            REFUSED => Word::Refused { number, action, reason: Error::of(self.reason) },
+            REFUSED => Word::Refused { number, action, reason: Error::named(self.reason) },
             EXPIRED => Word::Expired(timer),
             RETURNED => Word::Returned(timer),
-            _ => Word::NotTaken { number, action, reason: Error::of(self.reason) },
+            _ => Word::NotTaken { number, action, reason: Error::named(self.reason) },
         }
     }
 }
@@ -448,7 +366,7 @@ impl Desk {
         }
         let Config { first_tick, capacity, room, line, table } = config;
         let (size, table) = (core::mem::size_of::<RawConfig>() as u64, table as u32);
-        let raw = RawConfig { size, first_tick, capacity, room, line, table, unnamed: 0 };
+        let raw = RawConfig { size, first_tick: first_tick.0, capacity, room, line, table, unnamed: 0 };
         // Each desk counts from another number, so that a line of another desk is refused.
         let lives = DESKS.fetch_add(1, Ordering::Relaxed);
         let mut desk = Desk { held: RawDesk { at: 0, mark: 0, lives }, clients, alone: PhantomData };
@@ -494,18 +412,18 @@ impl Desk {
     /// Passes at most `most` ticks, up to the first at which a timer expires, and returns how many. Does not allocate.
     ///
     /// # Errors
-    /// `Closed`; `ClockEnd`. Neither if `most` is 0.
-    pub fn advance(&mut self, most: u64) -> Result<u64, Error> {
+    /// `Closed`; `ClockEnd`. Neither if `most` is `Ticks(0)`.
+    pub fn advance(&mut self, most: Ticks) -> Result<Ticks, Error> {
         let mut passed = 0;
-        let status = unsafe { timers_desk_advance(&mut self.held, most, &mut passed) };
-        done(status, passed)
+        let status = unsafe { timers_desk_advance(&mut self.held, most.0, &mut passed) };
+        done(status, Ticks(passed))
     }
 
     /// Passes the ticks up to this one, also those at which timers expire. Does nothing if it has passed.
     ///
     /// # Errors
     /// `Closed`. With `ClockEnd` the ticks up to the last one of the clock have passed.
-    pub fn advance_to(&mut self, tick: u64) -> Result<(), Error> {
+    pub fn advance_to(&mut self, tick: Tick) -> Result<(), Error> {
         while self.now() < tick {
             self.advance(tick - self.now())?;
         }
@@ -566,8 +484,8 @@ impl Desk {
 
     /// The present tick.
     #[must_use]
-    pub fn now(&self) -> u64 {
-        unsafe { timers_desk_now(&self.held) }
+    pub fn now(&self) -> Tick {
+        Tick(unsafe { timers_desk_now(&self.held) })
     }
 
     /// How many timers are pending.
@@ -590,14 +508,14 @@ impl Desk {
 
     /// A tick before which nothing expires, at most the first deadline, or None if nothing is pending.
     #[must_use]
-    pub fn wakeup(&self) -> Option<u64> {
-        Some(unsafe { timers_desk_wakeup(&self.held) }).filter(|tick| *tick != NEVER)
+    pub fn wakeup(&self) -> Option<Tick> {
+        Tick::known(unsafe { timers_desk_wakeup(&self.held) })
     }
 
     /// The first deadline, or None if nothing is pending.
     #[must_use]
-    pub fn next_deadline(&self) -> Option<u64> {
-        Some(unsafe { timers_desk_next(&self.held) }).filter(|tick| *tick != NEVER)
+    pub fn next_deadline(&self) -> Option<Tick> {
+        Tick::known(unsafe { timers_desk_next(&self.held) })
     }
 
     /// Whether a client's line was dropped.
@@ -632,9 +550,9 @@ impl Line {
     ///
     /// # Errors
     /// `Finished`; `NumbersSpent`; `LineFull`: it may be sent again once the owner has served the client.
-    pub fn start(&mut self, interval: u64, action: u64) -> Result<u64, Error> {
+    pub fn start(&mut self, interval: Ticks, action: u64) -> Result<u64, Error> {
         let mut number = 0;
-        let status = unsafe { timers_line_start(&mut self.held, interval, action, &mut number) };
+        let status = unsafe { timers_line_start(&mut self.held, interval.0, action, &mut number) };
         done(status, number)
     }
 
@@ -642,9 +560,9 @@ impl Line {
     ///
     /// # Errors
     /// Those of [`Line::start`].
-    pub fn start_at(&mut self, deadline: u64, action: u64) -> Result<u64, Error> {
+    pub fn start_at(&mut self, deadline: Tick, action: u64) -> Result<u64, Error> {
         let mut number = 0;
-        let status = unsafe { timers_line_start_at(&mut self.held, deadline, action, &mut number) };
+        let status = unsafe { timers_line_start_at(&mut self.held, deadline.0, action, &mut number) };
         done(status, number)
     }
 
@@ -662,9 +580,9 @@ impl Line {
     ///
     /// # Errors
     /// Those of [`Line::start`].
-    pub fn restart(&mut self, handle: Handle, interval: u64, action: u64) -> Result<u64, Error> {
+    pub fn restart(&mut self, handle: Handle, interval: Ticks, action: u64) -> Result<u64, Error> {
         let mut number = 0;
-        let status = unsafe { timers_line_restart(&mut self.held, handle, interval, action, &mut number) };
+        let status = unsafe { timers_line_restart(&mut self.held, handle, interval.0, action, &mut number) };
         done(status, number)
     }
 
@@ -672,9 +590,9 @@ impl Line {
     ///
     /// # Errors
     /// Those of [`Line::start`].
-    pub fn restart_at(&mut self, handle: Handle, deadline: u64, action: u64) -> Result<u64, Error> {
+    pub fn restart_at(&mut self, handle: Handle, deadline: Tick, action: u64) -> Result<u64, Error> {
         let mut number = 0;
-        let status = unsafe { timers_line_restart_at(&mut self.held, handle, deadline, action, &mut number) };
+        let status = unsafe { timers_line_restart_at(&mut self.held, handle, deadline.0, action, &mut number) };
         done(status, number)
     }
 

@@ -6,26 +6,59 @@ use core::fmt;
 
 const OK: c_uint = 0;
 
-/// Why a call was refused. Then nothing has changed.
-#[derive(Clone, Copy, Debug, Eq, Hash, PartialEq)]
-#[non_exhaustive]
-pub enum Error {
-    /// Memory is out, or there are about 4.29 billion timers (after a `reserve` maybe half as many).
-    NoMemory,
-    /// An expired timer was not yet taken, so the clock can't advance.
-    Due,
-    /// No timer has this handle: it was stopped, restarted, taken or dropped.
-    NotPending,
-    /// The interval is 0.
-    ZeroInterval,
-    /// The tick is after the last one of the clock, or the clock is at its last tick, at which no timer starts.
-    TooLate,
-    /// 2^60 - 1 timers were started.
-    SerialsSpent,
-    /// The clock is at its last tick.
-    ClockEnd,
-    /// A status of a later C library, which was linked in place of the crate's own.
-    Other(c_uint),
+/// An enum of the statuses that are errors: the number, the name and the text of each, and what else it means.
+macro_rules! errors {
+    ($(#[$about:meta])* $($number:literal $name:ident $text:literal $($means:literal)?,)*) => {
+        $(#[$about])*
+        #[non_exhaustive]
+        pub enum Error {
+            $(#[doc = $text] $(#[doc = ""] #[doc = $means])? $name,)*
+            /// A status of a later C library, which was linked in place of the crate's own.
+            Other(c_uint),
+        }
+
+        impl Error {
+            #[cold]
+            fn named(status: c_uint) -> Error {
+                match status {
+                    $($number => Error::$name,)*
+                    other => Error::Other(other),
+                }
+            }
+        }
+
+        impl fmt::Display for Error {
+            fn fmt(&self, f: &mut fmt::Formatter<'_>) -> fmt::Result {
+                match self {
+                    $(Error::$name => f.write_str($text),)*
+                    Error::Other(status) => write!(f, "status {status}"),
+                }
+            }
+        }
+
+        impl error::Error for Error {}
+    };
+}
+#[cfg(feature = "std")]
+pub(crate) use errors;
+
+errors! {
+    /// Why a call was refused. Then nothing has changed.
+    #[derive(Clone, Copy, Debug, Eq, Hash, PartialEq)]
+    // made by tools/facts: errors of timers
+    4 NoMemory "out of memory"
+        "Memory is out, or there are about 4.29 billion timers (after a `reserve` maybe half as many).",
+    5 Due "an expired timer was not yet taken"
+        "An expired timer was not yet taken, so the clock can't advance.",
+    6 NotPending "no timer has this handle"
+        "No timer has this handle: it was stopped, restarted, taken or dropped.",
+    7 ZeroInterval "the interval is 0",
+    8 TooLate "after the last tick"
+        "The tick is after the last one of the clock, or the clock is at its last tick, at which no timer starts.",
+    9 SerialsSpent "every serial was used"
+        "2^60 - 1 timers were started.",
+    10 ClockEnd "the clock is at its last tick",
+    // by hand
 }
 
 impl Error {
@@ -38,42 +71,7 @@ impl Error {
             Err(Error::named(status))
         }
     }
-
-    #[cold]
-    fn named(status: c_uint) -> Error {
-        match status {
-            // made by tools/facts: errors of timers
-            4 => Error::NoMemory,
-            5 => Error::Due,
-            6 => Error::NotPending,
-            7 => Error::ZeroInterval,
-            8 => Error::TooLate,
-            9 => Error::SerialsSpent,
-            10 => Error::ClockEnd,
-            // by hand
-            other => Error::Other(other),
-        }
-    }
 }
-
-impl fmt::Display for Error {
-    fn fmt(&self, f: &mut fmt::Formatter<'_>) -> fmt::Result {
-        f.write_str(match self {
-            // made by tools/facts: texts of errors of timers
-            Error::NoMemory => "out of memory",
-            Error::Due => "an expired timer was not yet taken",
-            Error::NotPending => "no timer has this handle",
-            Error::ZeroInterval => "the interval is 0",
-            Error::TooLate => "after the last tick",
-            Error::SerialsSpent => "every serial was used",
-            Error::ClockEnd => "the clock is at its last tick",
-            // by hand
-            Error::Other(status) => return write!(f, "status {status}"),
-        })
-    }
-}
-
-impl error::Error for Error {}
 
 /// A start that was refused: why, and the value that it was given.
 ///
@@ -83,11 +81,11 @@ impl error::Error for Error {}
 ///
 /// ```
 /// use std::rc::Rc;
-/// use timers::{Error, Timers};
+/// use timers::{Error, Ticks, Timers};
 ///
 /// fn run(name: &str) -> Result<(), Box<dyn std::error::Error + Send + Sync>> {
 ///     let mut timers = Timers::new()?;
-///     timers.start(0, (Rc::new(1), name)).map_err(Error::from)?;
+///     timers.start(Ticks(0), (Rc::new(1), name)).map_err(Error::from)?;
 ///     Ok(())
 /// }
 /// assert_eq!(run("tea").unwrap_err().downcast_ref(), Some(&Error::ZeroInterval));

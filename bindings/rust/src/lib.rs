@@ -16,6 +16,7 @@ mod ffi;
 #[cfg(not(feature = "std"))]
 mod memory;
 mod table;
+mod tick;
 mod timers;
 mod values;
 
@@ -23,5 +24,6 @@ mod values;
 pub use clock::Clock;
 pub use error::{Error, Refused};
 pub use table::*;
-pub use timers::{at_least, Counts, Expired, Handle, Iter, Timer, Timers};
+pub use tick::{Tick, Ticks};
+pub use timers::{at_least, Counts, Handle, Iter, TakeDue, Timer, Timers};
 pub use values::Drain;

@@ -1,5 +1,6 @@
 //! The tables of wheels.
 // SPDX-License-Identifier: MIT OR Apache-2.0
+use crate::Tick;
 
 /// The slots of the wheels, and when their timers move.
 #[derive(Clone, Copy, Debug, Default, Eq, Hash, PartialEq)]
@@ -8,23 +9,18 @@ pub enum Table {
     /// Ten wheels of 64 slots. They take some 15 KB, and are for all but the cases below. The last tick is [`LAST`].
     #[default]
     Wide = 0,
-    /// 60 seconds, 60 minutes, 24 hours, 100 days. They take some 6 KB, and are for showing the hands of a clock. The
-    /// last tick is [`LAST_OF_CLOCK`].
-    Clock = 1,
     /// As `Wide`, with twice the slots, and a few moves at a tick. They take some 11 KB, and are for a loop that must
     /// not pause, with some 100,000 timers or more: no tick moves all timers of a bucket. A tick moves at most
     /// 2n/63 + 18, where n is the most that were held since `new` or `clear`. A start, stop or restart takes longer.
     /// The last tick is [`LAST`].
-    Smooth = 2,
+    Smooth = 1,
     /// Six wheels of 16 slots. They take some 2.7 KB, and are for machines with little memory. The last tick is
     /// [`LAST_OF_SMALL`].
-    Small = 3,
+    Small = 2,
 }
 
 // made by tools/facts: last ticks in Rust
 /// The last tick of [`Table::Wide`] and [`Table::Smooth`]: 2^60 - 1.
-pub const LAST: u64 = 1_152_921_504_606_846_975;
-/// The last tick of [`Table::Clock`]: day 99, 23:59:59, or 2.4 hours of milliseconds.
-pub const LAST_OF_CLOCK: u64 = 8_639_999;
+pub const LAST: Tick = Tick(1_152_921_504_606_846_975);
 /// The last tick of [`Table::Small`]: 2^24 - 1, or 4.6 hours of milliseconds.
-pub const LAST_OF_SMALL: u64 = 16_777_215;
+pub const LAST_OF_SMALL: Tick = Tick(16_777_215);

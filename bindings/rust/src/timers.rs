@@ -2,7 +2,7 @@
 // SPDX-License-Identifier: MIT OR Apache-2.0
 use crate::ffi::{self, Expired as Raw, Held};
 use crate::values::{Drain, Values};
-use crate::{Error, Refused, Table};
+use crate::{Error, Refused, Table, Tick, Ticks};
 use core::cell::Cell;
 use core::ffi::c_uint;
 use core::fmt;
@@ -10,8 +10,6 @@ use core::iter::FusedIterator;
 use core::marker::PhantomData;
 use core::mem::{self, MaybeUninit};
 use core::time::Duration;
-
-const NEVER: u64 = u64::MAX;
 
 /// The name of a timer of one [`Timers`].
 ///
@@ -37,7 +35,7 @@ impl Handle {
 #[non_exhaustive]
 pub struct Timer<T> {
     /// The tick at which it expires, or has expired.
-    pub deadline: u64,
+    pub deadline: Tick,
     /// The [serial](Handle::serial) of its handle.
     pub serial: u64,
     /// The value that its start was given.
@@ -69,7 +67,7 @@ pub struct Counts {
 /// The value comes back from [`take`](Timers::take), [`stop`](Timers::stop), [`drain`](Timers::drain), and from a start
 /// that is refused. Values that are left are dropped with the `Timers`.
 ///
-/// The clock advances by [`take`](Timers::take), [`expired`](Timers::expired), [`advance`](Timers::advance) and
+/// The clock advances by [`take`](Timers::take), [`take_due`](Timers::take_due), [`advance`](Timers::advance) and
 /// [`advance_to`](Timers::advance_to) alone, and never goes back. How long a tick is, you choose: [`Clock`](crate::Clock)
 /// has ticks of real time.
 ///
@@ -126,21 +124,21 @@ fn written<A>(call: impl FnOnce(*mut A) -> c_uint) -> Result<A, Error> {
 }
 
 /// The interval, in ticks of this length, of a time-out that must last no less than `time`. It is rounded up, and has one
-/// tick more, since the present tick has begun. If that is above `u64::MAX` it is `u64::MAX`, which a start refuses as
+/// tick more, since the present tick has begun. If that is above `u64::MAX` it is that, which a start refuses as
 /// [`Error::TooLate`].
 ///
 /// ```
 /// # use core::time::Duration;
-/// assert_eq!(timers::at_least(Duration::from_micros(2500), Duration::from_millis(1)), 4);
+/// assert_eq!(timers::at_least(Duration::from_micros(2500), Duration::from_millis(1)), timers::Ticks(4));
 /// ```
 ///
 /// # Panics
 ///
 /// If a tick has no length.
 #[must_use]
-pub fn at_least(time: Duration, tick: Duration) -> u64 {
+pub fn at_least(time: Duration, tick: Duration) -> Ticks {
     let ticks = time.as_nanos().div_ceil(tick.as_nanos()) + 1;
-    u64::try_from(ticks).unwrap_or(u64::MAX)
+    Ticks(u64::try_from(ticks).unwrap_or(u64::MAX))
 }
 
 impl<T> Timers<T> {
@@ -150,7 +148,7 @@ impl<T> Timers<T> {
     /// the first use:
     ///
     /// ```
-    /// use timers::{Error, Timers};
+    /// use timers::{Error, Ticks, Timers};
     ///
     /// #[derive(Default)]
     /// struct Connections {
@@ -166,7 +164,7 @@ impl<T> Timers<T> {
     ///     }
     /// }
     /// # let mut connections = Connections::default();
-    /// # connections.timers()?.start(1, 7)?;
+    /// # connections.timers()?.start(Ticks(1), 7)?;
     /// # assert_eq!(connections.timers()?.len(), 1);
     /// # Ok::<(), Error>(())
     /// ```
@@ -175,7 +173,7 @@ impl<T> Timers<T> {
     ///
     /// [`NoMemory`](Error::NoMemory).
     pub fn new() -> Result<Timers<T>, Error> {
-        Timers::with_table(Table::Wide, 0)
+        Timers::with_table(Table::Wide, Tick(0))
     }
 
     /// No timers, on wheels of this table and a clock at `first_tick`.
@@ -183,9 +181,9 @@ impl<T> Timers<T> {
     /// # Errors
     ///
     /// [`TooLate`](Error::TooLate) if that is after the last tick of the table; [`NoMemory`](Error::NoMemory).
-    pub fn with_table(table: Table, first_tick: u64) -> Result<Timers<T>, Error> {
+    pub fn with_table(table: Table, first_tick: Tick) -> Result<Timers<T>, Error> {
         let mut timers = Timers { held: Held::INIT, values: Values::new(), alone: PhantomData };
-        Error::of(unsafe { ffi::timers_new(&mut timers.held, table as u32, first_tick) })?;
+        Error::of(unsafe { ffi::timers_new(&mut timers.held, table as u32, first_tick.0) })?;
         Ok(timers)
     }
 
@@ -225,8 +223,8 @@ impl<T> Timers<T> {
     /// [`TooLate`](Error::TooLate) if the deadline is after the last tick, or the clock is at it;
     /// [`SerialsSpent`](Error::SerialsSpent); [`NoMemory`](Error::NoMemory), which may also come before the others. Nothing
     /// has changed, and the value comes back in [`Refused`].
-    pub fn start_at(&mut self, deadline: u64, value: T) -> Result<Handle, Refused<T>> {
-        self.start_by(value, |held, slot, handle| unsafe { ffi::timers_start_at(held, deadline, slot, handle) })
+    pub fn start_at(&mut self, deadline: Tick, value: T) -> Result<Handle, Refused<T>> {
+        self.start_by(value, |held, slot, handle| unsafe { ffi::timers_start_at(held, deadline.0, slot, handle) })
     }
 
     /// Starts a timer that expires `interval` ticks after the present tick, [`now`](Timers::now).
@@ -237,8 +235,8 @@ impl<T> Timers<T> {
     /// # Errors
     ///
     /// [`ZeroInterval`](Error::ZeroInterval); then as [`start_at`](Timers::start_at).
-    pub fn start(&mut self, interval: u64, value: T) -> Result<Handle, Refused<T>> {
-        self.start_by(value, |held, slot, handle| unsafe { ffi::timers_start(held, interval, slot, handle) })
+    pub fn start(&mut self, interval: Ticks, value: T) -> Result<Handle, Refused<T>> {
+        self.start_by(value, |held, slot, handle| unsafe { ffi::timers_start(held, interval.0, slot, handle) })
     }
 
     /// Restarts a timer, pending or expired, for the tick `deadline`, or at once as [`start_at`](Timers::start_at). It keeps
@@ -248,9 +246,9 @@ impl<T> Timers<T> {
     ///
     /// [`NotPending`](Error::NotPending) if no timer has the handle; [`TooLate`](Error::TooLate);
     /// [`SerialsSpent`](Error::SerialsSpent). The timer stays as it is, under its old handle.
-    pub fn restart_at(&mut self, handle: Handle, deadline: u64) -> Result<Handle, Error> {
+    pub fn restart_at(&mut self, handle: Handle, deadline: Tick) -> Result<Handle, Error> {
         let slot = self.look(handle)?.action;
-        written(|made| unsafe { ffi::timers_restart_at(&mut self.held, handle, deadline, slot, made) })
+        written(|made| unsafe { ffi::timers_restart_at(&mut self.held, handle, deadline.0, slot, made) })
     }
 
     /// Restarts a timer, pending or expired, for `interval` ticks after the present tick, as [`start`](Timers::start). It
@@ -260,9 +258,9 @@ impl<T> Timers<T> {
     ///
     /// [`NotPending`](Error::NotPending) if no timer has the handle; [`ZeroInterval`](Error::ZeroInterval);
     /// [`TooLate`](Error::TooLate); [`SerialsSpent`](Error::SerialsSpent). The timer stays as it is, under its old handle.
-    pub fn restart(&mut self, handle: Handle, interval: u64) -> Result<Handle, Error> {
+    pub fn restart(&mut self, handle: Handle, interval: Ticks) -> Result<Handle, Error> {
         let slot = self.look(handle)?.action;
-        written(|made| unsafe { ffi::timers_restart(&mut self.held, handle, interval, slot, made) })
+        written(|made| unsafe { ffi::timers_restart(&mut self.held, handle, interval.0, slot, made) })
     }
 
     /// Makes `handle` name a timer with this deadline and value. One that it names already is restarted, and its value
@@ -272,12 +270,12 @@ impl<T> Timers<T> {
     ///
     /// [`TooLate`](Error::TooLate); [`SerialsSpent`](Error::SerialsSpent); [`NoMemory`](Error::NoMemory), only if no timer
     /// has the handle. Nothing has changed, and the value comes back in [`Refused`].
-    pub fn set_at(&mut self, handle: &mut Handle, deadline: u64, value: T) -> Result<Option<T>, Refused<T>> {
+    pub fn set_at(&mut self, handle: &mut Handle, deadline: Tick, value: T) -> Result<Option<T>, Refused<T>> {
         let Ok(Raw { action: slot, .. }) = self.look(*handle) else {
             *handle = self.start_at(deadline, value)?;
             return Ok(None);
         };
-        match written(|made| unsafe { ffi::timers_restart_at(&mut self.held, *handle, deadline, slot, made) }) {
+        match written(|made| unsafe { ffi::timers_restart_at(&mut self.held, *handle, deadline.0, slot, made) }) {
             Ok(made) => {
                 *handle = made;
                 Ok(Some(mem::replace(self.values.get_mut(slot as usize), value)))
@@ -297,7 +295,7 @@ impl<T> Timers<T> {
     }
 
     fn taken(&mut self, raw: Raw) -> Timer<T> {
-        Timer { deadline: raw.deadline, serial: raw.serial, value: self.values.take(raw.action as usize) }
+        Timer { deadline: Tick(raw.deadline), serial: raw.serial, value: self.values.take(raw.action as usize) }
     }
 
     /// The value of the timer with this handle, pending or expired; `None` if there is none.
@@ -317,8 +315,8 @@ impl<T> Timers<T> {
     /// The deadline of the timer with this handle; `None` if there is none. It is pending if that is after
     /// [`now`](Timers::now), and has expired otherwise.
     #[must_use]
-    pub fn deadline(&self, handle: Handle) -> Option<u64> {
-        self.look(handle).ok().map(|raw| raw.deadline)
+    pub fn deadline(&self, handle: Handle) -> Option<Tick> {
+        self.look(handle).ok().map(|raw| Tick(raw.deadline))
     }
 
     /// All timers with their handles, pending and expired, in no particular order. A whole iteration takes time for the
@@ -339,22 +337,23 @@ impl<T> Timers<T> {
     /// leaves the clock where it is:
     ///
     /// ```
-    /// # use timers::{Error, Timers};
+    /// use timers::{Error, Tick, Ticks, Timers};
+    ///
     /// # let mut timers = Timers::new()?;
-    /// timers.start(5, "tea")?;
+    /// timers.start(Ticks(5), "tea")?;
     /// assert!(timers.drain().eq(["tea"]));
-    /// assert!(timers.start(5, "egg").is_ok());
-    /// assert!(timers.take(u64::MAX).is_some() && timers.take(u64::MAX).is_none());
-    /// assert_eq!(timers.start(5, "call").map_err(Error::from), Err(Error::TooLate)); // and no later one
+    /// assert!(timers.start(Ticks(5), "egg").is_ok());
+    /// assert!(timers.take(Tick(u64::MAX)).is_some() && timers.take(Tick(u64::MAX)).is_none());
+    /// assert_eq!(timers.start(Ticks(5), "call").map_err(Error::from), Err(Error::TooLate)); // and no later one
     /// # Ok::<(), Error>(())
     /// ```
     ///
     /// A loop may start, restart and stop timers between two calls. One that always starts a timer which is due at once
     /// never ends.
     #[must_use = "the timer is taken, and its value dropped"]
-    pub fn take(&mut self, tick: u64) -> Option<Timer<T>> {
+    pub fn take(&mut self, tick: Tick) -> Option<Timer<T>> {
         let mut raw = Raw::default();
-        unsafe { ffi::timers_take(&mut self.held, tick, &mut raw) }.then(|| self.taken(raw))
+        unsafe { ffi::timers_take(&mut self.held, tick.0, &mut raw) }.then(|| self.taken(raw))
     }
 
     /// Takes the first of the expired timers. No tick passes.
@@ -367,18 +366,18 @@ impl<T> Timers<T> {
     /// An iterator that takes each timer that is due by `tick`, by [`take`](Timers::take). Those that it has not come to are
     /// not taken. A loop that starts or stops timers calls [`take`](Timers::take) instead. For all that is left call
     /// [`drain`](Timers::drain): a `tick` of `u64::MAX` ends the clock for good.
-    pub fn expired(&mut self, tick: u64) -> Expired<'_, T> {
-        Expired { timers: self, tick }
+    pub fn take_due(&mut self, tick: Tick) -> TakeDue<'_, T> {
+        TakeDue { timers: self, tick }
     }
 
     /// Passes at most `most` ticks, stops at the first at which a timer expires, and returns how many were passed.
     ///
     /// # Errors
     ///
-    /// [`Due`](Error::Due) if an expired timer waits; [`ClockEnd`](Error::ClockEnd). Neither if `most` is 0. Nothing has
+    /// [`Due`](Error::Due) if an expired timer waits; [`ClockEnd`](Error::ClockEnd). Neither if `most` is `Ticks(0)`. Nothing has
     /// changed.
-    pub fn advance(&mut self, most: u64) -> Result<u64, Error> {
-        written(|passed| unsafe { ffi::timers_advance(&mut self.held, most, passed) })
+    pub fn advance(&mut self, most: Ticks) -> Result<Ticks, Error> {
+        written(|passed| unsafe { ffi::timers_advance(&mut self.held, most.0, passed) }).map(Ticks)
     }
 
     /// Passes the ticks up to this one, up to the first at which a timer expires, or up to the last tick of the clock. Does
@@ -387,8 +386,8 @@ impl<T> Timers<T> {
     /// # Errors
     ///
     /// [`Due`](Error::Due) if an expired timer waits; [`ClockEnd`](Error::ClockEnd). Nothing has changed.
-    pub fn advance_to(&mut self, tick: u64) -> Result<(), Error> {
-        Error::of(unsafe { ffi::timers_advance_to(&mut self.held, tick) })
+    pub fn advance_to(&mut self, tick: Tick) -> Result<(), Error> {
+        Error::of(unsafe { ffi::timers_advance_to(&mut self.held, tick.0) })
     }
 
     /// Removes all timers, pending and expired, and returns their values. The clock stays as it is, and so does the room.
@@ -423,8 +422,8 @@ impl<T> Timers<T> {
 
     /// The present tick: the one up to which the clock was advanced last.
     #[must_use]
-    pub fn now(&self) -> u64 {
-        unsafe { ffi::timers_now(&self.held) }
+    pub fn now(&self) -> Tick {
+        Tick(unsafe { ffi::timers_now(&self.held) })
     }
 
     /// A tick until which the caller may sleep, at most the first deadline; `None` if no timer is held. Takes constant time.
@@ -432,39 +431,16 @@ impl<T> Timers<T> {
     /// It may come before the first deadline, since the wheels don't search for that: then [`take`](Timers::take) finds
     /// nothing, and the next call returns a later tick.
     #[must_use]
-    pub fn wakeup(&self) -> Option<u64> {
-        Some(unsafe { ffi::timers_wakeup(&self.held) }).filter(|&tick| tick != NEVER)
+    pub fn wakeup(&self) -> Option<Tick> {
+        Tick::known(unsafe { ffi::timers_wakeup(&self.held) })
     }
 
     /// The deadline of the timer that is taken next, exactly; `None` if no timer is held.
     ///
     /// It may walk the timers of a bucket, and keeps what it found for later calls. Stops and restarts take up to half more
     /// time from the first call on. [`wakeup`](Timers::wakeup) does neither.
-    pub fn next_deadline(&mut self) -> Option<u64> {
-        Some(unsafe { ffi::timers_find_next(&mut self.held) }).filter(|&tick| tick != NEVER)
-    }
-
-    /// Makes at most `most` of the moves of later ticks now, and returns how many it made: with [`Table::Smooth`], for a
-    /// loop with time to spare before it sleeps.
-    ///
-    /// Each takes constant time, and none is made that a later tick would not make. If it returns less than `most`, none is
-    /// left for now. With another table there are none.
-    ///
-    /// ```
-    /// use timers::{Table, Timers};
-    ///
-    /// let mut timers = Timers::with_table(Table::Smooth, 0)?;
-    /// for i in 0..100 {
-    ///     timers.start(130, i).map_err(|refused| refused.error)?;
-    /// }
-    /// timers.advance_to(64)?;
-    /// assert_eq!((timers.move_ahead(60), timers.move_ahead(60)), (60, 40));
-    /// assert_eq!(timers.take(130).map(|timer| timer.value), Some(0));
-    /// assert_eq!(timers.counts().moves, 100);
-    /// # Ok::<(), timers::Error>(())
-    /// ```
-    pub fn move_ahead(&mut self, most: u64) -> u64 {
-        unsafe { ffi::timers_move_ahead(&mut self.held, most) }
+    pub fn next_deadline(&mut self) -> Option<Tick> {
+        Tick::known(unsafe { ffi::timers_find_next(&mut self.held) })
     }
 
     /// The starts, the moves to a lower wheel and the visits of buckets since the timers were made.
@@ -491,7 +467,7 @@ impl<'a, T> Iterator for Iter<'a, T> {
         let (mut handle, mut raw) = (Handle::default(), Raw::default());
         let found = unsafe { ffi::timers_each(&self.timers.held, &mut self.cursor, &mut handle, &mut raw) };
         let value = |raw: Raw| self.timers.values.get(raw.action as usize);
-        found.then(|| (handle, Timer { deadline: raw.deadline, serial: raw.serial, value: value(raw) }))
+        found.then(|| (handle, Timer { deadline: Tick(raw.deadline), serial: raw.serial, value: value(raw) }))
     }
 }
 
@@ -506,15 +482,15 @@ impl<'a, T> IntoIterator for &'a Timers<T> {
     }
 }
 
-/// Takes each timer that is due: see [`Timers::expired`].
+/// Takes each timer that is due: see [`Timers::take_due`].
 #[derive(Debug)]
 #[must_use = "nothing is taken before the iterator is asked"]
-pub struct Expired<'a, T> {
+pub struct TakeDue<'a, T> {
     timers: &'a mut Timers<T>,
-    tick: u64,
+    tick: Tick,
 }
 
-impl<T> Iterator for Expired<'_, T> {
+impl<T> Iterator for TakeDue<'_, T> {
     type Item = Timer<T>;
 
     fn next(&mut self) -> Option<Timer<T>> {
@@ -522,4 +498,4 @@ impl<T> Iterator for Expired<'_, T> {
     }
 }
 
-impl<T> FusedIterator for Expired<'_, T> {}
+impl<T> FusedIterator for TakeDue<'_, T> {}

@@ -5,13 +5,12 @@ use std::error;
 use std::rc::Rc;
 use std::thread;
 use std::time::Duration;
-use timers::{at_least, Counts, Error, Handle, Refused, Table, Timers, LAST_OF_CLOCK};
+use timers::{at_least, Counts, Error, Handle, Refused, Table, Tick, Ticks, Timers, LAST_OF_SMALL};
 
 /// The tables, each with its last tick.
-const TABLES: &[(Table, u64)] = &[
+const TABLES: &[(Table, Tick)] = &[
     // made by tools/facts: tables in tests of Rust
     (Table::Wide, timers::LAST),
-    (Table::Clock, timers::LAST_OF_CLOCK),
     (Table::Smooth, timers::LAST),
     (Table::Small, timers::LAST_OF_SMALL),
 ];
@@ -20,37 +19,37 @@ const TABLES: &[(Table, u64)] = &[
 fn a_clock_begins_no_later_than_its_last_tick() {
     for &(table, last) in TABLES {
         assert_eq!(Timers::<u8>::with_table(table, last).unwrap().now(), last);
-        assert_eq!(Timers::<u8>::with_table(table, last + 1).err(), Some(Error::TooLate));
+        assert_eq!(Timers::<u8>::with_table(table, last + Ticks(1)).err(), Some(Error::TooLate));
     }
-    assert_eq!((Timers::<u8>::new().unwrap().now(), Table::default()), (0, Table::Wide));
+    assert_eq!((Timers::<u8>::new().unwrap().now(), Table::default()), (Tick(0), Table::Wide));
 }
 
 #[test]
 fn a_refusal_changes_nothing_and_gives_the_value_back() {
-    let mut timers = Timers::with_table(Table::Clock, LAST_OF_CLOCK - 9).unwrap();
+    let mut timers = Timers::with_table(Table::Small, LAST_OF_SMALL - Ticks(9)).unwrap();
     let refused = |error, value| Err(Refused { error, value });
-    assert_eq!(timers.start(0, 1), refused(Error::ZeroInterval, 1));
-    assert_eq!(timers.start(10, 2), refused(Error::TooLate, 2));
-    assert_eq!(timers.start_at(LAST_OF_CLOCK + 1, 3), refused(Error::TooLate, 3));
-    let mut handle = timers.start(3, 4).unwrap();
+    assert_eq!(timers.start(Ticks(0), 1), refused(Error::ZeroInterval, 1));
+    assert_eq!(timers.start(Ticks(10), 2), refused(Error::TooLate, 2));
+    assert_eq!(timers.start_at(LAST_OF_SMALL + Ticks(1), 3), refused(Error::TooLate, 3));
+    let mut handle = timers.start(Ticks(3), 4).unwrap();
     let started = handle;
-    assert_eq!(timers.restart(handle, 0), Err(Error::ZeroInterval));
-    assert_eq!(timers.restart(handle, 10), Err(Error::TooLate));
-    assert_eq!(timers.restart_at(handle, u64::MAX), Err(Error::TooLate));
-    assert_eq!(timers.set_at(&mut handle, u64::MAX, 5).err(), Some(Refused { error: Error::TooLate, value: 5 }));
+    assert_eq!(timers.restart(handle, Ticks(0)), Err(Error::ZeroInterval));
+    assert_eq!(timers.restart(handle, Ticks(10)), Err(Error::TooLate));
+    assert_eq!(timers.restart_at(handle, Tick(u64::MAX)), Err(Error::TooLate));
+    assert_eq!(timers.set_at(&mut handle, Tick(u64::MAX), 5).err(), Some(Refused { error: Error::TooLate, value: 5 }));
     assert_eq!(
         (handle, timers.len(), timers.get(handle), timers.deadline(handle)),
-        (started, 1, Some(&4), Some(LAST_OF_CLOCK - 6))
+        (started, 1, Some(&4), Some(LAST_OF_SMALL - Ticks(6)))
     );
     assert_eq!(timers.reserve(usize::MAX), Err(Error::NoMemory));
     assert_eq!(timers.stop(handle), Some(4));
     for dead in [handle, Handle::default()] {
         assert_eq!((timers.stop(dead), timers.get(dead), timers.deadline(dead)), (None, None, None));
         assert_eq!(timers.get_mut(dead), None);
-        assert_eq!(timers.restart(dead, 0), Err(Error::NotPending));
-        assert_eq!(timers.restart_at(dead, 0), Err(Error::NotPending));
+        assert_eq!(timers.restart(dead, Ticks(0)), Err(Error::NotPending));
+        assert_eq!(timers.restart_at(dead, Tick(0)), Err(Error::NotPending));
         let mut unchanged = dead;
-        assert_eq!(timers.set_at(&mut unchanged, u64::MAX, 6), Err(Refused { error: Error::TooLate, value: 6 }));
+        assert_eq!(timers.set_at(&mut unchanged, Tick(u64::MAX), 6), Err(Refused { error: Error::TooLate, value: 6 }));
         assert_eq!(unchanged, dead);
     }
     assert_eq!((timers.wakeup(), timers.next_deadline(), timers.expire()), (None, None, None));
@@ -60,27 +59,33 @@ fn a_refusal_changes_nothing_and_gives_the_value_back() {
 #[test]
 fn no_tick_passes_while_an_expired_timer_waits() {
     let mut timers = Timers::new().unwrap();
-    let handles: Vec<Handle> = (0..4).map(|value| timers.start(3, value).unwrap()).collect();
-    assert_eq!(timers.advance(100), Ok(3));
-    assert_eq!((timers.has_due(), timers.advance(0), timers.advance(1)), (true, Ok(0), Err(Error::Due)));
-    assert_eq!((timers.advance_to(3), timers.advance_to(4), timers.now()), (Ok(()), Err(Error::Due), 3));
+    let handles: Vec<Handle> = (0..4).map(|value| timers.start(Ticks(3), value).unwrap()).collect();
+    assert_eq!(timers.advance(Ticks(100)), Ok(Ticks(3)));
+    assert_eq!(
+        (timers.has_due(), timers.advance(Ticks(0)), timers.advance(Ticks(1))),
+        (true, Ok(Ticks(0)), Err(Error::Due))
+    );
+    assert_eq!(
+        (timers.advance_to(Tick(3)), timers.advance_to(Tick(4)), timers.now()),
+        (Ok(()), Err(Error::Due), Tick(3))
+    );
     assert_eq!((timers.stop(handles[1]), timers.stop(handles[1])), (Some(1), None)); // expired, not yet taken
-    assert!(timers.expired(3).map(|timer| timer.value).eq([0, 2, 3]));
-    assert_eq!((timers.advance(1), timers.now()), (Ok(1), 4));
+    assert!(timers.take_due(Tick(3)).map(|timer| timer.value).eq([0, 2, 3]));
+    assert_eq!((timers.advance(Ticks(1)), timers.now()), (Ok(Ticks(1)), Tick(4)));
 }
 
 #[test]
 fn the_work_of_a_timer_stops_another_of_its_tick_in_another_thread() {
-    let mut timers = Timers::with_table(Table::Clock, 0).unwrap();
+    let mut timers = Timers::with_table(Table::Small, Tick(0)).unwrap();
     let values = thread::spawn(move || {
-        let first = timers.start(1, 10).unwrap();
-        let second = timers.start(1, 11).unwrap();
+        let first = timers.start(Ticks(1), 10).unwrap();
+        let second = timers.start(Ticks(1), 11).unwrap();
         let mut values = Vec::new();
-        while let Some(timer) = timers.take(LAST_OF_CLOCK) {
+        while let Some(timer) = timers.take(LAST_OF_SMALL) {
             assert_eq!((timer.serial, timers.stop(second)), (first.serial(), Some(11)));
             values.push(timer.value);
         }
-        assert_eq!(timers.now(), LAST_OF_CLOCK);
+        assert_eq!(timers.now(), LAST_OF_SMALL);
         values
     });
     assert_eq!(values.join().unwrap(), [10]);
@@ -88,13 +93,13 @@ fn the_work_of_a_timer_stops_another_of_its_tick_in_another_thread() {
 
 #[test]
 fn the_last_tick_is_the_end_of_the_clock() {
-    let mut timers = Timers::with_table(Table::Clock, LAST_OF_CLOCK - 1).unwrap();
-    timers.start(1, 1).unwrap();
-    assert_eq!(timers.take(u64::MAX).map(|timer| timer.deadline), Some(LAST_OF_CLOCK));
-    assert_eq!((timers.take(u64::MAX), timers.now()), (None, LAST_OF_CLOCK));
-    assert_eq!((timers.advance(0), timers.advance(1)), (Ok(0), Err(Error::ClockEnd)));
-    assert_eq!((timers.advance_to(LAST_OF_CLOCK), timers.advance_to(u64::MAX)), (Ok(()), Err(Error::ClockEnd)));
-    for deadline in [0, LAST_OF_CLOCK] {
+    let mut timers = Timers::with_table(Table::Small, LAST_OF_SMALL - Ticks(1)).unwrap();
+    timers.start(Ticks(1), 1).unwrap();
+    assert_eq!(timers.take(Tick(u64::MAX)).map(|timer| timer.deadline), Some(LAST_OF_SMALL));
+    assert_eq!((timers.take(Tick(u64::MAX)), timers.now()), (None, LAST_OF_SMALL));
+    assert_eq!((timers.advance(Ticks(0)), timers.advance(Ticks(1))), (Ok(Ticks(0)), Err(Error::ClockEnd)));
+    assert_eq!((timers.advance_to(LAST_OF_SMALL), timers.advance_to(Tick(u64::MAX))), (Ok(()), Err(Error::ClockEnd)));
+    for deadline in [Tick(0), LAST_OF_SMALL] {
         assert_eq!(timers.start_at(deadline, 1).map_err(Error::from), Err(Error::TooLate));
     }
 }
@@ -102,11 +107,14 @@ fn the_last_tick_is_the_end_of_the_clock() {
 /// A time before the clock passes no tick, and takes only what is due already.
 #[test]
 fn the_clock_does_not_go_back() {
-    let mut timers = Timers::with_table(Table::Wide, 1000).unwrap();
-    timers.start(500, 1).unwrap();
-    assert_eq!((timers.take(999), timers.now()), (None, 1000));
-    timers.start_at(0, 2).unwrap();
-    assert_eq!((timers.take(0).map(|timer| timer.value), timers.take(0), timers.now()), (Some(2), None, 1000));
+    let mut timers = Timers::with_table(Table::Wide, Tick(1000)).unwrap();
+    timers.start(Ticks(500), 1).unwrap();
+    assert_eq!((timers.take(Tick(999)), timers.now()), (None, Tick(1000)));
+    timers.start_at(Tick(0), 2).unwrap();
+    assert_eq!(
+        (timers.take(Tick(0)).map(|timer| timer.value), timers.take(Tick(0)), timers.now()),
+        (Some(2), None, Tick(1000))
+    );
 }
 
 /// An iterator that is dropped early has taken what it gave out, and no more.
@@ -114,25 +122,28 @@ fn the_clock_does_not_go_back() {
 fn an_iterator_that_is_dropped_leaves_the_rest() {
     let mut timers = Timers::new().unwrap();
     for value in 0..300 {
-        timers.start(9, value).unwrap();
+        timers.start(Ticks(9), value).unwrap();
     }
-    assert!(timers.expired(9).take(100).map(|timer| timer.value).eq(0..100));
-    assert_eq!((timers.len(), timers.expired(8).count(), timers.len()), (200, 200, 0));
+    assert!(timers.take_due(Tick(9)).take(100).map(|timer| timer.value).eq(0..100));
+    assert_eq!((timers.len(), timers.take_due(Tick(8)).count(), timers.len()), (200, 200, 0));
 }
 
 #[test]
 fn intervals_are_rounded_up() {
     let (ms, us) = (Duration::from_millis, Duration::from_micros);
-    assert_eq!((at_least(ms(5), ms(1)), at_least(us(4999), ms(1)), at_least(us(5001), ms(1))), (6, 6, 7));
-    assert_eq!((at_least(ms(0), ms(1)), at_least(Duration::MAX, Duration::from_nanos(1))), (1, u64::MAX));
-    assert_eq!(Timers::new().unwrap().start(u64::MAX, 1).map_err(Error::from), Err(Error::TooLate));
+    assert_eq!(
+        (at_least(ms(5), ms(1)), at_least(us(4999), ms(1)), at_least(us(5001), ms(1))),
+        (Ticks(6), Ticks(6), Ticks(7))
+    );
+    assert_eq!((at_least(ms(0), ms(1)), at_least(Duration::MAX, Duration::from_nanos(1))), (Ticks(1), Ticks(u64::MAX)));
+    assert_eq!(Timers::new().unwrap().start(Ticks(u64::MAX), 1).map_err(Error::from), Err(Error::TooLate));
 }
 
 /// A value that is borrowed or stays in its thread is no obstacle to a box of the error alone.
 #[test]
 fn an_error_is_boxed_without_the_value() {
     fn start(name: &str) -> Result<Handle, Box<dyn error::Error + Send + Sync>> {
-        Ok(Timers::new()?.start(0, (Rc::new(1), name)).map_err(Error::from)?)
+        Ok(Timers::new()?.start(Ticks(0), (Rc::new(1), name)).map_err(Error::from)?)
     }
     assert_eq!(start(&String::from("tea")).unwrap_err().downcast_ref(), Some(&Error::ZeroInterval));
 }
@@ -141,14 +152,14 @@ fn an_error_is_boxed_without_the_value() {
 #[test]
 fn a_period_keeps_its_grid_after_a_stall() {
     let mut timers = Timers::new().unwrap();
-    timers.start_at(10, "all").unwrap();
-    timers.start_at(10, "last").unwrap();
+    timers.start_at(Tick(10), "all").unwrap();
+    timers.start_at(Tick(10), "last").unwrap();
     let mut came = Vec::new();
-    for due in [9, 10, 45, 50] {
+    for due in [9, 10, 45, 50].map(Tick) {
         while let Some(timer) = timers.take(due) {
-            came.push((due, timer.deadline, timer.value));
-            let periods = if timer.value == "all" { 1 } else { (due - timer.deadline) / 10 + 1 };
-            timers.start_at(timer.deadline + periods * 10, timer.value).unwrap();
+            came.push((due.0, timer.deadline.0, timer.value));
+            let periods = if timer.value == "all" { 1 } else { (due - timer.deadline).0 / 10 + 1 };
+            timers.start_at(timer.deadline + Ticks(periods * 10), timer.value).unwrap();
         }
     }
     let late = [(45, 20, "all"), (45, 20, "last"), (45, 30, "all"), (45, 40, "all")];
@@ -164,38 +175,21 @@ fn moves_are_counted() {
     let mut timers = Timers::new().unwrap();
     let counts = |starts, moves, visits| Counts { starts, moves, visits };
     assert_eq!(timers.counts(), counts(0, 0, 0));
-    timers.start(65, 1).unwrap();
-    timers.start(64, 2).unwrap();
-    assert_eq!((timers.advance(63), timers.counts()), (Ok(63), counts(2, 0, 0)));
-    assert_eq!((timers.advance(1), timers.counts()), (Ok(1), counts(2, 1, 1)));
+    timers.start(Ticks(65), 1).unwrap();
+    timers.start(Ticks(64), 2).unwrap();
+    assert_eq!((timers.advance(Ticks(63)), timers.counts()), (Ok(Ticks(63)), counts(2, 0, 0)));
+    assert_eq!((timers.advance(Ticks(1)), timers.counts()), (Ok(Ticks(1)), counts(2, 1, 1)));
     assert_eq!((timers.expire().map(|timer| timer.value), timers.expire()), (Some(2), None));
-    assert_eq!((timers.advance(9), timers.counts()), (Ok(1), counts(2, 1, 2)));
-}
-
-/// At tick 64 the slot of tick 130 is the next one of wheel 1: what was started before moves when it is asked to.
-#[test]
-fn moves_are_made_ahead_of_their_ticks_with_a_smooth_table_alone() {
-    for &(table, _) in TABLES {
-        let all = if table == Table::Smooth { 3 } else { 0 };
-        let mut timers = Timers::with_table(table, 0).unwrap();
-        for i in 0..3 {
-            timers.start(130, i).unwrap();
-        }
-        timers.advance_to(64).unwrap();
-        let before = timers.counts().moves;
-        assert_eq!((timers.move_ahead(2), timers.move_ahead(u64::MAX), timers.move_ahead(1)), (all.min(2), all / 3, 0));
-        assert_eq!(timers.counts().moves, before + all);
-        assert!((0..3).all(|i| timers.take(130).map(|timer| timer.value) == Some(i)));
-    }
+    assert_eq!((timers.advance(Ticks(9)), timers.counts()), (Ok(Ticks(1)), counts(2, 1, 2)));
 }
 
 #[test]
 fn errors_and_handles_are_as_std_expects() {
     fn boxed() -> Result<Handle, Box<dyn error::Error + Send + Sync>> {
-        Ok(Timers::new()?.start(0, "tea")?)
+        Ok(Timers::new()?.start(Ticks(0), "tea")?)
     }
     fn plain() -> Result<Handle, Error> {
-        Ok(Timers::new()?.start(0, "tea")?)
+        Ok(Timers::new()?.start(Ticks(0), "tea")?)
     }
     let refused = boxed().unwrap_err();
     assert_eq!((refused.to_string(), plain()), ("the timer was not started".to_string(), Err(Error::ZeroInterval)));
@@ -206,9 +200,12 @@ fn errors_and_handles_are_as_std_expects() {
     );
     assert_eq!(format!("{:?}, {}", Error::Due, Error::Other(99)), "Due, status 99");
     let mut timers = Timers::new().unwrap();
-    let refused = timers.start(0, thread::current()).unwrap_err();
-    assert_eq!(format!("{refused:?} {timers:?}"), "Refused { error: ZeroInterval, .. } Timers { now: 0, len: 0, .. }");
-    let handle = timers.start(1, thread::current()).unwrap();
+    let refused = timers.start(Ticks(0), thread::current()).unwrap_err();
+    assert_eq!(
+        format!("{refused:?} {timers:?}"),
+        "Refused { error: ZeroInterval, .. } Timers { now: Tick(0), len: 0, .. }"
+    );
+    let handle = timers.start(Ticks(1), thread::current()).unwrap();
     assert!(HashSet::from([handle, Handle::default()]).contains(&handle) && handle != Handle::default());
     assert_eq!((handle.serial(), Handle::default().serial()), (1, 0));
 }

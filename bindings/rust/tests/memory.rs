@@ -1,7 +1,7 @@
 //! What memory timers take, and that they give it back. One test: it looks at the memory of the whole process.
 // SPDX-License-Identifier: MIT OR Apache-2.0
 #![cfg(target_os = "linux")]
-use timers::{Timers, LAST};
+use timers::{Tick, Ticks, Timers, LAST};
 
 /// The bytes of memory that this process has mapped.
 fn mapped() -> usize {
@@ -18,7 +18,7 @@ fn make_room() {
     assert!(reserved - before > 52 * most && reserved - before < 72 * most, "{}", reserved - before);
     for _ in 0..2 {
         for value in 0..most as u64 {
-            timers.start(1 + value, value).unwrap();
+            timers.start(Ticks(1 + value), value).unwrap();
         }
         assert!(mapped() < reserved + (1 << 20), "{} bytes were added", mapped() - reserved);
         assert_eq!(timers.drain().count(), most);
@@ -29,13 +29,13 @@ fn make_room() {
 fn use_places_again() {
     let mut timers = Timers::new().unwrap();
     for value in 0..1000 {
-        timers.start(LAST / 2, value).unwrap();
+        timers.start(Ticks(LAST.0 / 2), value).unwrap();
     }
     let before = mapped();
     for value in 0..500_000 {
-        timers.start(1, value).unwrap();
-        let handle = timers.start(2, value).unwrap();
-        assert_eq!((timers.stop(handle), timers.expired(value + 1).count()), (Some(value), 1));
+        timers.start(Ticks(1), value).unwrap();
+        let handle = timers.start(Ticks(2), value).unwrap();
+        assert_eq!((timers.stop(handle), timers.take_due(Tick(value + 1)).count()), (Some(value), 1));
     }
     assert!(mapped() < before + (1 << 20), "{} bytes were added", mapped() - before);
 }
@@ -47,7 +47,7 @@ fn free_what_is_dropped() {
     for round in 0..60 {
         let mut timers = Timers::new().unwrap();
         timers.reserve(100_000).unwrap();
-        timers.start(1, round).unwrap();
+        timers.start(Ticks(1), round).unwrap();
         if round % 2 == 0 {
             last = timers; // and the one before is dropped
         }

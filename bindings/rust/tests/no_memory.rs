@@ -3,7 +3,7 @@
 use std::alloc::{GlobalAlloc, Layout, System};
 use std::cell::Cell;
 use std::ffi::{c_uint, c_void};
-use timers::{Error, Timers};
+use timers::{Error, Tick, Ticks, Timers};
 
 const UNLIMITED: u32 = u32::MAX;
 
@@ -101,7 +101,7 @@ fn run_out_after(allocations: u32) -> Option<u64> {
     let started = made.map(|mut timers| {
         let mut started = 0;
         let refused = loop {
-            match timers.start(1 + started, Counted::new(&living, started)) {
+            match timers.start(Ticks(1 + started), Counted::new(&living, started)) {
                 Ok(_) => started += 1,
                 Err(refused) => break refused,
             }
@@ -109,8 +109,8 @@ fn run_out_after(allocations: u32) -> Option<u64> {
         GRANTED.set(UNLIMITED);
         assert_eq!((refused.error, refused.value.number), (Error::NoMemory, started));
         assert_eq!((living.get(), timers.len() as u64), (started + 1, started));
-        timers.start(1 + started, refused.value).unwrap_or_else(|refused| panic!("{refused}"));
-        assert!(timers.expired(1 + started).map(|timer| timer.value.number).eq(0..=started));
+        timers.start(Ticks(1 + started), refused.value).unwrap_or_else(|refused| panic!("{refused}"));
+        assert!(timers.take_due(Tick(1 + started)).map(|timer| timer.value.number).eq(0..=started));
         assert_eq!(living.get(), 0);
         started
     });
@@ -119,10 +119,26 @@ fn run_out_after(allocations: u32) -> Option<u64> {
     started.ok()
 }
 
+/// Room is for timers that are held, too: after `reserve` all those that it was asked for start without memory.
+fn room_counts_what_is_held(held: u64, most: u64) {
+    let mut timers = Timers::new().unwrap();
+    for number in 0..held {
+        timers.start(Ticks(1), number).unwrap();
+    }
+    timers.reserve(most as usize).unwrap();
+    GRANTED.set(0);
+    let started = (held..most).all(|number| timers.start(Ticks(1), number).is_ok());
+    GRANTED.set(UNLIMITED);
+    assert!(started, "{held} of {most}");
+}
+
 #[test]
 fn a_start_without_memory_changes_nothing_and_gives_the_value_back() {
     assert_eq!(unsafe { timers_set_allocator(allocate, resize, free) }, 0);
     let started: Vec<Option<u64>> = (0..30).map(run_out_after).collect();
     assert!(started[0].is_none() && started.contains(&Some(0)) && started.is_sorted());
     assert!(started[29] > Some(1000));
+    for held in 0..40 {
+        room_counts_what_is_held(held, 40);
+    }
 }

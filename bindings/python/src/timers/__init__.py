@@ -10,23 +10,24 @@
         deadline, serial, action = timer
 
 A tick is what you choose: a millisecond, a frame. Ticks are whole numbers from 0 to 2^64 - 1, of which a clock has those up
-to LAST, and one with the table CLOCK those up to CLOCK_LAST. What is no such number is refused by OverflowError or TypeError.
+to LAST, and one with the table SMALL those up to SMALL_LAST. What is no such number is refused by OverflowError or TypeError.
 A call that the wheels refuse raises TimersError, with its reason as `status`. After each of these nothing has changed.
 
 Each call holds the GIL: threads may share the timers. timers.desk has a desk, an owner's timers for clients in threads,
 and timers.asyncio an event loop over these timers.
 """
 # SPDX-License-Identifier: MIT OR Apache-2.0
+from timers._clock import Clock, at_least
 from timers._timers import (
     Handle, Timers, TimersError, __version__,
     # made by tools/facts: names of timers
-    WIDE, CLOCK, SMOOTH, SMALL, LAST, CLOCK_LAST, SMALL_LAST, OK, NOT_OPEN, OPEN, NO_TABLE, NO_MEMORY, DUE, NOT_PENDING,
-    ZERO_INTERVAL, TOO_LATE, SERIALS_SPENT, CLOCK_END,
+    WIDE, SMOOTH, SMALL, LAST, SMALL_LAST, OK, NOT_OPEN, OPEN, NO_TABLE, NO_MEMORY, DUE, NOT_PENDING, ZERO_INTERVAL,
+    TOO_LATE, SERIALS_SPENT, CLOCK_END,
 )
 
 __all__ = [
-    "Timers", "Handle", "TimersError",
+    "Timers", "Handle", "TimersError", "Clock", "at_least",
     # made by tools/facts: quoted names of timers
-    "WIDE", "CLOCK", "SMOOTH", "SMALL", "LAST", "CLOCK_LAST", "SMALL_LAST", "OK", "NOT_OPEN", "OPEN", "NO_TABLE",
-    "NO_MEMORY", "DUE", "NOT_PENDING", "ZERO_INTERVAL", "TOO_LATE", "SERIALS_SPENT", "CLOCK_END",
+    "WIDE", "SMOOTH", "SMALL", "LAST", "SMALL_LAST", "OK", "NOT_OPEN", "OPEN", "NO_TABLE", "NO_MEMORY", "DUE",
+    "NOT_PENDING", "ZERO_INTERVAL", "TOO_LATE", "SERIALS_SPENT", "CLOCK_END",
 ]

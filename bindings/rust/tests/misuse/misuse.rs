@@ -4,7 +4,7 @@
 #![allow(unused_mut, unused_variables)]
 use std::rc::Rc;
 use timers::desk::{Config, Desk, Line};
-use timers::{Handle, Timer, Timers};
+use timers::{Handle, Tick, Ticks, Timer, Timers};
 
 fn is_sent(_: impl Send) {}
 
@@ -28,8 +28,8 @@ fn of_timers(mut timers: Timers<u64>) {
         timers.stop(handle);
     }
     #[cfg(changed_while_they_expire)] // cannot borrow `timers` as mutable
-    for timer in timers.expired(5) {
-        timers.start(5, timer.value).unwrap();
+    for timer in timers.take_due(Tick(5)) {
+        timers.start(Ticks(5), timer.value).unwrap();
     }
     #[cfg(value_kept_after_a_change)] // cannot borrow `timers` as mutable
     {
@@ -39,8 +39,14 @@ fn of_timers(mut timers: Timers<u64>) {
     }
     #[cfg(handle_made_by_hand)] // are private
     let handle = Handle { place: 0, serial: 1 };
+    #[cfg(started_for_an_interval_by_a_deadline)] // expected `Ticks`, found `Tick`
+    timers.start(timers.now(), 1).unwrap();
+    #[cfg(started_at_an_interval)] // expected `Tick`, found `Ticks`
+    timers.start_at(Ticks(5), 1).unwrap();
+    #[cfg(started_by_a_bare_number)] // expected `Ticks`, found integer
+    timers.start(5, 1).unwrap();
     #[cfg(timer_made_by_hand)] // cannot create non-exhaustive struct
-    let timer = Timer { deadline: 0, serial: 1, value: 2 };
+    let timer = Timer { deadline: Tick(0), serial: 1, value: 2 };
 }
 
 fn of_a_desk(desk: Desk, mut lines: Vec<Line>) {
@@ -50,6 +56,8 @@ fn of_a_desk(desk: Desk, mut lines: Vec<Line>) {
     is_shared(desk);
     #[cfg(line_shared)] // cannot be shared between threads safely
     is_shared(lines.pop());
+    #[cfg(request_for_an_interval_by_a_deadline)] // expected `Ticks`, found `Tick`
+    lines[0].start(desk.now(), 1).unwrap();
     #[cfg(line_used_after_a_move)] // borrow of moved value
     {
         is_sent(lines);
