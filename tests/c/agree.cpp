@@ -1,4 +1,4 @@
-/* Random calls of timers.hpp against a sorted map, of deadline and serial to action. Then its edges and its memory.
+/* The edges of timers.hpp, and its memory: random calls of it are in replay.cpp.
  * It is linked with --wrap=malloc,--wrap=realloc,--wrap=free: so it can refuse memory, and count the library's blocks. */
 #include <algorithm>
 #include <chrono>
@@ -6,8 +6,6 @@
 #include <cstdlib>
 #include <cstring>
 #include <iostream>
-#include <map>
-#include <random>
 #include <unordered_set>
 #include <utility>
 #include <vector>
@@ -71,178 +69,6 @@ static enum timers_status refusal(Call call)
 	return TIMERS_OK;
 }
 
-/* The timers that are held, by deadline and serial, and handles, dead ones too, with the deadlines of their timers. */
-struct model {
-	std::map<std::pair<moment, std::uint64_t>, const int *> held;
-	std::vector<std::pair<timing::handle, moment>> handles;
-
-	void add(timing::handle h, moment deadline, const int *action)
-	{
-		HOLDS(held.emplace(std::make_pair(deadline, h.serial()), action).second);
-	}
-
-	/* The first timer of the model is this one, and is taken. */
-	void take_first(const Timers::expired &timer)
-	{
-		HOLDS(!held.empty());
-		const auto &[key, action] = *held.begin();
-		HOLDS(key == std::make_pair(timer.deadline, timer.serial) && action == timer.action);
-		held.erase(held.begin());
-	}
-};
-
-static std::mt19937 lots(7);
-
-static std::uint64_t number_of(moment tick) { return static_cast<std::uint64_t>(tick.time_since_epoch().count()); }
-
-static moment random_tick(moment now)
-{
-	return lots() % 4 ? now + ticks(1 + lots() % 3000) : at(lots() % (number_of(now) + 1));
-}
-
-static void start_one(Timers &timers, model &m, const int *action)
-{
-	const moment now = timers.now(), tick = random_tick(now);
-	const ticks interval(1 + lots() % 3000);
-	timing::handle h;
-	switch (lots() % 3) {
-	case 0:
-		h = timers.start(interval, action);
-		m.handles.push_back({ h, now + interval });
-		break;
-	case 1:
-		h = timers.start_at(tick, action);
-		m.handles.push_back({ h, std::max(tick, now) });     /* at once, if it is not after now */
-		break;
-	default:
-		timers.set_at(h, tick, action);
-		m.handles.push_back({ h, std::max(tick, now) });
-	}
-	m.add(h, m.handles.back().second, action);
-}
-
-/* Looks at the timer of a handle, which may be dead, and stops or restarts it. */
-static void change_one(Timers &timers, model &m, const int *action)
-{
-	auto &[h, deadline] = m.handles[lots() % m.handles.size()];
-	const auto found = m.held.find({ deadline, h.serial() });
-	const bool there = found != m.held.end();
-	const auto seen = timers.look(h);
-	HOLDS(seen.has_value() == there);
-	HOLDS(!there || (seen->deadline == deadline && seen->serial == h.serial() && seen->action == found->second));
-	const moment now = timers.now(), tick = random_tick(now);
-	const ticks interval(1 + lots() % 3000);
-	const timing::handle old = h;
-	bool started = there;
-	switch (lots() % 4) {
-	case 0: {
-		const auto stopped = timers.stop(h);
-		HOLDS(stopped.has_value() == there && (!there || *stopped == found->second));
-		started = false;
-		break;
-	}
-	case 1:
-		HOLDS(timers.restart(h, interval, action) == there);
-		deadline = there ? now + interval : deadline;
-		break;
-	case 2:
-		HOLDS(timers.restart_at(h, tick, action) == there);
-		deadline = there ? std::max(tick, now) : deadline;
-		break;
-	default:
-		timers.set_at(h, tick, action);
-		deadline = std::max(tick, now);
-		started = true;
-	}
-	HOLDS((h == old) != started && !(started && timers.look(old)));
-	if (there)
-		m.held.erase(found);
-	if (started)
-		m.add(h, deadline, action);
-}
-
-/* Passes ticks, and takes what expires: by catch_up, one take, or an advance. */
-static void pass_some(Timers &timers, model &m)
-{
-	const moment now = timers.now(), until = now + ticks(lots() % 200);
-	switch (lots() % 3) {
-	case 0:
-		timers.catch_up(until, [&](const Timers::expired &timer) {
-			HOLDS(timer.deadline <= until && timer.deadline == timers.now());
-			m.take_first(timer);
-		});
-		HOLDS(timers.now() == until && (m.held.empty() || m.held.begin()->first.first > until));
-		break;
-	case 1: {
-		const bool some = !m.held.empty() && m.held.begin()->first.first <= until;
-		const auto taken = timers.take(until);
-		HOLDS(taken.has_value() == some && timers.now() == (some ? taken->deadline : until));
-		if (taken)
-			m.take_first(*taken);
-		break;
-	}
-	default:
-		if (timers.has_due())
-			return;
-		timers.advance_to(until);
-		HOLDS(timers.now() == (m.held.empty() ? until : std::min(until, m.held.begin()->first.first)));
-	}
-	timers.advance_to(now);
-	HOLDS(timers.now() >= now);
-}
-
-static void compare_state(Timers &timers, const model &m)
-{
-	const auto next = timers.next(), wakeup = timers.wakeup();
-	const auto later = m.held.lower_bound({ timers.now() + ticks(1), 0 });
-	HOLDS(timers.size() == static_cast<std::size_t>(std::distance(later, m.held.end())));
-	HOLDS(timers.has_due() == (later != m.held.begin()));
-	HOLDS(next.has_value() == !m.held.empty() && wakeup.has_value() == !m.held.empty());
-	HOLDS(!next || *next == m.held.begin()->first.first);
-	HOLDS(timers.find_next() == next && timers.next() == next && timers.move_ahead(5) == 0);
-	HOLDS(!next || (timers.has_due() ? *wakeup == timers.now() : timers.now() < *wakeup && *wakeup <= *next));
-}
-
-/* Each timer is visited once. The handles are kept and compared after the visit, and each names its own timer. */
-static void visit_all(const Timers &timers, const model &m)
-{
-	std::vector<std::pair<timing::handle, Timers::expired>> visited;
-	timers.each([&](timing::handle h, const Timers::expired &timer) { visited.push_back({ h, timer }); });
-	auto left = m.held;
-	for (const auto &[h, timer] : visited) {
-		HOLDS(h.serial() == timer.serial && timers.look(h)->serial == timer.serial);
-		HOLDS(left.at({ timer.deadline, timer.serial }) == timer.action);
-		left.erase({ timer.deadline, timer.serial });
-	}
-	HOLDS(left.empty());
-}
-
-static void compare(unsigned calls)
-{
-	const int numbers[100] = {};
-	model m;
-	Timers timers(TIMERS_WIDE, Timers::at(1000ms));
-	for (unsigned i = 0; i < calls; i++) {
-		const int *action = &numbers[lots() % 100];
-		const auto which = lots() % 5;
-		if (lots() % 64 == 0)
-			timers.reserve(lots() % 1000);
-		if (which < 2 || m.handles.empty())
-			start_one(timers, m, action);
-		else if (which < 4)
-			change_one(timers, m, action);
-		else
-			pass_some(timers, m);
-		if (lots() % 2000 == 0) {
-			timers.clear();
-			m.held.clear();
-		}
-		compare_state(timers, m);
-	}
-	visit_all(timers, m);
-	std::cout << calls << " calls agree, " << m.held.size() << " timers are held\n";
-}
-
 static void round_intervals()
 {
 	using frames = timing::timers<std::chrono::duration<int, std::ratio<1, 60>>>;
@@ -269,11 +95,11 @@ static void round_intervals()
 static void meet_the_edges()
 {
 	const int number = 3;
-	Timers timers(TIMERS_CLOCK, at(8639990));
+	Timers timers(TIMERS_SMALL, at(16777206));
 	HOLDS(refusal([&] { timers.start(0s, &number); }) == TIMERS_ZERO_INTERVAL);
 	HOLDS(refusal([&] { timers.start(-1s, &number); }) == TIMERS_ZERO_INTERVAL);
 	HOLDS(refusal([&] { timers.start(10ms, &number); }) == TIMERS_TOO_LATE);
-	HOLDS(refusal([&] { Timers(TIMERS_CLOCK, at(8640000)); }) == TIMERS_TOO_LATE);
+	HOLDS(refusal([&] { Timers(TIMERS_SMALL, at(16777216)); }) == TIMERS_TOO_LATE);
 	HOLDS(!timers.stop(timing::handle()) && !timers.look(timing::handle()) && !timers.next());
 
 	/* What is due at once goes to the back: the first is restarted, so that the second comes out before it. */
@@ -292,7 +118,7 @@ static void meet_the_edges()
 	HOLDS(timers.stop(first) == &number && !timers.stop(first));          /* expired, and not yet taken */
 	HOLDS(refusal([&] { (void)timers.restart(second, 0ms, nullptr); }) == TIMERS_ZERO_INTERVAL);
 	HOLDS(refusal([&] { (void)timers.restart(second, 10ms, nullptr); }) == TIMERS_TOO_LATE);
-	HOLDS(refusal([&] { (void)timers.restart_at(second, at(8640000), nullptr); }) == TIMERS_TOO_LATE);
+	HOLDS(refusal([&] { (void)timers.restart_at(second, at(16777216), nullptr); }) == TIMERS_TOO_LATE);
 	HOLDS(timers.look(second));
 	const auto taken = timers.expire();
 	HOLDS(taken && taken->serial == second.serial() && !taken->action && !timers.expire());
@@ -310,10 +136,10 @@ static void meet_the_edges()
 	Timers &same = timers;
 	timers = std::move(same);
 	HOLDS(timers.stop(first) == &number);
-	timers.catch_up(at(8639999), [](const auto &) {});
-	HOLDS(timers.now() == at(8639999) && refusal([&] { timers.tick(); }) == TIMERS_CLOCK_END);
+	timers.catch_up(at(16777215), [](const auto &) {});
+	HOLDS(timers.now() == at(16777215) && refusal([&] { timers.tick(); }) == TIMERS_CLOCK_END);
 	HOLDS(timers.advance(ticks(0)) == ticks(0));
-	HOLDS(refusal([&] { timers.advance_to(at(8640000)); }) == TIMERS_CLOCK_END);
+	HOLDS(refusal([&] { timers.advance_to(at(16777216)); }) == TIMERS_CLOCK_END);
 	timers.advance_to(timers.now());
 	HOLDS(!timers.take(moment::max()));
 	HOLDS(refusal([&] { timers.start_at(timers.now(), &number); }) == TIMERS_TOO_LATE);
@@ -336,7 +162,7 @@ static void catch_up_with_other_times()
 {
 	unsigned ran = 0;
 	const auto run = [&ran](const Timers::expired &) { ran++; };
-	Timers timers(TIMERS_CLOCK, at(1000));
+	Timers timers(TIMERS_SMALL, at(1000));
 	timers.start(500ms, nullptr);
 	timers.catch_up(at(999), run);
 	timers.catch_up(at(0), run);
@@ -345,21 +171,21 @@ static void catch_up_with_other_times()
 	timers.start_at(at(0), nullptr);
 	timers.catch_up(at(999), run);
 	HOLDS(ran == 0 && timers.has_due());
-	HOLDS(refusal([&] { timers.catch_up(at(8640000), run); }) == TIMERS_TOO_LATE);
+	HOLDS(refusal([&] { timers.catch_up(at(16777216), run); }) == TIMERS_TOO_LATE);
 	HOLDS(refusal([&] { timers.catch_up(moment::max(), run); }) == TIMERS_TOO_LATE);
 	HOLDS(ran == 0 && timers.has_due() && timers.now() == at(1000) && timers.size() == 1);
 	timers.catch_up(at(1000), run);
 	HOLDS(ran == 1 && !timers.has_due() && timers.now() == at(1000));
-	timers.catch_up(at(8639999), run);
-	HOLDS(ran == 2 && timers.now() == at(8639999));
+	timers.catch_up(at(16777215), run);
+	HOLDS(ran == 2 && timers.now() == at(16777215));
 	Timers wide;
 	HOLDS(refusal([&] { wide.catch_up(at(TIMERS_LAST + 1), run); }) == TIMERS_TOO_LATE && wide.now() == at(0));
-	Timers moved(TIMERS_CLOCK);
+	Timers moved(TIMERS_SMALL);
 	moved = std::move(wide);
 	moved.catch_up(at(TIMERS_LAST), run);
 	HOLDS(moved.now() == at(TIMERS_LAST));
-	Timers clock(TIMERS_CLOCK), by_move(std::move(clock));
-	HOLDS(refusal([&] { by_move.catch_up(at(8640000), run); }) == TIMERS_TOO_LATE && by_move.now() == at(0));
+	Timers clock(TIMERS_SMALL), by_move(std::move(clock));
+	HOLDS(refusal([&] { by_move.catch_up(at(16777216), run); }) == TIMERS_TOO_LATE && by_move.now() == at(0));
 }
 
 /* Handles are those of one timer if place and serial are. */
@@ -584,14 +410,14 @@ static void own_one_at_a_time()
 	HOLDS(blocks == before);
 }
 
-/* 61 seconds are 1 minute and 1 second, so that timer moves from the minutes to the seconds at second 60. Visits are
- * those at the seconds 59, 60 and 61. */
+/* 17 is 1 * 16 + 1, so that timer moves to the lowest of the wheels of 16 slots at second 16. Visits are those at the
+ * seconds 15, 16 and 17. */
 static void count_the_moves()
 {
-	timing::timers<std::chrono::seconds> timers(TIMERS_CLOCK);
-	timers.start(61s, 1);
-	timers.start(59s, 2);
-	timers.catch_up(timers.at(61s), [](const auto &) {});
+	timing::timers<std::chrono::seconds> timers(TIMERS_SMALL);
+	timers.start(17s, 1);
+	timers.start(15s, 2);
+	timers.catch_up(timers.at(17s), [](const auto &) {});
 	const timers_counters counts = timers.counts();
 	HOLDS(counts.starts == 2 && counts.moves == 1 && counts.visits == 3);
 }
@@ -647,7 +473,6 @@ static void make_room()
 
 int main()
 {
-	compare(20000);
 	round_intervals();
 	meet_the_edges();
 	catch_up_with_other_times();

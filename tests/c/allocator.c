@@ -1,11 +1,11 @@
 /* timers_set_allocator: all memory of timers and desks comes from an arena of this program, and goes back to it.
  * allocator resizes | copies: with a function that resizes, or without one.
  * Link with -Wl,--wrap=malloc,--wrap=realloc,--wrap=free. With -DFORGETS the call is left out, which this test has to notice. */
-#include <stdio.h>
 #include <string.h>
 
 #include <timers.h>
 #include <timers_desk.h>
+#include "check.h"
 
 #ifndef FORGETS
 #define FORGETS 0
@@ -18,15 +18,6 @@ static long blocks, resized;    /* blocks that are held; how often one was resiz
 static int refuses;             /* each third allocation is refused */
 static int starting;            /* a block is released only if it was copied to the newest one */
 static long asked, of_libc;     /* allocations; those of malloc and realloc */
-static int failed;
-
-#define CHECK(fact) \
-	do { \
-		if (!(fact)) { \
-			printf("line %d: %s\n", __LINE__, #fact); \
-			failed = 1; \
-		} \
-	} while (0)
 
 void *__real_malloc(size_t size);
 void *__real_realloc(void *block, size_t size);
@@ -178,5 +169,5 @@ int main(int count, char **arguments)
 	run_desk();
 	CHECK(asked > 0 && blocks == 0 && (resized > 0) != copies);
 	CHECK(of_libc == 0);
-	return failed;
+	return 0;
 }

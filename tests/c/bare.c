@@ -1,12 +1,9 @@
 /* A program without a C library, which starts, stops and takes timers in a static buffer. It is linked and not run: its size is
- * what the library takes with --gc-sections. */
+ * what the library takes with --gc-sections. With PEER they are those of bench/peers.h that another macro chooses. */
+#include <stdbool.h>
 #include <stddef.h>
+#include <stdint.h>
 
-#include <timers.h>
-
-static struct timers timers;
-static union { uint64_t aligned; unsigned char bytes[27168]; } memory;
-static size_t used;
 static volatile uint32_t ticks;
 
 void *memcpy(void *to, const void *from, size_t size)
@@ -27,6 +24,29 @@ void *memset(void *to, int value, size_t size)
 		*t++ = (unsigned char)value;
 	return to;
 }
+
+#ifdef PEER
+#include <stdlib.h>
+
+#include "../../bench/peers.h"
+
+int main(void)
+{
+	static struct node node;
+
+	init(100);
+	set(&node, 100);
+	stop(&node);
+	for (;;)
+		while (take(ticks) != NULL)
+			ticks = ticks + 1;
+}
+#else
+#include <timers.h>
+
+static struct timers timers;
+static union { uint64_t aligned; unsigned char bytes[27168]; } memory;
+static size_t used;
 
 static void *allocate(size_t size)
 {
@@ -56,3 +76,4 @@ int main(void)
 		while (timers_take(&timers, ticks, &timer))
 			ticks = ticks + (uint32_t)timer.action;
 }
+#endif

@@ -7,13 +7,10 @@
  * calls that was. If a ring is lost, an alarm ends it. */
 #define _POSIX_C_SOURCE 200809L
 #include <pthread.h>
-#include <stdio.h>
-#include <stdlib.h>
 #include <string.h>
 #include <timers_desk_bell.h>
 #include <timers_loop.h>
-
-#define MUST(fact) ((fact) ? (void)0 : fail(__LINE__, #fact))
+#include "check.h"
 
 enum { CLIENTS = 8, FLIGHT = 1000 };
 
@@ -26,12 +23,6 @@ ssize_t __wrap_write(int file, const void *bytes, size_t size)
 {
 	__atomic_fetch_add(&writes, 1, __ATOMIC_RELAXED);
 	return __real_write(file, bytes, size);
-}
-
-static void fail(int line, const char *fact)
-{
-	fprintf(stderr, "desk_bell: line %d: %s\n", line, fact);
-	abort();
 }
 
 static void ring(struct timers_bell *bell)
@@ -84,7 +75,7 @@ static void pass(void)
 {
 	pthread_t threads[2];
 
-	MUST(pthread_create(&threads[0], NULL, rests, NULL) == 0 && pthread_create(&threads[1], NULL, polls, NULL) == 0);
+	CHECK(pthread_create(&threads[0], NULL, rests, NULL) == 0 && pthread_create(&threads[1], NULL, polls, NULL) == 0);
 	pthread_join(threads[1], NULL);
 	timers_bell_ring(&bells[0]);
 	pthread_join(threads[0], NULL);
@@ -109,9 +100,9 @@ static void *work(void *at)
 			busy = true;
 		for (; timers_line_receive(line, &word); busy = true)
 			if (word.kind == TIMERS_WORD_STARTED)
-				MUST(timers_line_stop(line, word.handle, &request) == TIMERS_DESK_OK);
+				CHECK(timers_line_stop(line, word.handle, &request) == TIMERS_DESK_OK);
 			else
-				MUST(word.kind == TIMERS_WORD_STOPPED && ++stopped > 0);
+				CHECK(word.kind == TIMERS_WORD_STOPPED && ++stopped > 0);
 		if (busy)
 			ring(&owners);
 		timers_bell_rest(&bells[line->client], busy, -1);
@@ -132,9 +123,9 @@ static void load(void)
 	config.capacity = CLIENTS * FLIGHT;
 	config.room = 3 * FLIGHT;
 	config.line = 2 * FLIGHT;
-	MUST(timers_desk_new(&desk, lines, CLIENTS, &config) == TIMERS_DESK_OK);
+	CHECK(timers_desk_new(&desk, lines, CLIENTS, &config) == TIMERS_DESK_OK);
 	for (c = 0; c < CLIENTS; c++)
-		MUST(pthread_create(&threads[c], NULL, work, &lines[c]) == 0);
+		CHECK(pthread_create(&threads[c], NULL, work, &lines[c]) == 0);
 	while (gone < CLIENTS) {
 		enum timers_desk_status status = timers_desk_turn(&desk, 1, bells, CLIENTS);
 
@@ -142,7 +133,7 @@ static void load(void)
 		for (; gone < CLIENTS && timers_desk_line_freed(&desk, gone); gone++)
 			pthread_join(threads[gone], NULL);
 	}
-	MUST(timers_desk_len(&desk) == 0);
+	CHECK(timers_desk_len(&desk) == 0);
 	timers_desk_free(&desk);
 }
 
@@ -168,22 +159,22 @@ static void edges_of_bells(void)
 	uint64_t begin;
 	int i;
 
-	MUST(calls(bell) == 0 && !readable(bell));
+	CHECK(calls(bell) == 0 && !readable(bell));
 	for (i = 0; i <= TIMERS_BELL_LOOKS; i++) {
-		MUST(calls(bell) == 0);
+		CHECK(calls(bell) == 0);
 		timers_bell_rest(bell, false, -1);          /* doesn't sleep yet */
 	}
-	MUST(calls(bell) == 1 && calls(bell) == 0 && readable(bell));
+	CHECK(calls(bell) == 1 && calls(bell) == 0 && readable(bell));
 	timers_bell_rest(bell, false, -1);                  /* is woken at once */
-	MUST(!readable(bell) && calls(bell) == 0);
+	CHECK(!readable(bell) && calls(bell) == 0);
 	for (i = 0; i <= TIMERS_BELL_LOOKS; i++)
 		timers_bell_rest(bell, false, -1);
 	timers_bell_rest(bell, true, -1);                   /* there was work after all */
-	MUST(calls(bell) == 0);
+	CHECK(calls(bell) == 0);
 	begin = timers_loop_monotonic(NULL);
 	for (i = 0; i <= TIMERS_BELL_LOOKS + 1; i++)
 		timers_bell_rest(bell, false, 20);
-	MUST(calls(bell) == 0 && timers_loop_monotonic(NULL) - begin >= 20000000);
+	CHECK(calls(bell) == 0 && timers_loop_monotonic(NULL) - begin >= 20000000);
 }
 
 /* The descriptors of a bell never wait, stay in no program that is called, and are given back. */
@@ -194,11 +185,11 @@ static void edges_of_descriptors(void)
 	for (i = 0; i < 3; i++) {
 		struct timers_bell bell;
 
-		MUST(timers_bell_new(&bell) && (i == 0 || (bell.wakes == wakes && bell.rung == rung)));
+		CHECK(timers_bell_new(&bell) && (i == 0 || (bell.wakes == wakes && bell.rung == rung)));
 		wakes = bell.wakes;
 		rung = bell.rung;
-		MUST((fcntl(wakes, F_GETFL) & O_NONBLOCK) != 0 && (fcntl(rung, F_GETFL) & O_NONBLOCK) != 0);
-		MUST((fcntl(wakes, F_GETFD) & FD_CLOEXEC) != 0 && (fcntl(rung, F_GETFD) & FD_CLOEXEC) != 0);
+		CHECK((fcntl(wakes, F_GETFL) & O_NONBLOCK) != 0 && (fcntl(rung, F_GETFL) & O_NONBLOCK) != 0);
+		CHECK((fcntl(wakes, F_GETFD) & FD_CLOEXEC) != 0 && (fcntl(rung, F_GETFD) & FD_CLOEXEC) != 0);
 		timers_bell_free(&bell);
 	}
 }
@@ -213,29 +204,29 @@ static void edges_of_turns(void)
 	memset(&config, 0, sizeof config);
 	config.size = sizeof config;
 	config.capacity = config.room = config.line = 4;
-	MUST(timers_desk_turn(&desk, 1, bells, 1) == TIMERS_DESK_NOT_OPEN);
-	MUST(timers_desk_new(&desk, lines, 1, &config) == TIMERS_DESK_OK);
-	MUST(timers_desk_turn(&desk, 7, bells, 1) == TIMERS_DESK_IDLE && timers_desk_now(&desk) == 7);
-	MUST(timers_desk_patience(&desk, 7, TIMERS_DESK_IDLE) == -1);
-	MUST(timers_desk_patience(&desk, 7, TIMERS_DESK_NO_MEMORY) == 10);
-	MUST(timers_line_start(&lines[0], UINT64_C(1) << 36, 1, &request) == TIMERS_DESK_OK);
-	MUST(timers_desk_turn(&desk, 7, bells, 1) == TIMERS_DESK_OK && timers_line_receive(&lines[0], &word));
-	MUST(timers_desk_patience(&desk, 7, TIMERS_DESK_IDLE) == INT_MAX);
-	MUST(timers_line_stop(&lines[0], word.handle, &request) == TIMERS_DESK_OK);
-	MUST(timers_desk_turn(&desk, 7, bells, 1) == TIMERS_DESK_OK && timers_line_receive(&lines[0], &word));
-	MUST(timers_line_start(&lines[0], 20, 1, &request) == TIMERS_DESK_OK);
-	MUST(timers_desk_turn(&desk, 8, bells, 1) == TIMERS_DESK_OK && timers_line_receive(&lines[0], &word));
-	MUST(word.deadline == 28 && timers_desk_patience(&desk, 8, TIMERS_DESK_IDLE) == 20);
-	MUST(timers_desk_patience(&desk, 8, TIMERS_DESK_NO_MEMORY) == 10);
-	MUST(timers_desk_patience(&desk, 40, TIMERS_DESK_IDLE) == 0);
+	CHECK(timers_desk_turn(&desk, 1, bells, 1) == TIMERS_DESK_NOT_OPEN);
+	CHECK(timers_desk_new(&desk, lines, 1, &config) == TIMERS_DESK_OK);
+	CHECK(timers_desk_turn(&desk, 7, bells, 1) == TIMERS_DESK_IDLE && timers_desk_now(&desk) == 7);
+	CHECK(timers_desk_patience(&desk, 7, TIMERS_DESK_IDLE) == -1);
+	CHECK(timers_desk_patience(&desk, 7, TIMERS_DESK_NO_MEMORY) == 10);
+	CHECK(timers_line_start(&lines[0], UINT64_C(1) << 36, 1, &request) == TIMERS_DESK_OK);
+	CHECK(timers_desk_turn(&desk, 7, bells, 1) == TIMERS_DESK_OK && timers_line_receive(&lines[0], &word));
+	CHECK(timers_desk_patience(&desk, 7, TIMERS_DESK_IDLE) == INT_MAX);
+	CHECK(timers_line_stop(&lines[0], word.handle, &request) == TIMERS_DESK_OK);
+	CHECK(timers_desk_turn(&desk, 7, bells, 1) == TIMERS_DESK_OK && timers_line_receive(&lines[0], &word));
+	CHECK(timers_line_start(&lines[0], 20, 1, &request) == TIMERS_DESK_OK);
+	CHECK(timers_desk_turn(&desk, 8, bells, 1) == TIMERS_DESK_OK && timers_line_receive(&lines[0], &word));
+	CHECK(word.deadline == 28 && timers_desk_patience(&desk, 8, TIMERS_DESK_IDLE) == 20);
+	CHECK(timers_desk_patience(&desk, 8, TIMERS_DESK_NO_MEMORY) == 10);
+	CHECK(timers_desk_patience(&desk, 40, TIMERS_DESK_IDLE) == 0);
 
 	/* Two timers expire in a turn that takes no request: words are moved. */
-	MUST(timers_line_start(&lines[0], 21, 2, &request) == TIMERS_DESK_OK);
-	MUST(timers_desk_turn(&desk, 8, bells, 1) == TIMERS_DESK_OK && timers_line_receive(&lines[0], &word));
-	MUST(timers_desk_turn(&desk, 40, bells, 1) == TIMERS_DESK_OK && timers_desk_now(&desk) == 40);
-	MUST(timers_line_receive(&lines[0], &word) && timers_line_receive(&lines[0], &word));
-	MUST(word.kind == TIMERS_WORD_EXPIRED && word.deadline == 29);
-	MUST(timers_desk_turn(&desk, 30, bells, 1) == TIMERS_DESK_IDLE && timers_desk_now(&desk) == 40);
+	CHECK(timers_line_start(&lines[0], 21, 2, &request) == TIMERS_DESK_OK);
+	CHECK(timers_desk_turn(&desk, 8, bells, 1) == TIMERS_DESK_OK && timers_line_receive(&lines[0], &word));
+	CHECK(timers_desk_turn(&desk, 40, bells, 1) == TIMERS_DESK_OK && timers_desk_now(&desk) == 40);
+	CHECK(timers_line_receive(&lines[0], &word) && timers_line_receive(&lines[0], &word));
+	CHECK(word.kind == TIMERS_WORD_EXPIRED && word.deadline == 29);
+	CHECK(timers_desk_turn(&desk, 30, bells, 1) == TIMERS_DESK_IDLE && timers_desk_now(&desk) == 40);
 	timers_line_free(&lines[0]);
 	timers_desk_free(&desk);
 }
@@ -244,10 +235,10 @@ int main(int argc, char **argv)
 {
 	size_t c;
 
-	MUST(argc == 3 && timers_bell_new(&owners));
+	CHECK(argc == 3 && timers_bell_new(&owners));
 	most = strtoul(argv[2], NULL, 10);
 	for (c = 0; c < CLIENTS; c++)
-		MUST(timers_bell_new(&bells[c]));
+		CHECK(timers_bell_new(&bells[c]));
 	alarm(60);
 	edges_of_bells();
 	edges_of_descriptors();

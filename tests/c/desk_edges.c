@@ -1,11 +1,8 @@
-/* The edge cases of timers_desk.h, in one thread, that random calls don't meet (desk_model.cpp): calls on empty structs,
+/* The edge cases of timers_desk.h, in one thread, that random calls don't meet (tests/driver): calls on empty structs,
  * configurations and the ends of the clock, frees in every order, and out of memory. */
-#include <stdio.h>
-#include <stdlib.h>
 #include <string.h>
 #include "timers_desk.h"
-
-#define CHECK(fact) do { if (!(fact)) { fprintf(stderr, "line %d: %s\n", __LINE__, #fact); abort(); } } while (0)
+#include "check.h"
 
 /* with -DREFUSE each allocation of the story is refused in turn */
 static long left = -1, asked, blocks;
@@ -67,6 +64,7 @@ static void configurations(void)
 	c = good, c.line = 0; CHECK(timers_desk_new(&d, l, 1, &c) == TIMERS_DESK_OUT_OF_RANGE);
 	c = good, c.line = 65537; CHECK(timers_desk_new(&d, l, 1, &c) == TIMERS_DESK_OUT_OF_RANGE);
 	CHECK(timers_desk_new(&d, l, TIMERS_DESK_CLIENTS, &good) == TIMERS_DESK_OK && timers_desk_now(&d) == 5);
+	CHECK(timers_desk_reserve(&d) == TIMERS_DESK_OK);
 	CHECK(timers_desk_new(&d, l, TIMERS_DESK_CLIENTS, &good) == TIMERS_DESK_OPEN);
 	timers_desk_free(&d);
 	CHECK(timers_desk_new(&d, l, TIMERS_DESK_CLIENTS, &good) == TIMERS_DESK_OPEN);       /* the lines still hold their ends */
@@ -83,26 +81,26 @@ static void tables(void)
 {
 	struct timers_desk d = TIMERS_DESK_INIT;
 	struct timers_line l = TIMERS_LINE_INIT;
-	struct timers_desk_config c = { .size = sizeof(struct timers_desk_config), .first_tick = TIMERS_CLOCK_LAST + 1, .capacity = 100, .room = 8, .line = 4 };
+	struct timers_desk_config c = { .size = sizeof(struct timers_desk_config), .first_tick = TIMERS_SMALL_LAST + 1, .capacity = 100, .room = 8, .line = 4 };
 	struct timers_word w;
 	uint64_t n;
-	CHECK(c.table == TIMERS_WIDE && timers_desk_new(&d, &l, 1, &c) == TIMERS_DESK_OK && timers_desk_now(&d) == TIMERS_CLOCK_LAST + 1);
+	CHECK(c.table == TIMERS_WIDE && timers_desk_new(&d, &l, 1, &c) == TIMERS_DESK_OK && timers_desk_now(&d) == TIMERS_SMALL_LAST + 1);
 	timers_desk_free(&d), timers_line_free(&l);
-	c.table = TIMERS_CLOCK;
+	c.table = TIMERS_SMALL;
 	CHECK(timers_desk_new(&d, &l, 1, &c) == TIMERS_DESK_OUT_OF_RANGE && d.mark == 0 && l.mark == 0);
-	c.first_tick = TIMERS_CLOCK_LAST - 5, c.table = TIMERS_TABLES;
+	c.first_tick = TIMERS_SMALL_LAST - 5, c.table = TIMERS_TABLES;
 	CHECK(timers_desk_new(&d, &l, 1, &c) == TIMERS_DESK_OUT_OF_RANGE);
 	c.table = UINT32_MAX;
 	CHECK(timers_desk_new(&d, &l, 1, &c) == TIMERS_DESK_OUT_OF_RANGE && d.mark == 0 && l.mark == 0);
 	/* the clock's last tick */
-	c.table = TIMERS_CLOCK;
-	CHECK(timers_desk_new(&d, &l, 1, &c) == TIMERS_DESK_OK && timers_desk_now(&d) == TIMERS_CLOCK_LAST - 5);
+	c.table = TIMERS_SMALL;
+	CHECK(timers_desk_new(&d, &l, 1, &c) == TIMERS_DESK_OK && timers_desk_now(&d) == TIMERS_SMALL_LAST - 5);
 	CHECK(timers_line_start(&l, 6, 1, &n) == TIMERS_DESK_OK && timers_line_start(&l, 5, 2, &n) == TIMERS_DESK_OK);
 	owner_turn(&d);
 	CHECK(timers_line_receive(&l, &w) && w.kind == TIMERS_WORD_REFUSED && w.reason == TIMERS_DESK_TOO_LATE);
-	CHECK(timers_line_receive(&l, &w) && w.kind == TIMERS_WORD_STARTED && w.deadline == TIMERS_CLOCK_LAST);
-	CHECK(timers_desk_next(&d) == TIMERS_CLOCK_LAST);
-	CHECK(timers_desk_advance(&d, 100, &n) == TIMERS_DESK_OK && n == 5 && timers_desk_now(&d) == TIMERS_CLOCK_LAST);
+	CHECK(timers_line_receive(&l, &w) && w.kind == TIMERS_WORD_STARTED && w.deadline == TIMERS_SMALL_LAST);
+	CHECK(timers_desk_next(&d) == TIMERS_SMALL_LAST);
+	CHECK(timers_desk_advance(&d, 100, &n) == TIMERS_DESK_OK && n == 5 && timers_desk_now(&d) == TIMERS_SMALL_LAST);
 	CHECK(timers_desk_next(&d) == TIMERS_NEVER && timers_desk_tick(&d) == TIMERS_DESK_CLOCK_END);
 	CHECK(timers_desk_advance(&d, 1, &n) == TIMERS_DESK_CLOCK_END && n == 5 && timers_desk_advance(&d, 0, &n) == TIMERS_DESK_OK && n == 0);
 	timers_desk_flush_all(&d);
@@ -418,11 +416,89 @@ static void reserves(void)
 	timers_desk_free(&d), timers_line_free(&l);
 }
 
+static uint64_t random_below(uint64_t limit)
+{
+	static uint64_t state = 1;
+	state = state * UINT64_C(6364136223846793005) + UINT64_C(1442695040888963407);
+	return (state >> 33) % limit;
+}
+
+/* What one client keeps, by its words: its timers, its requests without an answer, and of these the ones not yet served. */
+struct kept {
+	uint64_t timers, requests, standing;
+	struct timers_handle handle;
+};
+
+static void receive_word(struct timers_line *l, struct kept *kept)
+{
+	struct timers_word w;
+	if (!timers_line_receive(l, &w))
+		return;
+	kept->requests -= w.kind != TIMERS_WORD_EXPIRED;
+	/* a refused start has its action, 1, and a refused restart 2; a stop has 0 */
+	kept->timers -= w.kind == TIMERS_WORD_EXPIRED || w.kind == TIMERS_WORD_STOPPED || w.kind == TIMERS_WORD_RESTARTED;
+	kept->timers -= w.kind == TIMERS_WORD_REFUSED && w.action > 0;
+	if (w.kind == TIMERS_WORD_STARTED || w.kind == TIMERS_WORD_RESTARTED)
+		kept->handle = w.handle;
+}
+
+/* A request of the client: a start or a restart is for one more timer. */
+static void send(struct timers_line *l, struct kept *kept, uint64_t way)
+{
+	const uint64_t interval = 1 + random_below(9);
+	uint64_t number;
+	const enum timers_desk_status sent = way == 0 ? timers_line_stop(l, kept->handle, &number)
+		: way == 1 ? timers_line_restart(l, kept->handle, interval, 2, &number) : timers_line_start(l, interval, 1, &number);
+	if (sent == TIMERS_DESK_OK)
+		kept->requests++, kept->standing++, kept->timers += way > 0;
+}
+
+/* Whether a request has to wait for room, of a client that keeps so many timers and requests, however seldom it reads. */
+static bool lacks_room(uint64_t timers, uint64_t requests, uint64_t room)
+{
+	struct timers_desk d = TIMERS_DESK_INIT;
+	struct timers_line l = TIMERS_LINE_INIT;
+	const struct timers_desk_config config = { sizeof config, 0, 100, room, 1 + random_below(20), TIMERS_WIDE };
+	struct kept kept = { 0, 0, 0, { 0, 0 } };
+	bool lacks = false;
+	uint64_t passed;
+	CHECK(timers_desk_new(&d, &l, 1, &config) == TIMERS_DESK_OK);
+	for (int step = 0; step < 3000 && !lacks; step++) {
+		const uint64_t way = random_below(7);
+		if (way < 4 && kept.requests < requests && (way == 0 || kept.timers < timers))
+			send(&l, &kept, way);
+		else if (way == 4)
+			receive_word(&l, &kept);
+		else if (way == 5)
+			timers_desk_flush(&d, 0);
+		else if (way == 6)
+			CHECK(timers_desk_advance(&d, random_below(6), &passed) == TIMERS_DESK_OK);
+		const enum timers_desk_status served = random_below(2) == 0 ? timers_desk_serve(&d, 0) : TIMERS_DESK_IDLE;
+		lacks = served == TIMERS_DESK_NO_ROOM && kept.standing > 0;
+		kept.standing -= served == TIMERS_DESK_OK;
+	}
+	timers_desk_free(&d), timers_line_free(&l);
+	return lacks;
+}
+
+/* As timers_desk.h says, k + q + 1 is enough. With a word less some client lacks room. */
+static void rooms(void)
+{
+	bool too_few = false;
+	for (uint64_t timers = 1; timers <= 12; timers++)
+		for (uint64_t requests = 1; requests <= 12; requests += 1 + requests / 4) {
+			CHECK(!lacks_room(timers, requests, timers + requests + 1));
+			too_few = lacks_room(timers, requests, timers + requests) || too_few;
+		}
+	CHECK(too_few);
+}
+
 int main(void)
 {
 	blocks = 0;                   /* what the C library allocated before does not count */
 	empty_structs();
 	reserves();
+	rooms();
 	CHECK(!ends());
 	configurations();
 	tables();
@@ -434,23 +510,18 @@ int main(void)
 	asked = 0;
 	CHECK(!story());
 	long all = asked, runs = 0;
-	for (long i = 0; i < all; i++) {
+	for (long i = 0; i < all; i++, runs++) {
 		left = i;
-		bool out = story();
-		runs += out;
-		if (left >= 0)
-			break;
+		CHECK(story() && left < 0);
 	}
 	left = -1;
 	CHECK(blocks == 0);
 	asked = 0;
 	CHECK(!ends());
 	all = asked;
-	for (long i = 0; i < all; i++) {
+	for (long i = 0; i < all; i++, runs++) {
 		left = i;
-		runs += ends();
-		if (left >= 0)
-			break;
+		CHECK(ends() && left < 0);
 	}
 	left = -1;
 	CHECK(blocks == 0);

@@ -4,11 +4,8 @@
  *     desk_frees ROUNDS CLIENTS [SEED] */
 #include <pthread.h>
 #include <sched.h>
-#include <stdio.h>
-#include <stdlib.h>
 #include "timers_desk.h"
-
-#define CHECK(fact) do { if (!(fact)) { fprintf(stderr, "line %d: %s\n", __LINE__, #fact); abort(); } } while (0)
+#include "check.h"
 
 struct client { struct timers_line *line; uint64_t seed; unsigned long words; bool abandoned; };
 

@@ -8,11 +8,9 @@
 #include <pthread.h>
 #include <sched.h>
 #include <stdatomic.h>
-#include <stdio.h>
-#include <stdlib.h>
 #include "timers_desk.h"
+#include "check.h"
 
-#define CHECK(fact) do { if (!(fact)) { fprintf(stderr, "line %d: %s\n", __LINE__, #fact); abort(); } } while (0)
 #define TIMERS 16       /* the most that a client keeps */
 #define LINE 4          /* the most requests of a client without an answer */
 #define MOST 40         /* the most requests of a client */

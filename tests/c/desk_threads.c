@@ -13,13 +13,10 @@
 #include <pthread.h>
 #include <sched.h>
 #include <stdatomic.h>
-#include <stdio.h>
-#include <stdlib.h>
 #include <string.h>
 #include <time.h>
 #include "timers_desk.h"
-
-#define CHECK(fact) do { if (!(fact)) { fprintf(stderr, "line %d: %s\n", __LINE__, #fact); abort(); } } while (0)
+#include "check.h"
 
 #ifdef REFUSE
 static atomic_bool refusing;

@@ -2,18 +2,10 @@
  * system. They are those of the library's file, which is included. */
 #include "../../generated/timers.c"
 
-#include <stdio.h>
+#include "check.h"
 
-#define CHECK(fact) \
-	do { \
-		if (!(fact)) { \
-			printf("line %d: %s\n", __LINE__, #fact); \
-			failed = 1; \
-		} \
-	} while (0)
 #define TOO_LARGE ((uint64_t)(SIZE_MAX / 2) + 1)
 
-static int failed;
 static size_t asked;       /* the size that was asked for last */
 static void *released;
 static bool refuses;
@@ -86,5 +78,5 @@ int main(void)
 	grows();
 	resize_block = NULL;
 	grows();
-	return failed;
+	return 0;
 }

@@ -8,12 +8,9 @@
  * back. Compiles as C and C++. Structs of events are allocated and freed all the time, so that a sanitizer sees each use
  * after a cancel. The library must not allocate after timers_reserve. */
 #define _POSIX_C_SOURCE 200809L
-#include <stdio.h>
-#include <stdlib.h>
 #include <string.h>
 #include <timers_loop.h>
-
-#define MUST(fact) ((fact) ? (void)0 : fail(__LINE__, #fact))
+#include "check.h"
 
 enum { EVENTS = 120, NONE = EVENTS };
 
@@ -44,27 +41,14 @@ static uint64_t runs, returned, inside, refiled, nested, seed = 1;
 
 /* The library's memory. Nothing is allocated after timers_reserve. */
 static bool sealed;
-static void fail(int line, const char *fact);
-static void *allocate(size_t size) { MUST(!sealed); return malloc(size); }
-static void *resize(void *block, size_t size) { MUST(!sealed); return realloc(block, size); }
+static void *allocate(size_t size) { CHECK(!sealed); return malloc(size); }
+static void *resize(void *block, size_t size) { CHECK(!sealed); return realloc(block, size); }
 
-static void fail(int line, const char *fact)
-{
-	fprintf(stderr, "loop_model: line %d: %s\n", line, fact);
-	abort();
-}
-
-static uint64_t below(uint64_t n)
-{
-	seed ^= seed << 13;
-	seed ^= seed >> 7;
-	seed ^= seed << 17;
-	return seed % n;
-}
+static uint64_t below(uint64_t n) { return next_below(&seed, n); }
 
 static uint64_t clock_of(void *data)
 {
-	MUST(data == &time_now);
+	CHECK(data == &time_now);
 	return time_now;
 }
 
@@ -106,7 +90,7 @@ static void file(size_t number, uint64_t want)
 
 	unlist(number);
 	m->filed = joined(want, owners[number]->event.slack);
-	MUST(m->filed >= want && m->filed - want <= owners[number]->event.slack);
+	CHECK(m->filed >= want && m->filed - want <= owners[number]->event.slack);
 	m->key = m->filed > wheel ? m->filed : wheel;
 	m->order = ++orders;
 	m->held = true;
@@ -147,7 +131,7 @@ static size_t next_run(size_t *left)
 			return number;
 		if (m->armed) {
 			file(number, m->want);
-			MUST(e->filed <= e->want + e->slack);
+			CHECK(e->filed <= e->want + e->slack);
 			refiled++;
 		}
 	}
@@ -160,12 +144,12 @@ static void check(size_t number)
 	const struct model *m = &models[number];
 	size_t alive = 0, i;
 
-	MUST(timers_event_armed(e) == m->armed && (e->handle.serial != 0) == m->held);
+	CHECK(timers_event_armed(e) == m->armed && (e->handle.serial != 0) == m->held);
 	if (m->armed)
-		MUST(e->want == m->want && e->filed == m->filed);
+		CHECK(e->want == m->want && e->filed == m->filed);
 	for (i = 0; i < EVENTS; i++)
 		alive += models[i].armed && !owners[i]->event.background;
-	MUST(loop.alive == alive);
+	CHECK(loop.alive == alive);
 }
 
 static void ran(struct timers_loop *of, struct timers_event *event, uint64_t tick);
@@ -173,7 +157,7 @@ static void ran(struct timers_loop *of, struct timers_event *event, uint64_t tic
 static void make(size_t number)
 {
 	owners[number] = (struct owner *)calloc(1, sizeof **owners);
-	MUST(owners[number] != NULL);
+	CHECK(owners[number] != NULL);
 	owners[number]->number = number;
 	owners[number]->event.run = ran;
 	memset(&models[number], 0, sizeof *models);
@@ -199,11 +183,11 @@ static void operate(size_t number)
 	switch (below(12)) {
 	case 0: case 1: case 2:           /* after n ticks: no earlier than n after this very moment */
 		configure(e, m->armed);
-		MUST(timers_event_after(&loop, e, n) == TIMERS_OK);
+		CHECK(timers_event_after(&loop, e, n) == TIMERS_OK);
 		look();
 		arm(number, (highest + length - 1) / length + n);
 		m->earliest = highest + n * length;
-		MUST(m->want * length >= m->earliest && m->want * length < m->earliest + length);
+		CHECK(m->want * length >= m->earliest && m->want * length < m->earliest + length);
 		break;
 	case 3:                           /* at a tick, that may have passed */
 		configure(e, m->armed);
@@ -212,11 +196,11 @@ static void operate(size_t number)
 			tick = tick > 2000 ? tick - below(2000) : tick;
 		if (below(4) == 0 && m->held && m->filed > highest / length + e->slack)
 			tick = m->filed - e->slack;   /* the last one for which its timer may stay */
-		MUST(timers_event_at(&loop, e, tick) == TIMERS_OK);
+		CHECK(timers_event_at(&loop, e, tick) == TIMERS_OK);
 		arm(number, tick);
 		break;
 	case 4: case 5: case 6: case 7:   /* push back, from this very moment too */
-		MUST(timers_event_push_back(&loop, e, n) == m->armed);
+		CHECK(timers_event_push_back(&loop, e, n) == m->armed);
 		if (m->armed) {
 			look();
 			arm(number, (highest + length - 1) / length + n);
@@ -257,11 +241,11 @@ static void poll_once(void)
 	seen = look();
 	full = false;
 	if (deadline == TIMERS_NEVER)
-		MUST(wait == -1 && held == 0);
+		CHECK(wait == -1 && held == 0);
 	else
-		MUST(wait >= 0 && (deadline <= highest || (wait > 0 && (uint64_t)wait <= (deadline - highest + 999999) / 1000000)));
+		CHECK(wait >= 0 && (deadline <= highest || (wait > 0 && (uint64_t)wait <= (deadline - highest + 999999) / 1000000)));
 	if (held > 0)
-		MUST(deadline <= models[list[0]].key * length || deadline <= highest);
+		CHECK(deadline <= models[list[0]].key * length || deadline <= highest);
 	if (deadline != TIMERS_NEVER && deadline > time_now && below(20) != 0)
 		time_now += below(2) ? deadline - time_now : below(deadline - time_now);
 	if (below(3) == 0)
@@ -280,7 +264,7 @@ static void poll_once(void)
 
 static void tick_once(void)
 {
-	MUST(timers_loop_tick(&loop) == look());
+	CHECK(timers_loop_tick(&loop) == look());
 	seen = highest / length;
 	full = false;
 }
@@ -296,9 +280,9 @@ static void dispatch(void)
 	most = &left;
 	depth++;
 	returned += timers_loop_dispatch(&loop, left);
-	MUST(next_run(&left) == NONE);                  /* none is left out */
+	CHECK(next_run(&left) == NONE);                  /* none is left out */
 	most = outer;
-	MUST(--depth > 0 || returned == runs);
+	CHECK(--depth > 0 || returned == runs);
 }
 
 static void ran(struct timers_loop *of, struct timers_event *event, uint64_t tick)
@@ -308,9 +292,9 @@ static void ran(struct timers_loop *of, struct timers_event *event, uint64_t tic
 	uint64_t next;
 	size_t i;
 
-	MUST(of == &loop && depth > 0 && event == &owners[number]->event);
-	MUST(next_run(most) == number && m->armed && tick == m->want);
-	MUST(tick * length <= highest && tick <= due && m->earliest <= highest);      /* never early */
+	CHECK(of == &loop && depth > 0 && event == &owners[number]->event);
+	CHECK(next_run(most) == number && m->armed && tick == m->want);
+	CHECK(tick * length <= highest && tick <= due && m->earliest <= highest);      /* never early */
 	m->armed = false;
 	if (event->period > 0) {
 		next = tick + event->period;
@@ -349,48 +333,48 @@ static void edges(void)
 	memset(&far, 0, sizeof far);
 	memset(&near, 0, sizeof near);
 	timers_loop_free(&real);
-	MUST(timers_loop_new(&real, NULL, NULL, 0) == TIMERS_ZERO_INTERVAL && timers_event_at(&real, &far, 1) == TIMERS_NOT_OPEN);
-	MUST(timers_loop_new(&real, NULL, NULL, 1000000) == TIMERS_OK && timers_loop_timeout(&real) == -1);
-	MUST(timers_loop_new(&real, NULL, NULL, 1000000) == TIMERS_OPEN);
-	MUST(timers_event_at(&real, &far, TIMERS_LAST + 1) == TIMERS_TOO_LATE && !timers_event_armed(&far));
-	MUST(timers_event_after(&real, &far, TIMERS_LAST + 1) == TIMERS_TOO_LATE && real.alive == 0);
-	MUST(timers_event_after(&real, &far, UINT64_MAX) == TIMERS_TOO_LATE);
+	CHECK(timers_loop_new(&real, NULL, NULL, 0) == TIMERS_ZERO_INTERVAL && timers_event_at(&real, &far, 1) == TIMERS_NOT_OPEN);
+	CHECK(timers_loop_new(&real, NULL, NULL, 1000000) == TIMERS_OK && timers_loop_timeout(&real) == -1);
+	CHECK(timers_loop_new(&real, NULL, NULL, 1000000) == TIMERS_OPEN);
+	CHECK(timers_event_at(&real, &far, TIMERS_LAST + 1) == TIMERS_TOO_LATE && !timers_event_armed(&far));
+	CHECK(timers_event_after(&real, &far, TIMERS_LAST + 1) == TIMERS_TOO_LATE && real.alive == 0);
+	CHECK(timers_event_after(&real, &far, UINT64_MAX) == TIMERS_TOO_LATE);
 	far.background = true;
-	MUST(timers_event_at(&real, &far, UINT64_C(1) << 42) == TIMERS_OK && timers_loop_timeout(&real) == INT_MAX && real.alive == 0);
-	MUST(!timers_event_push_back(&real, &far, UINT64_MAX) && far.want == UINT64_C(1) << 42);
+	CHECK(timers_event_at(&real, &far, UINT64_C(1) << 42) == TIMERS_OK && timers_loop_timeout(&real) == INT_MAX && real.alive == 0);
+	CHECK(!timers_event_push_back(&real, &far, UINT64_MAX) && far.want == UINT64_C(1) << 42);
 	timers_event_cancel(&real, &far);
 	far.slack = UINT32_MAX;
-	MUST(timers_event_at(&real, &far, TIMERS_LAST) == TIMERS_OK && timers_loop_timeout(&real) == -1);   /* after 2^64 ns */
-	MUST(timers_event_after(&real, &near, 20) == TIMERS_OK && real.alive == 1);
+	CHECK(timers_event_at(&real, &far, TIMERS_LAST) == TIMERS_OK && timers_loop_timeout(&real) == -1);   /* after 2^64 ns */
+	CHECK(timers_event_after(&real, &near, 20) == TIMERS_OK && real.alive == 1);
 	while (real.alive > 0) {
 		const int wait = timers_loop_timeout(&real);
 		struct timespec sleep = { 0, 0 };
 
-		MUST(wait >= 0 && wait <= 21);
+		CHECK(wait >= 0 && wait <= 21);
 		sleep.tv_nsec = wait * 1000000L;
 		nanosleep(&sleep, NULL);
 		timers_loop_dispatch(&real, 1);
 	}
-	MUST(timers_loop_monotonic(NULL) - begin >= 20000000);
+	CHECK(timers_loop_monotonic(NULL) - begin >= 20000000);
 	timers_event_pause(&real, &near);                   /* of one that is not armed: nothing */
-	MUST(real.alive == 0 && timers_event_at(&real, &near, 3) == TIMERS_OK && real.alive == 1);
+	CHECK(real.alive == 0 && timers_event_at(&real, &near, 3) == TIMERS_OK && real.alive == 1);
 	near.period = UINT64_MAX;                            /* that is after the last tick: it runs once */
 	timers_loop_tick(&real);
-	MUST(timers_loop_take(&real, &left, &tick) == &near && left == 8 && tick == 3 && real.alive == 0);
+	CHECK(timers_loop_take(&real, &left, &tick) == &near && left == 8 && tick == 3 && real.alive == 0);
 
 	/* A callback frees the loop. What was armed is cancelled afterwards, and armed in the next loop. */
 	near.run = ends;
 	near.period = 1;
 	far.background = false;
-	MUST(timers_event_at(&real, &near, 0) == TIMERS_OK && timers_loop_dispatch(&real, 9) == 1);
-	MUST(timers_event_after(&real, &near, 1) != TIMERS_OK || timers_event_armed(&near));
+	CHECK(timers_event_at(&real, &near, 0) == TIMERS_OK && timers_loop_dispatch(&real, 9) == 1);
+	CHECK(timers_event_after(&real, &near, 1) != TIMERS_OK || timers_event_armed(&near));
 	timers_event_cancel(&real, &near);
-	MUST(timers_loop_new(&real, NULL, NULL, 1) == TIMERS_OK && timers_event_after(&real, &near, 1) == TIMERS_OK);
+	CHECK(timers_loop_new(&real, NULL, NULL, 1) == TIMERS_OK && timers_event_after(&real, &near, 1) == TIMERS_OK);
 	timers_event_cancel(&real, &far);
-	MUST(real.alive == 1 && !timers_event_armed(&far));
+	CHECK(real.alive == 1 && !timers_event_armed(&far));
 	timers_loop_free(&real);
 	timers_event_cancel(&real, &near);
-	MUST(real.alive == 0);
+	CHECK(real.alive == 0);
 }
 
 /* Bounded by the last ticks of the clock: a period ends there, and a clock beyond them is one at the last. */
@@ -402,15 +386,15 @@ static void last_ticks(void)
 	memset(&every, 0, sizeof every);
 	every.period = 10;
 	time_now = TIMERS_LAST - 25;
-	MUST(timers_loop_new(&late, clock_of, &time_now, 1) == TIMERS_OK && timers_event_after(&late, &every, 10) == TIMERS_OK);
-	MUST(timers_event_after(&late, &every, 26) == TIMERS_TOO_LATE && every.want == TIMERS_LAST - 15);
+	CHECK(timers_loop_new(&late, clock_of, &time_now, 1) == TIMERS_OK && timers_event_after(&late, &every, 10) == TIMERS_OK);
+	CHECK(timers_event_after(&late, &every, 26) == TIMERS_TOO_LATE && every.want == TIMERS_LAST - 15);
 	every.catches_up = true;
 	time_now = TIMERS_LAST - 5;
 	timers_loop_tick(&late);
-	MUST(timers_loop_dispatch(&late, 9) == 2 && late.alive == 0 && !timers_event_armed(&every));
+	CHECK(timers_loop_dispatch(&late, 9) == 2 && late.alive == 0 && !timers_event_armed(&every));
 	time_now = UINT64_MAX;
 	timers_loop_tick(&late);
-	MUST(timers_event_after(&late, &every, 1) == TIMERS_TOO_LATE && timers_event_after(&late, &every, TIMERS_LAST) == TIMERS_TOO_LATE);
+	CHECK(timers_event_after(&late, &every, 1) == TIMERS_TOO_LATE && timers_event_after(&late, &every, TIMERS_LAST) == TIMERS_TOO_LATE);
 	timers_loop_free(&late);
 }
 
@@ -449,16 +433,16 @@ int main(int argc, char **argv)
 	static const uint64_t lengths[] = { 1000, 1, 7, 1000000 };
 	uint64_t i, start = argc > 2 ? strtoull(argv[2], NULL, 10) : 0;
 
-	MUST(timers_set_allocator(allocate, resize, free) == TIMERS_OK);
+	CHECK(timers_set_allocator(allocate, resize, free) == TIMERS_OK);
 	edges();
 	last_ticks();
 	seed = start * 2 + 1;
 	length = lengths[start % 4];
 	time_now = highest = 12345 * length + length / 2;
 	wheel = due = seen = time_now / length;
-	MUST(timers_loop_new(&loop, clock_of, &time_now, length) == TIMERS_OK && loop.watched == 65536);
+	CHECK(timers_loop_new(&loop, clock_of, &time_now, length) == TIMERS_OK && loop.watched == 65536);
 	loop.watched = 12;
-	MUST(timers_reserve(&loop.timers, EVENTS) == TIMERS_OK);
+	CHECK(timers_reserve(&loop.timers, EVENTS) == TIMERS_OK);
 	sealed = true;
 	for (i = 0; i < EVENTS; i++)
 		make((size_t)i);
@@ -467,12 +451,12 @@ int main(int argc, char **argv)
 	printf("%llu operations, %llu runs, %llu operations in callbacks, %llu events filed anew, %llu loops in callbacks\n",
 	       (unsigned long long)operations, (unsigned long long)runs, (unsigned long long)inside, (unsigned long long)refiled,
 	       (unsigned long long)nested);
-	MUST(operations < 10000 || (runs > operations / 50 && refiled > operations / 200 && nested > operations / 5000));
+	CHECK(operations < 10000 || (runs > operations / 50 && refiled > operations / 200 && nested > operations / 5000));
 	for (i = 0; i < EVENTS; i++) {
 		timers_event_cancel(&loop, &owners[i]->event);
 		free(owners[i]);
 	}
-	MUST(loop.alive == 0);
+	CHECK(loop.alive == 0);
 	timers_loop_free(&loop);
 	return 0;
 }

@@ -7,11 +7,8 @@
  * without input. Each call of the clock, the poll and the server may stall, for many times that. In every other run the
  * server is so busy that its array is always full. */
 #define _POSIX_C_SOURCE 200809L
-#include <stdio.h>
-#include <stdlib.h>
 #include <timers_loop.h>
-
-#define MUST(fact) ((fact) ? (void)0 : fail(__LINE__, #fact))
+#include "check.h"
 
 enum { CLIENTS = 200, IDLE = 300, TALK = 150, ROOM = 8, LENGTH = 1000, SILENT = 10 };
 
@@ -25,19 +22,7 @@ static size_t list[CLIENTS + ROOM], listed;
 static struct timers_loop loop = TIMERS_LOOP_INIT;
 static uint64_t now = 1000000, seed, hung_up, heard, stalls, longest, talk = TALK, handling;
 
-static void fail(int line, const char *fact)
-{
-	fprintf(stderr, "loop_stalls: line %d: %s\n", line, fact);
-	abort();
-}
-
-static uint64_t below(uint64_t n)
-{
-	seed ^= seed << 13;
-	seed ^= seed >> 7;
-	seed ^= seed << 17;
-	return seed % n;
-}
+static uint64_t below(uint64_t n) { return next_below(&seed, n); }
 
 /* Time passes, and what is sent meanwhile arrives. */
 static void pass(uint64_t time)
@@ -97,7 +82,7 @@ static void hang_up(struct timers_loop *l, struct timers_event *event, uint64_t 
 	const size_t number = (size_t)(c - clients);
 
 	(void)l, (void)tick;
-	MUST(number % SILENT == 0 && !c->closed);
+	CHECK(number % SILENT == 0 && !c->closed);
 	c->closed = true;
 	hung_up++;
 	maybe_stall();
@@ -106,13 +91,13 @@ static void hang_up(struct timers_loop *l, struct timers_event *event, uint64_t 
 static void serve(struct client *c)
 {
 	maybe_stall();
-	MUST(c->ready && !c->closed);
+	CHECK(c->ready && !c->closed);
 	c->ready = false;
 	heard++;
 	pass(handling);
 	c->sends = now + below(talk * LENGTH);          /* the answer is sent before the time-out is pushed back */
 	maybe_stall();
-	MUST(timers_event_push_back(&loop, &c->idle, IDLE));
+	CHECK(timers_event_push_back(&loop, &c->idle, IDLE));
 	maybe_stall();
 }
 
@@ -141,20 +126,20 @@ int main(int argc, char **argv)
 		talk = 20;
 		handling = LENGTH;
 	}
-	MUST(timers_loop_new(&loop, clock_of, NULL, LENGTH) == TIMERS_OK);
+	CHECK(timers_loop_new(&loop, clock_of, NULL, LENGTH) == TIMERS_OK);
 	loop.watched = CLIENTS;
 	started = now;
 	for (i = 0; i < CLIENTS; i++) {
 		clients[i].idle.run = hang_up;
 		clients[i].sends = i % SILENT == 0 ? UINT64_MAX : now + below(talk * LENGTH);
-		MUST(timers_event_after(&loop, &clients[i].idle, IDLE) == TIMERS_OK);
+		CHECK(timers_event_after(&loop, &clients[i].idle, IDLE) == TIMERS_OK);
 	}
 	for (i = 0; i < turns; i++) {
 		turn();
 		if (hung_up == CLIENTS / SILENT && longest == 0)
 			longest = now;
 	}
-	MUST(hung_up == CLIENTS / SILENT && loop.alive == CLIENTS - hung_up);
+	CHECK(hung_up == CLIENTS / SILENT && loop.alive == CLIENTS - hung_up);
 	printf("%llu turns, %llu stalls, %llu messages; the silent ones were hung up on after %llu ticks\n", (unsigned long long)turns,
 	       (unsigned long long)stalls, (unsigned long long)heard, (unsigned long long)(longest - started) / LENGTH);
 	timers_loop_free(&loop);

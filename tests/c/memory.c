@@ -5,6 +5,9 @@
 #include <string.h>
 
 #include "tables.h"
+#ifndef TIMERS_NO_DESK
+#include "timers_desk.h"
+#endif
 
 static size_t held;     /* the bytes of all blocks */
 static int failed;
@@ -83,24 +86,51 @@ static void grow(uint32_t table, size_t most)
 	is_within("free", 0, held, 0, 0);
 }
 
-/* With room each timer takes 40 bytes, beside the buckets. */
-static void reserve(uint32_t table, size_t most)
+/* With room each timer takes 40 bytes, beside the buckets, also if some are held before. */
+static void reserve(uint32_t table, size_t before, size_t most)
 {
 	struct timers t = TIMERS_INIT;
-	if (timers_new(&t, table, 0) != TIMERS_OK || timers_reserve(&t, most) != TIMERS_OK)
+	if (timers_new(&t, table, 0) != TIMERS_OK)
+		exit(2);
+	for (size_t i = 0; i < before; i++)
+		if (timers_start(&t, 1 + i, i, NULL) != TIMERS_OK)
+			exit(2);
+	if (timers_reserve(&t, most) != TIMERS_OK)
 		exit(2);
 	is_within("reserve", most, held, 40 * most, 40 * most + 2 * TABLES[table].buckets);
 	timers_free(&t);
+}
+
+/* With room each timer of a desk's capacity takes 96 bytes. */
+static void reserve_desk(size_t capacity)
+{
+#ifdef TIMERS_NO_DESK
+	(void)capacity;
+#else
+	struct timers_desk d = TIMERS_DESK_INIT;
+	struct timers_line l = TIMERS_LINE_INIT;
+	const struct timers_desk_config config = { sizeof config, 0, capacity, 16, 16, TIMERS_SMALL };
+	if (timers_desk_new(&d, &l, 1, &config) != TIMERS_DESK_OK)
+		exit(2);
+	size_t made = held;
+	if (timers_desk_reserve(&d) != TIMERS_DESK_OK)
+		exit(2);
+	is_within("reserve of a desk", capacity, held - made, 96 * capacity, 96 * capacity + 512);
+	timers_desk_free(&d);
+	timers_line_free(&l);
+#endif
 }
 
 int main(void)
 {
 	static const size_t rooms[] = { 1, 10, 100, 1000, 10000, 100000 };
 	for (uint32_t table = 0; table < TIMERS_TABLES; table++) {
-		grow(table, table == TIMERS_WIDE ? ((size_t)1 << 21) + 1 : 300000);
+		grow(table, table == TIMERS_WIDE ? ((size_t)1 << 22) + 1 : 300000);
 		for (size_t i = 0; i < sizeof rooms / sizeof *rooms; i++)
-			reserve(table, rooms[i]);
+			reserve(table, 0, rooms[i]), reserve(table, rooms[i] / 4, rooms[i]);
 	}
+	for (size_t i = 0; i < sizeof rooms / sizeof *rooms; i++)
+		reserve_desk(rooms[i]);
 	printf(failed ? "it is not as the header says\n" : "the timers take what the header says\n");
 	return failed;
 }

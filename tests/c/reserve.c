@@ -95,7 +95,7 @@ static int keeps_room(uint32_t table, size_t before, size_t most)
 	refuse = 0;
 	timers_free(&t);
 	if (!done || refused != 0)
-		printf("table %u, %zu timers before, room for %zu: %ld allocations\n", table, before, most, refused);
+		printf("table %u, %zu timers before, room for %zu: %ld allocations\n", (unsigned)table, before, most, refused);
 	return done && refused == 0;
 }
 

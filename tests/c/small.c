@@ -3,7 +3,6 @@
  *     small memory             a row for each table: the bytes of its wheels, with a resize and without
  *     small NAME COUNT HELD    runs an operation COUNT times, at most 2,000, while HELD other timers are pending: the difference
  *                              of two such runs is what the operation takes */
-#include <inttypes.h>
 #include <stddef.h>
 #include <stdio.h>
 #include <stdlib.h>
@@ -100,7 +99,7 @@ static int memory_rows(void)
 	uint32_t table;
 
 	for (table = 0; table < TIMERS_TABLES; table++)
-		printf("%zu %zu\n", bytes_of_wheels(table, false), bytes_of_wheels(table, true));
+		printf("%lu %lu\n", (unsigned long)bytes_of_wheels(table, false), (unsigned long)bytes_of_wheels(table, true));
 	return 0;
 }
 

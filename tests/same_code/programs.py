@@ -50,7 +50,7 @@ def random_scripts(arguments):
 def play(program, arguments, script):
     """Status and outputs. The name of the program is the same for each."""
     try:
-        ended = subprocess.run(["timers", *arguments], executable=program, input=script, capture_output=True, timeout=60)
+        ended = subprocess.run(["timers", *arguments], executable=program, input=script, capture_output=True, timeout=600)
         return ended.returncode, ended.stdout, ended.stderr
     except subprocess.TimeoutExpired:
         return "no end within a minute", b"", b""

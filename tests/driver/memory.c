@@ -1,5 +1,6 @@
 /* A block follows the one before it and no place is used twice, so that the same requests give the same addresses in each
- * build: then the bytes of all blocks are comparable, pointers among them.
+ * build: then the bytes of all blocks are comparable, pointers among them. With -DMALLOC_BLOCKS they are malloc's, at which a
+ * sanitizer looks, and which any system has: then they are not looked at here.
  *
  * With -DOBJECT this is the heap of the toolchain's object, which calls three functions by name. Otherwise the library is
  * given the functions by timers_set_allocator. */
@@ -7,18 +8,61 @@
 #define _DEFAULT_SOURCE
 #include "memory.h"
 
+#include <stdlib.h>
 #include <string.h>
+#ifndef MALLOC_BLOCKS
 #include <sys/mman.h>
+#endif
 
 #include <timers.h>
 
 #include "trace.h"
 
+#define MOST_BYTES ((size_t)1 << 26)
+static uint64_t numbers, held, overruns, lots, refuses, turn;
+
+static bool is_refused(size_t size)
+{
+	lots = lots * UINT64_C(6364136223846793005) + UINT64_C(1442695040888963407);
+	numbers++;
+	return (refuses != 0 && (lots >> 33) % refuses == 0) || numbers == turn || size > MOST_BYTES;
+}
+
+#ifdef MALLOC_BLOCKS
+static void *take(size_t size)
+{
+	void *const block = is_refused(size) ? NULL : malloc(size);
+
+	told_memory(block == NULL ? "refused" : "takes", size, numbers);
+	held += block != NULL;
+	return block;
+}
+
+static void *resize(void *block, size_t size)
+{
+	void *const moved = is_refused(size) ? NULL : realloc(block, size);
+
+	told_memory(moved == NULL ? "refused" : "resizes", size, numbers);
+	return moved;
+}
+
+static void release(void *block)
+{
+	told_memory("releases", 0, 0);
+	held--;
+	free(block);
+}
+
+static bool map_arena(void) { return true; }
+uint64_t memory_hash(void) { return 0; }
+uint64_t memory_hash_at(uint64_t address) { return address & 0; }
+void memory_set(const struct followers *words, uint64_t value) { (void)words, (void)value; }
+void memory_follow(struct followers *words, uint64_t value) { words->count = value & 0; }
+#else
 enum { HEAD = 16, FENCE = 16, NEW = 0xa5, FREED = 0x5a, OUTSIDE = 0xfd };
 /* The upper bytes of an address in the stack: an empty vector points to some place there, where nothing is read. */
 #define STACK 0x7f
 #define ARENA_AT ((void *)(uintptr_t)UINT64_C(0x100000000000))
-#define ARENA_SIZE ((size_t)1 << 30)
 
 struct head {
 	uint64_t size, number;
@@ -26,13 +70,6 @@ struct head {
 
 static unsigned char *arena;
 static size_t used;
-static uint64_t numbers, held, overruns, lots, refuses;
-
-static bool is_refused(void)
-{
-	lots = lots * UINT64_C(6364136223846793005) + UINT64_C(1442695040888963407);
-	return refuses != 0 && (lots >> 33) % refuses == 0;
-}
 
 static struct head *head_of(void *block)
 {
@@ -48,9 +85,10 @@ static size_t fence_of(size_t size)
 static void *take(size_t size)
 {
 	unsigned char *const at = arena + used;
-	const struct head head = { size, ++numbers };
+	const bool refused = is_refused(size);
+	const struct head head = { size, numbers };
 
-	if (is_refused() || size > ARENA_SIZE - used || size + 4 * HEAD > ARENA_SIZE - used) {
+	if (refused || size > MOST_BYTES - used || size + 4 * HEAD > MOST_BYTES - used) {
 		told_memory("refused", size, head.number);
 		return NULL;
 	}
@@ -92,9 +130,75 @@ static void *resize(void *block, size_t size)
 
 static bool map_arena(void)
 {
-	arena = mmap(ARENA_AT, ARENA_SIZE, PROT_READ | PROT_WRITE, MAP_PRIVATE | MAP_ANONYMOUS | MAP_NORESERVE, -1, 0);
+	arena = mmap(ARENA_AT, MOST_BYTES, PROT_READ | PROT_WRITE, MAP_PRIVATE | MAP_ANONYMOUS | MAP_NORESERVE, -1, 0);
 	return arena == ARENA_AT;
 }
+
+static bool has(size_t at, uint64_t value)
+{
+	uint64_t word;
+
+	memcpy(&word, arena + at, sizeof word);
+	return word == value;
+}
+
+void memory_follow(struct followers *words, uint64_t value)
+{
+	size_t i, kept = 0;
+
+	for (i = 0; i < used && !words->begun; i += 8) {
+		if (has(i, value))
+			words->at[words->count++] = i;
+		if (words->count == sizeof words->at / sizeof *words->at) {
+			words->count = 0;
+			break;
+		}
+	}
+	words->begun = true;
+	for (i = 0; i < words->count; i++) {
+		if (has(words->at[i], value))
+			words->at[kept++] = words->at[i];
+	}
+	words->count = kept;
+}
+
+void memory_set(const struct followers *words, uint64_t value)
+{
+	size_t i;
+
+	for (i = 0; i < words->count; i++)
+		memcpy(arena + words->at[i], &value, sizeof value);
+}
+
+static uint64_t hash_of(const unsigned char *bytes, size_t size)
+{
+	uint64_t hash = size, word;
+	size_t i;
+
+	for (i = 0; i < size; i += sizeof word) {
+		memcpy(&word, bytes + i, sizeof word);
+		if (word >> 40 == STACK)
+			word = 0;
+		hash = (hash ^ word) * UINT64_C(0x9e3779b97f4a7c15);
+		hash ^= hash >> 32;
+	}
+	return hash;
+}
+
+uint64_t memory_hash(void)
+{
+	return hash_of(arena, used);
+}
+
+uint64_t memory_hash_at(uint64_t address)
+{
+	const uint64_t offset = address - (uint64_t)(uintptr_t)arena;
+
+	if (offset < HEAD || offset >= used)
+		return 0;
+	return hash_of(arena + offset, (size_t)head_of(arena + offset)->size / 8 * 8);
+}
+#endif
 
 #ifdef OBJECT
 static bool without_resize;
@@ -153,77 +257,22 @@ bool memory_set_up(bool copies)
 }
 #endif
 
-void memory_begin(uint64_t seed, uint64_t one_in)
+void memory_begin(uint64_t seed, uint64_t one_in, uint64_t in_turn)
 {
+#ifndef MALLOC_BLOCKS
 	used = 0;
+#endif
 	numbers = 0;
 	held = 0;
 	overruns = 0;
 	lots = seed;
 	refuses = one_in;
+	turn = in_turn;
 }
 
-static bool has(size_t at, uint64_t value)
+void memory_refuse_next(void)
 {
-	uint64_t word;
-
-	memcpy(&word, arena + at, sizeof word);
-	return word == value;
-}
-
-void memory_follow(struct followers *words, uint64_t value)
-{
-	size_t i, kept = 0;
-
-	if (!words->begun) {
-		for (i = 0; i < used && words->count < sizeof words->at / sizeof *words->at; i += 8) {
-			if (has(i, value))
-				words->at[words->count++] = i;
-		}
-		words->begun = true;
-	}
-	for (i = 0; i < words->count; i++) {
-		if (has(words->at[i], value))
-			words->at[kept++] = words->at[i];
-	}
-	words->count = kept;
-}
-
-void memory_set(const struct followers *words, uint64_t value)
-{
-	size_t i;
-
-	for (i = 0; i < words->count; i++)
-		memcpy(arena + words->at[i], &value, sizeof value);
-}
-
-static uint64_t hash_of(const unsigned char *bytes, size_t size)
-{
-	uint64_t hash = size, word;
-	size_t i;
-
-	for (i = 0; i < size; i += sizeof word) {
-		memcpy(&word, bytes + i, sizeof word);
-		if (word >> 40 == STACK)
-			word = 0;
-		hash = (hash ^ word) * UINT64_C(0x9e3779b97f4a7c15);
-		hash ^= hash >> 32;
-	}
-	return hash;
-}
-
-uint64_t memory_hash(void)
-{
-	return hash_of(arena, used);
-}
-
-uint64_t memory_hash_at(uint64_t address)
-{
-	const uint64_t offset = address - (uint64_t)(uintptr_t)arena;
-
-	if (offset < HEAD || offset >= used)
-		return 0;
-	return hash_of(arena + offset, (size_t)head_of(arena + offset)->size / 8 * 8);
+	turn = numbers + 1;
 }
 
 uint64_t memory_blocks(void)

@@ -11,8 +11,12 @@
  * whether that worked. */
 bool memory_set_up(bool copies);
 
-/* A program begins, without a block. One request in `refuses` is refused, none if that is 0. */
-void memory_begin(uint64_t seed, uint64_t refuses);
+/* A program begins, without a block. One request in `refuses` is refused, none if that is 0, and the one after `turn`
+ * others, if that is not 0. */
+void memory_begin(uint64_t seed, uint64_t refuses, uint64_t turn);
+
+/* The next request is refused. */
+void memory_refuse_next(void);
 
 /* Of all bytes that were asked for since the program began, freed ones too. */
 uint64_t memory_hash(void);
@@ -20,10 +24,10 @@ uint64_t memory_hash(void);
 /* The same of the block at this address, or 0 if it is not one of a block. */
 uint64_t memory_hash_at(uint64_t address);
 
-/* Words of blocks that count something: those that had its values at each call of memory_follow. memory_set gives them
- * another value. It is for counts that no program reaches by counting. */
+/* Words of blocks that count something: those that had its values at each call of memory_follow, or none if there were too
+ * many. memory_set gives them another value. It is for counts that no program reaches by counting. */
 struct followers {
-	size_t count, at[64];
+	size_t count, at[8192];
 	bool begun;
 };
 void memory_follow(struct followers *words, uint64_t value);
