@@ -1,14 +1,14 @@
-# make             builds ./timers and the libraries in build/lib from generated/, with a C compiler alone
+# make             builds ./timers (for Linux alone) and the libraries in build/lib from generated/, with a C compiler alone
 # make run         the same, and plays a script of examples/ (SCRIPT=)
-# make test        the whole gate; its last line is 'N passed, 0 failed', or 'N passed, 0 failed, N skipped'. Without the
-#                  toolchain it runs what needs no proof
+# make test        (or check) tests program and libraries with what any machine has: a C compiler, make, bash, python3. Its
+#                  last line is 'N passed, 0 failed', or 'N passed, 0 failed, N skipped'
+# make gate        that and all other tests and proofs. Without the toolchain it runs what needs no proof
 # make lib         builds the libraries alone, and the man pages
 # make install     installs what make built, under PREFIX (tools/install/install has all variables)
 # make uninstall   removes what it installed
 # make dist        a tarball of program and libraries, for machines without a compiler: build/timers-*.tar.gz (for another
 #                  processor give it CC, too)
 # make deb         Debian packages, binary and source: build/deb
-# make rpm         RPM packages: build/rpm
 # make fuzz        an hour of scripts, against a model of docs/formats.md (MINUTES=N)
 # make fuzz-loop   ten million random operations of timers_loop.h, against a model, under the sanitizers
 # make bench-scale measures an operation with 1,000 to 10,000,000 timers pending (bench/build/results)
@@ -18,7 +18,7 @@
 # make bench-desk  measures client threads over a desk, over C++ rings and around a mutex (bench/build/results)
 # make bench-lines measures a desk's calls in one thread, its flushes, and the clients of timers threads, beside C++
 # make ports       libuv, nginx and lwIP on these timers: their tests, traces, memory, instructions (ports/README.md)
-# make docs        makes docs/moving.svg and docs/pages/lessons.js from the scripts of examples/ and docs/formats.md, and
+# make docs        makes docs/pages/lessons.js from the scripts of examples/ and docs/formats.md, and
 #                  counts lines for docs/proofs.md (tools/page_program makes docs/pages/program.js, with clang for wasm32)
 # make clean       removes what make built
 #
@@ -30,16 +30,14 @@
 # make prove       proves program and libraries, writes what they compile to into generated/, and builds from that
 # make try         plays a script with an unproved build that has checks at run time (SCRIPT=, ARGUMENTS=)
 # make generate    as make prove, and builds nothing
-# make soak        all clients, of 10,000 timers each, in threads, 100 times; prints progress
 # make bench       measures the wheels against others (bench/README.md)
 
 KIT = $(dir $(shell rt doc))
-SOAK = crates/timer_soak/out/timer_soak
 SCRIPT = examples/retransmission
 ARGUMENTS = play
 MINUTES = 60
 
-all: timers lib
+all: $(if $(filter Linux,$(shell uname)),timers) lib
 
 .DELETE_ON_ERROR:
 
@@ -67,11 +65,15 @@ tools/install/timers.1: docs/formats.md tools/install/man1 tools/install/version
 tools/install/%.3: include/%.h tools/install/man3 tools/install/version CHANGELOG.md
 	tools/install/man3 $* > $@
 
-run: all
+run: timers
 	./timers < $(SCRIPT)
 
-test:
-	tools/gate
+test check:
+	@python3 -c 'import sys; sys.exit(sys.version_info < (3, 9))' || { echo 'make test needs python3, of version 3.9 or later' >&2; exit 1; }
+	@CALLER=$$PPID exec tools/alone tests/quick
+
+gate:
+	@CALLER=$$PPID exec tools/gate
 
 prove: generate
 	$(MAKE) all
@@ -96,12 +98,8 @@ dist: all
 deb:
 	tools/deb
 
-rpm:
-	tools/rpm/build
-
 bench: lib
-	cd crates/timer_bench && rt lib
-	INCREMENTAL=out/incremental tools/lower timer_bench bench/build/product -mbranches-within-32B-boundaries
+	bench/product
 	$(MAKE) -C bench run PRODUCT=$(CURDIR)/bench/build/product/object PRODUCT_HEAP=$(KIT)c/liblibc_c.a \
 	    TIMERS_C=$(CURDIR)/build/lib/libtimers.a OPTIONS="$(OPTIONS)"
 	$(MAKE) bench-lines
@@ -121,10 +119,6 @@ fuzz-loop: lib
 	$(CC) -std=c11 -O1 -g -fsanitize=address,undefined -fno-sanitize-recover=all -Iinclude -o build/loop_model tests/c/loop_model.c build/lib/libtimers.a
 	for seed in 1 2 3 4 5 6 7 8 9 10; do build/loop_model 1000000 $$seed || exit 1; done
 
-soak:
-	cd crates/timer_soak && rt run
-	$(SOAK) long
-
 docs: all
 	TIMERS=$(CURDIR)/timers tools/docs_pages docs
 	tools/line_counts docs/proofs.md
@@ -136,4 +130,4 @@ clean:
 	rm -rf crates/*/out build timers tools/install/*.[13]
 	$(MAKE) -C bench clean
 
-.PHONY: FORCE all lib pages run test prove try generate install uninstall dist deb rpm bench bench-scale bench-tail bench-next bench-desk bench-lines measure-scale measure-tail measure-next fuzz fuzz-loop soak docs ports clean
+.PHONY: FORCE all lib pages run test check gate prove try generate install uninstall dist deb bench bench-scale bench-tail bench-next bench-desk bench-lines measure-scale measure-tail measure-next fuzz fuzz-loop docs ports clean

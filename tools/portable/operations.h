@@ -14,6 +14,9 @@ INLINE byte *loadptr(const byte *p) { return (byte *)(uintptr_t)load64(p); }
 INLINE byte *loadptru(const byte *p) { return (byte *)(uintptr_t)load64u(p); }
 INLINE void storeptr(byte *p, byte *v) { store64(p, (uint64_t)(uintptr_t)v); }
 INLINE void storeptru(byte *p, byte *v) { store64u(p, (uint64_t)(uintptr_t)v); }
+INLINE uintN_t frozenN(uintN_t v) { ONE_VALUE(uintN_t, v); return v; }
+INLINE bool frozen1(bool v) { ONE_VALUE(bool, v); return v; }
+INLINE byte *frozenptr(byte *v) { ONE_VALUE(byte *, v); return v; }
 
 /* Arithmetic that C has no operator for. */
 INLINE uintN_t uminN(uintN_t a, uintN_t b) { return a < b ? a : b; }

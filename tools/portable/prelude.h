@@ -29,6 +29,7 @@ typedef unsigned char byte;
 #define MOSTLY_0(number) __builtin_expect(number, 0)
 #define TRAP() __builtin_trap()
 #define UNREACHABLE() __builtin_unreachable()
+#define ONE_VALUE(type, v) __asm__("" : "+r"(v))
 #elif defined(_MSC_VER)
 #define INLINE static __inline
 #define ALWAYS_INLINE __forceinline
@@ -39,6 +40,7 @@ typedef unsigned char byte;
 #define MOSTLY_0(number) (number)
 #define TRAP() __fastfail(7)
 #define UNREACHABLE() __assume(0)
+#define ONE_VALUE(type, v) do { type volatile one = v; v = one; } while (0)
 #else
 #define INLINE static inline
 #define ALWAYS_INLINE inline
@@ -49,6 +51,7 @@ typedef unsigned char byte;
 #define MOSTLY_0(number) (number)
 #define TRAP() abort()
 #define UNREACHABLE() abort()
+#define ONE_VALUE(type, v) do { type volatile one = v; v = one; } while (0)
 #endif
 
 /* Alignment is told to compilers that use it, where callers' numbers of 64 bits have the module's: on i386 they have 4. */

@@ -8,20 +8,21 @@
 #error "the numbers of errors are not those of Linux"
 #endif
 
-static int arguments_count;
-static char **arguments;
+/* The file can be compiled in pieces, side by side: 16 times, with PIECE from 0 to 15. What is OWN is in one of them, and
+ * the others call it. Nothing outside of the program sees it. */
+#if !defined PIECE
+#define OWN static
+#elif defined(__GNUC__) && !defined(_WIN32)
+#define OWN __attribute__((visibility("hidden")))
+#else
+#define OWN
+#endif
+#if defined PIECE && defined(__GNUC__)
+#pragma GCC diagnostic ignored "-Wunused-function"
+#pragma GCC diagnostic ignored "-Wunused-const-variable"
+#endif
 
-/* Writes the argument with this index to the front of the buffer, and returns its length. Returns -1 if there is none,
- * and -2 if there is no room for all of it: then the buffer is full. */
-static uint64_t rattle_arg(uint64_t index, byte *buffer, uint64_t room)
-{
-	size_t length;
-	if (index >= (uint64_t)arguments_count)
-		return (uint64_t)-1;
-	length = strlen(arguments[index]);
-	memcpy(buffer, arguments[index], length < room ? length : (size_t)room);
-	return length <= room ? length : (uint64_t)-2;
-}
+OWN uint64_t rattle_arg(uint64_t index, byte *buffer, uint64_t room);
 static uint32_t rattle_errno(void) { return (uint32_t)errno; }
 static void rattle_set_errno(uint32_t error) { errno = (int)error; }
 static uint64_t os_read(uint32_t fd, byte *p, uint64_t n) { return (uint64_t)(int64_t)read((int)fd, p, n > SIZE_MAX / 2 ? SIZE_MAX / 2 : (size_t)n); }

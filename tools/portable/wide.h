@@ -50,6 +50,7 @@ INLINE u128 u128_lshr(u128 a, uint64_t n)
 INLINE bool u128_less(u128 a, u128 b) { return u128_high(a) != u128_high(b) ? u128_high(a) < u128_high(b) : u128_low(a) < u128_low(b); }
 INLINE bool u128_equal(u128 a, u128 b) { return u128_high(a) == u128_high(b) && u128_low(a) == u128_low(b); }
 INLINE u128 u128_sub_sat(u128 a, u128 b) { return u128_less(a, b) ? u128_of(0, 0) : u128_sub(a, b); }
+INLINE u128 frozen128(u128 a) { return u128_of(frozen64(u128_high(a)), frozen64(u128_low(a))); }
 INLINE u128 load128u(const byte *p) { return u128_of(load64u(p + 8), load64u(p)); }
 INLINE u128 load128(const byte *p) { return u128_of(load64(p + 8), load64(p)); }
 INLINE void store128u(byte *p, u128 v) { store64u(p, u128_low(v)); store64u(p + 8, u128_high(v)); }
@@ -64,6 +65,7 @@ INLINE void store56u(byte *p, uint64_t v) { store48u(p, v); p[6] = (byte)(v >> 4
 INLINE double rounded(double v) { volatile double result = v; return result; }
 INLINE double double_of(uint64_t bits) { double v; memcpy(&v, &bits, 8); return v; }
 INLINE uint64_t bits_of(double v) { uint64_t bits; memcpy(&bits, &v, 8); return bits; }
+INLINE double frozendouble(double v) { return double_of(frozen64(bits_of(v))); }
 INLINE double loaddouble(const byte *p) { return double_of(load64(p)); }
 INLINE double loaddoubleu(const byte *p) { return double_of(load64u(p)); }
 INLINE void storedouble(byte *p, double v) { store64(p, bits_of(v)); }
