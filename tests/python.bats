@@ -11,36 +11,51 @@ setup_file() {
     export PYTHONDONTWRITEBYTECODE=1 PIP_DISABLE_PIP_VERSION_CHECK=1 PIP_NO_INDEX=1
 }
 
-needs_venv() { "$python" -c 'import ensurepip, venv' 2> /dev/null || skip "no $python with venv"; }
-# new_venv NAME: with no pip of its own; pip_in NAME WORD..: that of the first one, for this one
-new_venv() {
-    [ -e "$work/pip" ] || "$python" -m venv "$work/pip"
-    "$python" -m venv --without-pip "$work/$1"
+# needs_setuptools: what builds the package, $python or Debian's, as $builder
+needs_setuptools() {
+    for builder in "$python" /usr/bin/python3; do
+        ! "$builder" -c 'import setuptools, pip, venv, wheel' 2> /dev/null || return 0
+    done
+    skip "no Python with pip, setuptools and wheel"
 }
-pip_in() { "$work/pip/bin/pip" --python "$work/$1/bin/python" "${@:2}"; }
+# new_venv NAME: an environment that sees the builder's packages; pip_in and install_in NAME WORD..: its pip
+new_venv() { "$builder" -m venv --system-site-packages --without-pip "$work/$1"; }
+pip_in() { "$work/$1/bin/python" -m pip "${@:2}"; }
+install_in() { pip_in "$1" install --no-build-isolation "${@:2}"; }
 in_package() { (cd / && PYTHONPATH=$work/python "${@:1}"); }
-wheels_of() { "$python" -c "import sys; sys.path[:0] = ['$1']; import backend; print(backend.build_wheel('$2'))"; }
+# built KIND PROJECT: builds a wheel or an sdist (KIND) of the project in $work/KIND, without a network
+built() { (cd "$2" && "$builder" -c "from setuptools import build_meta; build_meta.build_$1('$work/$1')"); }
 
-@test "random calls agree with a dictionary, what is held is owned, and each refused allocation is survived" {
+@test "random calls have the answers of C, and what is held is owned" {
+    needs_python_package
+    needs_traces
+    in_package "$python" -W error -X dev "$PWD/bindings/python/tests/replay_test.py" "$made"/timers.? "$made"/desk.?
+}
+@test "the edges are as C has them, and each refused allocation is survived" {
     needs_python_package
     in_package "$python" -W error -X dev "$PWD/bindings/python/tests/timers_test.py"
 }
-@test "a desk agrees, and threads get all their words" {
+@test "timers in timers are released, finalizers may take, and a clock of real time is never early" {
+    needs_python_package
+    in_package "$python" -W error -X dev "$PWD/bindings/python/tests/edges_test.py"
+}
+@test "clients of a desk come and go, and threads get all their words" {
     needs_python_package
     in_package "$python" -W error -X dev "$PWD/bindings/python/tests/desk_test.py"
 }
 
 # Not optimized, as in sanitizers.bats. A block that was freed is kept for a while there, so that what is mapped is more: of
 # 4 MB.
-@test "both do the same under the sanitizers of addresses and of undefined behaviour" {
+@test "all do the same under the sanitizers of addresses and of undefined behaviour" {
     needs_python_package
-    CFLAGS="-g -O0 -fsanitize=address,undefined -fno-sanitize-recover=all" "$python" bindings/python/backend.py "$work/sanitized" ||
-        skip "cc has no sanitizers"
+    python_package "$work/sanitized" -g -O0 -fsanitize=address,undefined -fno-sanitize-recover=all || skip "cc has no sanitizers"
+    needs_traces
     local test preloaded
     preloaded="$(cc -print-file-name=libasan.so) $(cc -print-file-name=libubsan.so)"
-    for test in desk_test timers_test; do
+    for test in desk_test timers_test edges_test "replay_test $made/timers.0 $made/timers.2 $made/desk.0"; do
+        # shellcheck disable=SC2086
         PYTHONPATH=$work/sanitized PYTHONMALLOC=malloc ASAN_OPTIONS=detect_leaks=0:quarantine_size_mb=4 LD_PRELOAD=$preloaded \
-            "$python" "bindings/python/tests/$test.py"
+            "$python" bindings/python/tests/${test/_test/_test.py}
     done
 }
 
@@ -102,7 +117,7 @@ wheels_of() { "$python" -c "import sys; sys.path[:0] = ['$1']; import backend; p
 @test "help shows the classes with their calls" {
     needs_python_package
     in_package "$python" -c 'import timers; help(timers)' > "$work/help"
-    for words in 'class Timers' 'class Handle' 'class TimersError' 'start_at(self, deadline, action, /)' 'CLOCK_LAST = 8639999' 'SERIALS_SPENT = 9'; do
+    for words in 'class Timers' 'class Handle' 'class TimersError' 'start_at(self, deadline, action, /)' 'SMALL_LAST = 16777215' 'SERIALS_SPENT = 9'; do
         grep -qF "$words" "$work/help" || { echo "no $words"; return 1; }
     done
     [ "$(in_package "$python" -c 'import timers; print(timers.__version__)')" = "$(cat tools/install/version)" ]
@@ -110,18 +125,21 @@ wheels_of() { "$python" -c "import sys; sys.path[:0] = ['$1']; import backend; p
 
 @test "pip installs the module, and the first program runs" {
     needs_python_package
-    needs_venv
+    needs_setuptools
+    copy_tree "$work/tree"
     new_venv installed
-    CFLAGS=-O0 pip_in installed install ./bindings/python
+    CFLAGS=-O0 install_in installed "$work/tree/bindings/python"
     printf '240: egg\n300: tea\n' | diff - <(cd / && "$work/installed/bin/python" "$OLDPWD/examples/c/first.py")
 }
 @test "the wheel names what it is for and what it is, and is removed again" {
     [ -e "$work/installed" ] || skip "nothing was installed"
     package=$(cd / && "$work/installed/bin/python" -c 'import os, timers; print(os.path.dirname(timers.__file__))')
-    cmp generated/NOTICE "$package"/../timers-*.dist-info/licenses/NOTICE
+    for name in generated/NOTICE LICENSE-MIT LICENSE-APACHE; do
+        cmp "$name" "$(find "$package"/../timers-*.dist-info -name "${name##*/}")"
+    done
     pip_in installed show --files timers > "$work/shown"
     for line in "Version: $(cat tools/install/version)" "Summary: Timers on hierarchical timing wheels.*" '  timers/_timers.abi3.so' \
-        '  timers/py.typed' '  timers/_timers.pyi' '  timers/desk.py' '  timers/asyncio.py'; do
+        '  timers/py.typed' '  timers/_clock.py' '  timers/_timers.pyi' '  timers/desk.py' '  timers/asyncio.py' '  timers/asyncio.pyi'; do
         grep -x "$line" "$work/shown"
     done
     grep -x "Tag: cp311-abi3-linux_$(uname -m)" "$package"/../timers-*.dist-info/WHEEL
@@ -133,51 +151,40 @@ wheels_of() { "$python" -c "import sys; sys.path[:0] = ['$1']; import backend; p
     pip_in installed uninstall --yes timers
     [ ! -e "$package" ]
 }
-@test "the source distribution alone builds, and has its tests" {
+@test "the source distribution alone builds the same wheel, and has its tests" {
     needs_python_package
-    needs_venv
-    export CFLAGS=-O0
-    mkdir -p "$work/sdist"
-    "$python" -c "import sys; sys.path[:0] = ['bindings/python']; import backend; backend.build_sdist('$work/sdist')"
+    needs_setuptools
+    export CFLAGS="-O0 -g0" SOURCE_DATE_EPOCH=1700000000
+    copy_tree "$work/repository"
+    built wheel "$work/repository/bindings/python"
+    mv "$work/wheel" "$work/wheel of repository"
+    built sdist "$work/repository/bindings/python"
+    mkdir "$work/sources"
+    tar -xf "$work"/sdist/timers-*.tar.gz -C "$work/sources"
+    cmp "$work"/sources/timers-*/c/timers.c generated/timers.c
+    built wheel "$work"/sources/timers-*/
+    cmp "$work"/wheel/timers-*.whl "$work/wheel of repository"/timers-*.whl
     new_venv "from sources"
-    (cd / && pip_in "from sources" install "$work"/sdist/timers-*.tar.gz)
-    tar -xf "$work"/sdist/timers-*.tar.gz -C "$work/sdist"
-    (cd / && "$work/from sources/bin/python" "$work"/sdist/timers-*/tests/desk_test.py)
-    cmp "$work"/sdist/timers-*/c/timers.c generated/timers.c
-    mkdir "$work/sdist/of"
-    cmp "$work/sdist/of/$(wheels_of "$(echo "$work"/sdist/timers-*/)" "$work/sdist/of")" "$work/sdist/$(wheels_of bindings/python "$work/sdist")"
+    (cd / && install_in "from sources" "$work"/sdist/timers-*.tar.gz && "$work/from sources/bin/python" "$work"/sources/timers-*/tests/desk_test.py)
 }
 @test "an editable install sees what is changed in the folder" {
     needs_python_package
-    needs_venv
-    copy_tree "$work/tree"
+    needs_setuptools
+    copy_tree "$work/edited"
     new_venv editable
-    (cd / && CFLAGS=-O0 pip_in editable install --editable "$work/tree/bindings/python")
-    echo 'CHANGED = 1' >> "$work/tree/bindings/python/src/timers/__init__.py"
+    (cd / && CFLAGS=-O0 install_in editable --editable "$work/edited/bindings/python")
+    echo 'CHANGED = 1' >> "$work/edited/bindings/python/src/timers/__init__.py"
     (cd / && "$work/editable/bin/python" -c 'import timers; assert timers.CHANGED and timers.Timers().start(1, 2)')
-}
-
-# refuses WORDS..: a build, in an environment of its own, ends with a line that has these words, and no trace of Python's
-refuses() {
-    run "${@:2}" "$python" -c 'import sys; sys.path[:0] = ["bindings/python"]; import sysconfig, os; exec(os.environ.get("before", "")); import backend; backend.build_wheel("/")'
-    echo "$output"
-    [ "$status" -eq 1 ]
-    [[ "$output" == *"timers: $1"* && "$output" != *Traceback* ]]
 }
 @test "a build that can't be done says why" {
     needs_python_package
-    refuses "the C compiler no-such-compiler can't be run (No such file or directory): install one, or name yours in CC" env CC=no-such-compiler
-    refuses "the C compiler false has failed with status 1" env CC=false
-    refuses "/no/Python.h is missing: Debian has it in python3-dev" \
-        env before='sysconfig.get_config_vars(); sysconfig.get_paths = lambda *_: {"include": "/no", "platinclude": "/no"}'
-    refuses "a free-threaded Python has no lock" env before='sysconfig.get_config_var = {"Py_GIL_DISABLED": 1}.get'
-    refuses "it needs CPython 3.11 or later" env before='sys.version_info = (3, 10, 2)'
+    needs_setuptools
     mkdir "$work/alone"
     cp -R bindings/python "$work/alone/"
-    run "$python" -c "import sys; sys.path[:0] = ['$work/alone/python']; import backend; backend.build_sdist('$work')"
+    run built sdist "$work/alone/python"
     [ "$status" -eq 1 ]
-    [[ "$output" == "timers: tools/install/version is missing: build it in the repository, or from the source distribution" ]]
-    refused_free_threading=$(cc -fsyntax-only -DPy_GIL_DISABLED -Igenerated -Iinclude -I"$("$python" -c 'import sysconfig; print(sysconfig.get_paths()["include"])')" \
-        bindings/python/extension/_timers.c 2>&1) && return 1
-    [[ "$refused_free_threading" == *"a free-threaded Python does not have"* ]]
+    [[ "$output" == "timers: generated/timers.c is missing: build it in the repository, or from the source distribution" ]]
+    run cc -fsyntax-only -DPy_GIL_DISABLED -Igenerated -Iinclude -I"$(python_headers)" bindings/python/extension/_timers.c
+    [ "$status" -ne 0 ]
+    [[ "$output" == *"a free-threaded Python does not have"* ]]
 }
