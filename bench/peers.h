@@ -206,6 +206,30 @@ CALL struct node *take(uint64_t now)
 }
 CALL uint64_t next(void) { return due.first ? current : wake(); }
 
+#elif defined(LIST)                              /* a list by deadline, in the order of setting; the nodes are the caller's */
+struct node { struct node *next, *prev; uint64_t at; };
+static struct node list = { &list, &list, 0 };
+static void init(size_t n) { (void)n; }
+CALL void stop(struct node *n)
+{
+	if (n->next)
+		n->prev->next = n->next, n->next->prev = n->prev, n->next = NULL;
+}
+CALL void set(struct node *n, uint64_t at)
+{
+	struct node *before = (stop(n), list.prev);      /* from the back: where all have one length, none is passed */
+	while (before->at > at)
+		before = before->prev;
+	n->at = at, n->prev = before, n->next = before->next;
+	n->next->prev = before->next = n;
+}
+CALL struct node *take(uint64_t now)
+{
+	struct node *n = list.next;
+	return n == &list || n->at > now ? NULL : (stop(n), n);
+}
+CALL uint64_t next(void) { return list.next == &list ? UINT64_MAX : list.next->at; }
+
 #elif defined(QUEUE)                             /* std::priority_queue; what was set again or stopped is dropped at the top */
 #include <queue>
 struct node { uint64_t serial; };                /* of its entry; 0 if there is none */

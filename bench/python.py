@@ -341,8 +341,8 @@ def main():
     if options.one:
         run_one(options.one[0], int(options.one[1]), sizes[0])
         return
-    backend = os.path.join(HERE, "..", "bindings", "python", "backend.py")
-    if subprocess.run([sys.executable, "-B", backend, BUILT], check=False).returncode:
+    install = [sys.executable, "-m", "pip", "install", "--quiet", "--no-deps", "--upgrade", "--target", BUILT]
+    if subprocess.run([*install, os.path.join(HERE, "..", "bindings", "python")], check=False).returncode:
         fail("the package for Python can't be compiled")
     print(f"# {figures.machine()}, CPython {sys.version.split()[0]}, load average {os.getloadavg()[0]:.1f}")
     rows = []

@@ -1,11 +1,11 @@
 // Arrows from where timers were to where they moved at a step. An arrow goes round a ring outside of its numbers, and from
-// ring to ring where no text is: straight between two that are side by side, or else above the rings or beside the cards.
+// ring to ring where no text is: straight between two that are side by side, or else above the rings or at a card's edge.
 "use strict";
 
 const MAX_ARROWS = 3;  // of one step; if there are more, one thick arrow goes to each wheel
 const TRAVEL = 900;    // milliseconds for which a timer travels along its arrow
 const ROUND = 8;       // pixels by which a corner is rounded
-const INSIDE = 6;      // pixels from the edge of a card, where it has no text, and from there to the next card
+const INSIDE = 6;      // pixels from the edge of a card, where it has no text, and half of those to the next card
 
 function onRing({x, y, size}, turn, radius) {
   const [awayX, awayY] = point(turn, radius * size);
@@ -22,16 +22,18 @@ function arcOf(spot, from, to) {
 
 // The turns at which the way leaves one ring and comes to the other, and the corners in between.
 function wayOf(from, to, between) {
-  const wide = from.corridor * from.size;
-  const isRow = Math.abs(from.y - to.y) < wide;
-  if (isRow && !between) return from.x < to.x ? [0.25, 0.75, []] : [0.75, 0.25, []];
-  if (isRow) return from.x < to.x ? [0.04, 0.96, []] : [0.96, 0.04, []];
-  const isColumn = Math.abs(from.x - to.x) < wide;
-  if (isColumn && !between && Math.abs(from.y - to.y) < 3 * wide) return from.y < to.y ? [0.5, 0, []] : [0, 0.5, []];
-  if (isColumn) return [0.75, 0.75, [[from.card.left + INSIDE, from.y], [to.card.left + INSIDE, to.y]]];
-  const isLeft = to.x < from.x;
-  const gutter = isLeft ? from.card.left - INSIDE : from.card.right + INSIDE;
-  return [isLeft ? 0.75 : 0.25, isLeft ? 0.25 : 0.75, [[gutter, from.y], [gutter, to.y]]];
+  if (Math.abs(from.y - to.y) < from.corridor * from.size) {
+    const [right, left] = between ? [0.04, 0.96] : [0.25, 0.75];
+    return from.x < to.x ? [right, left, []] : [left, right, []];
+  }
+  if (from.y < to.y) {
+    const [come, leave, corners] = wayOf(to, from);
+    return [leave, come, corners.reverse()];
+  }
+  // From a small wheel up to a large one: between the two rows, and then at the edge of the large one's card.
+  const isLeft = from.x < to.x;
+  const [gap, edge] = [from.card.top - INSIDE, isLeft ? to.card.left + INSIDE : to.card.right - INSIDE];
+  return [0, isLeft ? 0.75 : 0.25, [[from.x, gap], [edge, gap], [edge, to.y]]];
 }
 
 // A path through points, with round corners.
@@ -80,7 +82,8 @@ class Arrows {
     const spot = (key) => {
       const {wheel, slot} = placeOf(key);
       const found = cards.get(wheel).spot(slot);
-      const card = {left: found.card.left - origin.left, right: found.card.right - origin.left};
+      const {left, right, top} = found.card;
+      const card = {left: left - origin.left, right: right - origin.left, top: top - origin.top};
       return {...found, x: found.x - origin.left, y: found.y - origin.top, card};
     };
     const order = [...cards.keys()];

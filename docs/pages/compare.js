@@ -17,7 +17,7 @@ class Column {
     const options = ["--scheme", scheme, "--slots", slots, ...["--first-tick", "--clients", "--capacity"].flatMap(keep)];
     this.play = new Play({...play, options}, play.pieces);
     this.words = new Words(this.play);
-    this.cards = cardsOf(this.play, this.words, acts(() => this.play), []);
+    this.cards = new Map(drawnOf(this.play).map((k) => [k, new WheelCard(this.play, this.words, k, acts(() => this.play))]));
     this.looks = make("strong", {});
     this.element = make("section", {class: "column", "aria-label": title},
         make("h3", {}, title), make("p", {class: "looked"}, this.looks, " looked at so far"), make("p", {class: "does"}, does),

@@ -4,7 +4,7 @@
 const SVG = "http://www.w3.org/2000/svg";
 const INNER = 78;
 const OUTER = 98;
-const EDGE = 148;      // of the drawing
+const EDGE = 132;      // of the drawing
 const MAX_NUMBERS = 8; // slots of one wheel that have their number on the ring
 const NEAR = 0.06;     // of a turn: two numbers on the ring don't touch
 const SIDE = 45;       // a number that is so far from the middle is beside the ring, or else above or below it
@@ -332,7 +332,9 @@ class WheelCard {
     const title = `timer ${serial}${timer ? `, deadline ${deadline}, client ${client}, action ${action}` : ""}`;
     const kind = `chip${serial === has ? " is-followed" : ""}`;
     const pressed = {"data-focus": `chip-${serial}`, "aria-pressed": String(serial === has)};
-    return make("button", {type: "button", class: kind, title, onclick: () => this.acts.follow(serial), ...pressed}, serial,
-        note === undefined ? null : make("span", {class: "part"}, `:${note}`));
+    const chip = make("button", {type: "button", class: kind, title, onclick: () => this.acts.follow(serial), ...pressed}, serial);
+    if (note === undefined) return chip;
+    const said = this.scheme === "plain" ? `tick ${note}` : `${note} round${note === "1" ? "" : "s"}`;
+    return make("span", {class: "noted"}, chip, make("span", {class: "remark"}, said));
   }
 }

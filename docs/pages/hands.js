@@ -7,24 +7,14 @@ const STEP_TIME = 900;     // milliseconds for each piece of a line of ticks tha
 const THROUGH_TIME = 5000; // and for all of them
 const MOST_THROUGH = 40;   // pieces that are shown one after the other
 const FIRST_INTERVAL = 130n;
-const REACH = 18;          // the slider's largest interval is 2 to this power
 const ACTION = "1";
-const MOST_LABEL = 23;     // letters of a button
 
-const PROVED = [
-  "Proved: this page runs the program timers itself, compiled to WebAssembly. Its answers, its refusals and the slots in" +
-      " which timers stand are what the program writes (timers show).",
-  "Not proved: the drawing. Rings, arrows, digits, sentences and the counts of timers that were looked at are made of" +
-      " that text by JavaScript, which a test compares with the program's output. Neither are the compiler and the browser.",
-];
-
-// An act leaves the buttons where the reader has them on the screen: the wheels above them may become more or fewer.
+// An act leaves the buttons where the reader has them on the screen: on a phone they are below the wheels and the story.
 function inPlace(act) {
-  const top = () => $("hands").getBoundingClientRect().top;
-  const before = top();
-  const isSeen = before < sight().bottom && $("hands").getBoundingClientRect().bottom > sight().top;
+  const box = () => $("hands").getBoundingClientRect();
+  const before = box();
   act();
-  if (isSeen) (isColumn() ? $("stage") : window).scrollBy({top: top() - before, behavior: "instant"});
+  if (before.top < sight().bottom && before.bottom > 0) window.scrollBy({top: box().top - before.top, behavior: "instant"});
 }
 
 function stopThrough() {
@@ -79,7 +69,7 @@ function add(texts) {
 
 function startFor(deadline) {
   const now = play.now(shown.step);
-  add([`start 0 ${play.nextNumber("0", shown.step)} ${deadline > now ? deadline - now : 0n} ${ACTION}`]);
+  add([`start 0 ${play.nextNumber("0", shown.step)} ${deadline - now} ${ACTION}`]);
 }
 
 // The followed timer, if it is pending now.
@@ -95,13 +85,21 @@ function stopIt() {
 
 function restartFor(deadline) {
   const {client, serial, action} = present();
-  const now = play.now(shown.step);
-  add([`restart ${client} ${play.nextNumber(client, shown.step)} ${serial} ${deadline > now ? deadline - now : 0n} ${action}`]);
+  add([`restart ${client} ${play.nextNumber(client, shown.step)} ${serial} ${deadline - play.now(shown.step)} ${action}`]);
 }
 
 function advance(count) {
   if (count > MOST_LINES * MAX_TICKS) trouble(`That is ${count} ticks away. A line passes at most ${MAX_TICKS}.`);
   else add(ticksFor(count));
+}
+
+// A step on. After the last, the clock goes to the tick at which the program is to be asked next.
+function goOn() {
+  if (shown.step < play.last) go(shown.step + 1);
+  else {
+    const left = wakeup() - play.now(shown.step);
+    inPlace(() => advance(left < MAX_TICKS ? left : MAX_TICKS));
+  }
 }
 
 // The next tick at which the hand of a wheel comes to a slot.
@@ -126,7 +124,7 @@ function actsOf(of) {
 
 function deadlineTyped() {
   const typed = $("deadline").value.trim();
-  return /^\d{1,19}$/.test(typed) ? BigInt(typed) : null;
+  return /^\d+$/.test(typed) ? BigInt(typed) : null;
 }
 
 function setDeadline(tick) {
@@ -136,10 +134,11 @@ function setDeadline(tick) {
 
 // Where the timer would go: the program is asked.
 function renderAim() {
-  $("deadline").style.width = `${Math.max(7.5, 0.64 * $("deadline").value.length + 1.5)}em`;
+  $("deadline").style.width = `${Math.min(Math.max(6, 0.64 * $("deadline").value.length + 1.5), 13.5)}em`;
   const now = play.now(shown.step);
   const deadline = deadlineTyped();
   const isRefused = deadline === null || deadline <= now || deadline > play.scheme.last;
+  setOff("start", isRefused);
   setOff("restart", isRefused || !present());
   name("restart", "Restart", present() && `Restart timer ${shown.followed} for tick ${$("deadline").value}`);
   if (isRefused) {
@@ -147,19 +146,15 @@ function renderAim() {
     for (const card of cards.values()) card.aim(null);
     return;
   }
-  const interval = Number(deadline - now);
-  if (document.activeElement !== $("interval")) $("interval").value = String((Math.log2(interval) / REACH) * 240);
   const found = play.placeFor(now, deadline);
   say($("preview"), words.scheme === "plain" ? "" : `goes to ${found.name}`);
   const {wheel, slot} = placeOf(found.key);
   for (const [k, card] of cards) card.aim(k === wheel ? slot : null);
 }
 
-// A button has room for a word or two and, if that is short, for what it is about. That is its name, so that a reader who
-// speaks can say what is seen. Its title describes the whole of what it does.
-function name(id, said, whole, about = ` ${shown.followed}`) {
-  const label = `${said}${about}`;
-  say($(id), whole && label.length <= MOST_LABEL ? label : said);
+// What is seen of a button is its name, so that a reader who speaks can say it. Its title describes the whole of what it does.
+function name(id, said, whole) {
+  say($(id), whole ? `${said} ${shown.followed}` : said);
   $(id).title = whole || said;
 }
 
@@ -167,9 +162,6 @@ function renderHands() {
   const now = play.now(shown.step);
   const typed = deadlineTyped();
   if (document.activeElement !== $("deadline") && (typed === null || typed <= now)) $("deadline").value = String(now + FIRST_INTERVAL);
-  const wakeup = shown.step ? play.steps[shown.step - 1].wakeup : null;
-  name("tickNext", "Next event", wakeup !== null && `To the next event, at tick ${wakeup}`, `: tick ${wakeup}`);
-  setOff("tickNext", wakeup === null);
   setOff("stop", !present());
   name("stop", "Stop", present() && `Stop timer ${shown.followed}`);
   setOff("undo", !shown.undo.length);
@@ -232,20 +224,12 @@ function listenToHands() {
   const act = (id, does) => { $(id).onclick = () => { if (!isOff(id)) inPlace(does); }; };
   $("starter").onsubmit = (event) => {
     event.preventDefault();
-    if (deadlineTyped() !== null) inPlace(() => startFor(deadlineTyped()));
+    if (!isOff("start")) inPlace(() => startFor(deadlineTyped()));
   };
   $("deadline").oninput = renderAim;
-  $("interval").oninput = () =>
-    setDeadline(play.now(shown.step) + BigInt(Math.max(1, Math.round(2 ** ((Number($("interval").value) / 240) * REACH)))));
   act("restart", () => restartFor(deadlineTyped()));
   act("stop", stopIt);
   act("tick1", () => advance(1n));
-  act("tick64", () => advance(64n));
-  act("tickNext", () => {
-    if (shown.through) go(play.last);
-    const left = play.steps[shown.step - 1].wakeup - play.now(shown.step);
-    advance(left < MAX_TICKS ? left : MAX_TICKS);
-  });
   act("undo", undo);
   act("clear", clear);
   act("compare", () => {

@@ -22,15 +22,9 @@ class LineList {
     const passed = make("span", {class: "passed"});
     const text = make("span", {class: "text"}, this.play.lines[line] || " ");
     const act = () => this.go(steps[steps.length - 1]);
-    const button = make("button", {type: "button", disabled: !steps.length, title: this.named(line), onclick: act, tabindex: -1, "data-focus": `line-${line}`},
+    const button = make("button", {type: "button", disabled: !steps.length, onclick: act, tabindex: -1, "data-focus": `line-${line}`},
         make("span", {class: "number"}, String(line + 1)), text, passed);
     return {element: make("li", {}, button), button, passed, count: 0};
-  }
-
-  // The words of a line's fields beside its numbers.
-  named(line) {
-    const {word, ...fields} = this.stepsOf[line].length && line !== this.play.bad ? partsOf(this.play.lines[line]) : {};
-    return word ? [word, ...Object.entries(fields).map(([name, value]) => `${name} ${value}`)].join(", ") : null;
   }
 
   // The lines from one to another, and a button for what is before and after them.

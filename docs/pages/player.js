@@ -4,11 +4,10 @@
 const READ_FIRST = 1500; // milliseconds that Play rests at a step, at speed 1
 const READ_LETTER = 6;   // and for each letter that is said there
 const GAP = 8;           // pixels between what is brought into sight and the edge of the screen
-const MAX_COUNTED = 3000; // timers of a script for which it is counted at how many each scheme looks
+const MAX_LARGE = 3;     // wheels of one script that are large; of more, all but two are small
 
 const $ = (id) => document.getElementById(id);
 const shown = {step: 0, followed: null, timer: null, isCompared: false};
-const wide = window.matchMedia("(min-width: 860px)");
 const calm = window.matchMedia("(prefers-reduced-motion: reduce)");
 const arrows = new Arrows();
 const lines = new LineList($("lines"), go);
@@ -16,18 +15,18 @@ const comparison = new Comparison($("comparison"));
 let play = null;
 let words = null;
 let cards = new Map();
+const strip = make("div", {class: "strip"});
 
 function follow(serial) {
   if (serial !== null) shown.followed = serial;
   render(shown.step);
 }
 
-// The wheels that ever hold a timer, the lowest, whose hand moves at each tick, and these.
-function drawnOf(of, more) {
-  return of.wheels.map((_, k) => k).filter((k) => k === 0 || of.used.has(k) || more.includes(k)).reverse();
+// The wheels that ever hold a timer, and the lowest, whose hand moves at each tick; of a hierarchy two at least.
+function drawnOf(of) {
+  const least = of.scheme.isHierarchy && of.used.size < 2 ? 1 : 0;
+  return of.wheels.map((_, k) => k).filter((k) => k <= least || of.used.has(k)).reverse();
 }
-
-function cardsOf(of, said, acts, more) { return new Map(drawnOf(of, more).map((k) => [k, new WheelCard(of, said, k, acts)])); }
 
 // What kind of news a sentence is, for its colour.
 function kindOf(said, isBad) {
@@ -60,7 +59,7 @@ function digitTable(timer, now) {
   const isHier = play.scheme.name === "hier";
   const names = words.levels.map((k) => make("th", {scope: "col"}, isHier ? String(k) : play.wheels[k].name));
   const head = make("tr", {}, make(isHier ? "th" : "td", isHier ? {scope: "row"} : {}, isHier ? "wheel" : ""), ...names);
-  const isLong = words.levels.length > 5; // then there is no room for the ticks, which are said beside it
+  const {isLong} = words; // then there is no room for the ticks, which are said beside it
   const deadline = digitRow(isLong ? "deadline" : `deadline ${timer.deadline}`, timer.deadline, level);
   const body = make("tbody", {}, digitRow(isLong ? "now" : `now ${now}`, now, level), deadline);
   return make("div", {class: "scroll", role: "group", "aria-label": "Digits of now and of the deadline", "data-focus": "digits"},
@@ -111,30 +110,11 @@ function renderFollowed(step) {
 
 // What scrolls and has nothing in it that takes the focus is a stop of the Tab key itself, so that a keyboard scrolls it.
 function setStops() {
-  for (const node of document.querySelectorAll("#news, .scroll, .buckets")) {
+  for (const node of document.querySelectorAll(".scroll, .buckets")) {
     const isCut = node.scrollHeight > node.clientHeight || node.scrollWidth > node.clientWidth;
     const tabIndex = isCut && !node.querySelector("button") ? 0 : -1;
     if (node.tabIndex !== tabIndex || !node.hasAttribute("tabindex")) node.tabIndex = tabIndex;
   }
-}
-
-// The present event of the followed timer is brought into sight where its history scrolls by itself. The form stays above
-// it. Below the form begins a row or a paragraph, so that none is cut: there is room at the end for that.
-function showEvent() {
-  const [box, followed] = [$("followed").closest(".follow"), $("followed")];
-  followed.style.paddingBottom = "";
-  const event = isColumn() && document.querySelector(".history .is-now");
-  if (!event) return;
-  box.scrollTop = 0;
-  const below = event.getBoundingClientRect().bottom - box.getBoundingClientRect().bottom;
-  if (below <= 0) return;
-  followed.style.paddingBottom = `${box.clientHeight}px`;
-  box.scrollTop = below + GAP;
-  const form = $("choose").getBoundingClientRect().bottom;
-  const tops = [...followed.querySelectorAll("p, .scroll, li")].map((row) => row.getBoundingClientRect().top - form);
-  const more = Math.min(event.getBoundingClientRect().top - form, ...tops.filter((top) => top >= 0));
-  box.scrollTop += more;
-  followed.style.paddingBottom = `${Math.max(0, more) + GAP}px`;
 }
 
 // The events of timers that left a slot at a step: they moved, or came out, or were stopped or restarted.
@@ -189,6 +169,17 @@ function keepFocus(renders) {
 
 function render(step) { keepFocus(() => renderStep(step)); }
 
+// The tick at which the program is to be asked next, or null.
+function wakeup() { return play.steps[shown.step - 1]?.wakeup ?? null; }
+
+function renderWakeup() {
+  const said = wakeup() === null ? "" : `tick ${wakeup()}`;
+  say($("wakeup"), said && `next: ${said}`);
+  $("next").title = shown.step === play.last && said ? `To the next event, at ${said}` : "One step on (right arrow)";
+  change($("next"), "aria-label", $("next").title.replace(" (right arrow)", ""));
+  setOff("next", shown.step === play.last && !said);
+}
+
 function renderStep(step) {
   const from = shown.step;
   shown.step = step;
@@ -197,22 +188,19 @@ function renderStep(step) {
   say($("face"), words.face(play.now(step)));
   $("news").replaceChildren(...newsOf(step));
   say($("count"), `${renderCards(play, cards, step, shown.followed)} pending`);
-  say($("looks"), play.timers.size > MAX_COUNTED ? "" : `work so far: ${timersCounted(play.looks(step))} looked at`);
   if (shown.isCompared) comparison.render(play, step, shown.followed, actsOf);
   lines.render(step);
-  if (step !== from) closeHelp();
   renderFollowed(step);
   renderHands();
   $("slider").value = String(step);
   $("slider").setAttribute("aria-valuetext", `step ${step} of ${play.last}, tick ${play.now(step)}`);
   $("at").textContent = `${step} of ${play.last}`;
-  for (const id of ["first", "back"]) setOff(id, step === 0);
-  for (const id of ["next", "last"]) setOff(id, step === play.last);
+  setOff("back", step === 0);
+  renderWakeup();
   keepLink();
   // All is drawn: now it is measured, so that the page is laid out once.
   for (const card of shown.isCompared ? [] : cards.values()) card.reveal();
   lines.reveal();
-  showEvent();
   setStops();
   if (step !== from) showStep(step);
   renderArrows(step === from + 1 && !calm.matches);
@@ -237,11 +225,11 @@ function sight() {
 // Whether each column scrolls by itself.
 function isColumn() { return getComputedStyle($("stage")).overflowY === "auto"; }
 
-// The wheels that timers left at a step, and those to which they moved; they are all that matters, or all wheels.
+// The wheels that timers left at a step, those to which they moved, and the lowest, in which they come out.
 function boundsOf(step) {
-  const used = new Set(leavesOf(play, step).flatMap(({from, to}) => (to === undefined ? [from] : [from, to]))
-      .map((key) => placeOf(key).wheel));
-  const rects = [...cards].filter(([k]) => !used.size || used.has(k)).map(([, card]) => (card.svg ?? card.element).getBoundingClientRect());
+  const used = new Set([0, ...leavesOf(play, step).flatMap(({from, to}) => (to === undefined ? [from] : [from, to]))
+      .map((key) => placeOf(key).wheel)]);
+  const rects = [...cards].filter(([k]) => used.has(k)).map(([, card]) => (card.svg ?? card.element).getBoundingClientRect());
   return {top: Math.min(...rects.map(({top}) => top)), bottom: Math.max(...rects.map(({bottom}) => bottom))};
 }
 
@@ -258,15 +246,8 @@ function showStep(step) {
   if (wheels.top >= top && Math.max(wheels.bottom, isColumn() ? 0 : news.bottom) <= bottom) return;
   const last = isColumn() ? wheels.bottom : Math.max(wheels.bottom, news.bottom);
   const fits = last - clock.top <= bottom - top - 2 * GAP;
-  const by = fits ? clock.top - top - GAP : Math.min(Math.floor(wheels.top - top) - 1, Math.max(last - bottom, 0) + GAP);
+  const by = fits ? clock.top - top - GAP : Math.min(wheels.top - top - GAP, Math.max(last - bottom, 0) + GAP);
   (isColumn() ? $("stage") : window).scrollBy({top: by, behavior: "instant"});
-}
-
-// On a phone the help makes room at a step for the wheels.
-function closeHelp() {
-  if (wide.matches) return;
-  $("intro").open = false;
-  $("fields").open = false;
 }
 
 function go(step) {
@@ -318,7 +299,7 @@ function key(event) {
   }
   const acts = {
     ArrowLeft: () => go(shown.step - 1),
-    ArrowRight: () => go(shown.step + 1),
+    ArrowRight: () => { if (!isOff("next") && !(event.repeat && shown.step === play.last)) goOn(); },
     Home: () => go(0),
     End: () => go(play.last),
   };
@@ -355,9 +336,6 @@ function followTyped() {
 
 function followNext(by) { follow(String(BigInt(shown.followed) + by)); }
 
-// Only a hierarchy has slots from which timers move, and only a hashed wheel has rounds.
-function isDrawn([kind]) { return kind === "arrow" ? words.isHierarchy : kind !== "rounds" || words.scheme === "hashed"; }
-
 // The sign of a row of the legend, as it is drawn at the wheels.
 function signOf(kind) {
   if (kind === "hand")
@@ -373,8 +351,13 @@ function signOf(kind) {
 }
 
 function legendRow([kind, said]) {
-  if (kind === "rounds") return make("span", {}, said);
   return make("span", {}, make("svg", {viewBox: "0 0 16 20", "aria-hidden": "true"}, ...signOf(kind)), said);
+}
+
+// Only a hierarchy has slots from which timers move, and wheels that aren't drawn.
+function legendRows() {
+  const rows = LEGEND.filter(([kind]) => kind !== "arrow" || words.isHierarchy).map(legendRow);
+  return cards.size < play.wheels.length ? [...rows, make("span", {}, "not drawn: wheels that stay empty")] : rows;
 }
 
 // A page with several scripts has a link to each.
@@ -388,9 +371,8 @@ function fillGuide() {
       make("kbd", {}, "space"), " play and pause, ", make("kbd", {}, "Home"), " ", make("kbd", {}, "End"),
       " first and last. Within the lines, and within the timers of a wheel: ", make("kbd", {}, "↑"), " ", make("kbd", {}, "↓"),
       ". At a hand: ", make("kbd", {}, "→"), " goes on to its next slot.");
-  const folded = cards.size < play.wheels.length ? ["Wheels that are not drawn are empty at every step."] : [];
   const hands = words.scheme === "plain" ? [] : ["Drag a hand to advance the clock. Click a slot to aim a timer at it."];
-  $("guide").replaceChildren(...[...words.guide(), ...hands, ...folded, ...PROVED].map((said) => make("p", {}, said)), keys);
+  $("guide").replaceChildren(...[...words.guide(), ...hands].map((said) => make("p", {}, said)), keys);
 }
 
 function fill() {
@@ -405,33 +387,27 @@ function fill() {
   $("scheme-name").textContent = words.schemeName();
   $("opening").textContent = OPENING[words.scheme];
   fillGuide();
-  $("legend").replaceChildren(...(words.scheme === "plain" ? [] : LEGEND.filter(isDrawn).map(legendRow)));
+  $("legend").replaceChildren(...(words.scheme === "plain" ? [] : legendRows()));
   const row = ([word, said], between) => make("p", {}, make("b", {}, word), `${between}${said}`);
   $("fields").replaceChildren(make("summary", {}, "What the numbers in a line are"),
       ...words.fields().map((pair) => row(pair, " ")), ...words.glossary().map((pair) => row(pair, ": ")));
   $("slider").max = String(play.last);
 }
 
-// Says at the foot of a wheel's card which wheels aren't drawn between it and the next one that is.
-function sayGap(k, at, all) {
-  const below = all[at + 1] ?? k - 1;
-  const gap = below === k - 2 ? `Wheel ${k - 1}: empty` : `Wheels ${below + 1} to ${k - 1}: empty`;
-  if (below < k - 1) cards.get(k).body.append(make("p", {class: "between"}, `${gap}, not drawn`));
-}
-
-// The same wheels stay, so that their hands turn on.
-function drawWheels(isLesson) {
-  const more = isLesson || !play.scheme.isHierarchy ? [] : wide.matches ? [0, 1, 2] : [0, 1];
-  const sign = `${words.scheme} ${play.wheels[0].slots} ${drawnOf(play, more)}`;
-  if (sign === shown.sign) {
-    for (const card of cards.values()) card.take(play, words);
-    return;
-  }
+// The wheels that a reader has before them stay where they are, and their hands turn on. More wheels come small, below them.
+function drawWheels() {
+  const sign = `${words.scheme} ${play.wheels[0].slots}`;
+  const old = sign === shown.sign ? cards : new Map();
+  const all = [...new Set([...old.keys(), ...drawnOf(play)])].sort((a, b) => b - a);
+  if (!old.size) shown.large = all.length > MAX_LARGE ? all.slice(-2) : all;
+  const small = all.filter((k) => !shown.large.includes(k));
   shown.sign = sign;
-  cards = cardsOf(play, words, actsOf(() => play), more);
-  [...cards.keys()].forEach(sayGap);
-  $("wheels").replaceChildren(...[...cards.values()].map((card) => card.element), arrows.element);
-  $("wheels").dataset.count = cards.size;
+  cards = new Map([...shown.large, ...small].map((k) => [k, old.get(k) ?? new WheelCard(play, words, k, actsOf(() => play))]));
+  for (const card of cards.values()) card.take(play, words);
+  const elements = (of) => of.map((k) => cards.get(k).element);
+  fillWith(strip, elements(small));
+  fillWith($("wheels"), [...elements(shown.large), ...(small.length ? [strip] : []), arrows.element]);
+  $("wheels").dataset.count = shown.large.length;
 }
 
 // Shows a script at a step. It may be refused by the program, which says why: then all stays as it is.
@@ -449,7 +425,7 @@ function load(lesson, {step, followed, isLesson = false} = {}) {
   play = Object.assign(made, {path: lesson.path});
   words = new Words(play);
   shown.isLesson = isLesson;
-  drawWheels(isLesson);
+  drawWheels();
   lines.take(play);
   const isThere = followed !== undefined && play.timers.has(followed);
   shown.followed = isThere ? followed : play.longest();
@@ -469,19 +445,19 @@ function trouble(said) {
 function loadLink() {
   const {lesson, isCompared, ...more} = readLink(location.hash);
   $("deadline").value = "";
+  shown.sign = null;
   setCompared(isCompared);
-  if (load(lesson, {...more, isLesson: LESSONS.includes(lesson)})) return;
+  const isLoaded = load(lesson, {...more, isLesson: LESSONS.includes(lesson)});
   const said = $("trouble").textContent;
-  load(LESSONS[0], {isLesson: true});
+  if (!isLoaded) load(LESSONS[0], {isLesson: true});
   trouble(said);
+  showStep(shown.step);
 }
 
 function listen() {
   const act = (id, does) => { $(id).onclick = () => { if (!isOff(id)) does(); }; };
-  act("first", () => go(0));
   act("back", () => go(shown.step - 1));
-  act("next", () => go(shown.step + 1));
-  act("last", () => go(play.last));
+  act("next", goOn);
   act("before", () => followNext(-1n));
   act("after", () => followNext(1n));
   $("play").onclick = toggle;
@@ -490,7 +466,7 @@ function listen() {
   $("choose").onsubmit = (event) => event.preventDefault();
   document.addEventListener("keydown", key);
   window.addEventListener("hashchange", () => {
-    window.scrollTo({top: 0, behavior: "instant"});
+    for (const scrolled of [window, $("stage"), $("side")]) scrolled.scrollTo({top: 0, behavior: "instant"});
     loadLink();
   });
   window.addEventListener("resize", () => {

@@ -1,7 +1,7 @@
 // What happened at a step, and why, in sentences.
 "use strict";
 
-// What the page is about, in two sentences above the clock.
+// What the page is about, in two sentences.
 const OPENING = {
   plain: "All pending timers wait in one list, in order of starting. The page shows it by deadline.",
   hashed: "A timer waits in slot (deadline mod slots). The hand passes it once for each of its rounds. The time after" +
@@ -12,16 +12,17 @@ const OPENING = {
       " down.",
 };
 
+const PURPOSE = "A program keeps thousands of timers. Timing wheels find the due ones without searching.";
+
 // How to read the wheels.
 const GUIDE = {
   plain: [
     "A tick looks at all timers of the list, so with more timers it takes longer.",
-    "Timers are written serial:deadline.",
   ],
   hashed: [
     "At each tick the hand goes on by one slot, and only the timers of that slot are looked at.",
     "A timer is in slot (deadline mod slots), so the hand is there at its deadline.",
-    "A timer whose deadline is more than one turn away has rounds. Timers are written serial:rounds.",
+    "A timer whose deadline is more than one turn away has rounds.",
   ],
   hier: [
     "Each wheel has a hand: wheel 0's goes on at each tick, wheel 1's every 64 ticks, and so on.",
@@ -51,7 +52,6 @@ const LEGEND = [
   ["held-followed", "orange, framed: has the followed timer"],
   ["left", "dashed: timers just left it"],
   ["aimed", "dotted: where Start would put it"],
-  ["rounds", "4:1 = timer 4, 1 round left"],
   ["arrow", "arrow: a timer moved"],
 ];
 
@@ -101,6 +101,7 @@ class Words {
     // The wheels whose digits are spoken of, from the highest down.
     this.levels = play.wheels.map((_, k) => k).filter((k) => k <= highest || this.scheme === "clock").reverse();
     this.hasDigits = this.isHierarchy && this.levels.length > 1;
+    this.isLong = this.levels.length > 5; // then the digits are in the table alone
   }
 
   // A slot as `timers show` names it.
@@ -127,7 +128,7 @@ class Words {
 
   // The clock's face: digits, days and hours, or the slot.
   face(tick) {
-    if (this.isHierarchy) return this.hasDigits ? `=\u00a0${this.written(tick)}` : "";
+    if (this.isHierarchy) return this.hasDigits && !this.isLong ? `=\u00a0${this.written(tick)}` : "";
     if (this.scheme === "plain") return "";
     return `at slot ${this.digits(tick)[0]} (slots 0 to ${this.play.wheels[0].slots - 1})`;
   }
@@ -338,7 +339,7 @@ class Words {
     const follow = "Choose a timer's serial to follow that timer: it turns orange and" +
         " gets a frame, and its history is below 'Follow timer'.";
     const isOne = this.scheme === "hier" && !this.hasDigits;
-    return [...(isOne ? GUIDE_OF_ONE : GUIDE[this.scheme]), follow];
+    return [PURPOSE, ...(isOne ? GUIDE_OF_ONE : GUIDE[this.scheme]), follow];
   }
 
   // What a timer did that came to a slot at this step, or left it.
