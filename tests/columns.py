@@ -4,6 +4,7 @@ The column is that of the first byte with which no good line begins: of lines th
 byte is put in, added or taken away. What else is reported is compared with a model, of these lines and of longer ones
 (tools/facts_check).
 """
+import functools
 import os
 import re
 import subprocess
@@ -17,7 +18,7 @@ LAST, TICKS = LIMITS["LAST"], LIMITS["MAX_TICKS"]
 FORMS = {word: FIELDS[word] for word in WORDS["script"]}
 LONGEST = max((word + f" {LAST}" * len(fields) for word, fields in FORMS.items()), key=len).encode()
 CHANGED = [f"{line}\n".encode() for line in said("script", "example")] + [b"start 10 1 %d 7\n" % LAST, b"tick %d\n" % TICKS]
-CHANGED += [b"tick %d\n" % (TICKS - 1), LONGEST + b"\n", b"\xef\xbb\xbfclose\n", b"start 0 1 5 %d\n" % (LAST + 1)]
+CHANGED += [b"tick %d\n" % (TICKS - 1), LONGEST + b"\n", b"\xef\xbb\xbfclose\n", b"tick 3\r\n", b"start 0 1 5 %d\n" % (LAST + 1)]
 BYTES = b"\x00\t\r 0159:/-+aeorstSz\x7f\xef\xff"
 
 
@@ -34,6 +35,7 @@ def is_good(line):
     return all(map(is_number, texts, fields))
 
 
+@functools.cache
 def begins_line(front):
     """Whether some good line begins so: the rest of a word, or of a number, and fields may follow."""
     if any(form.encode().startswith(front) for form in FORMS) or is_good(front):
@@ -62,7 +64,7 @@ def longer():
     for line in changed():
         if line.endswith(b"\n") and not is_good(line) and len(line) < 40:
             yield line[:-1] + b"1" * 200 + b"\n"
-    for front in (b"start  ", b" ", b"stop 1 1 0", b"close 1", b"s", LONGEST, LONGEST + b"\r", LONGEST + b"x", LONGEST + b" 1", b"tick 1"):
+    for front in (b"x", b"start  ", b" ", b"stop 1 1 0", b"close 1", b"s", LONGEST, LONGEST + b"\r", LONGEST + b"x", LONGEST + b" 1", b"tick 1"):
         for more in (108, 200, 1000):
             yield front + front[-1:] * more + b"\n"
             yield front + b" 1" * more + b"\n"
@@ -75,10 +77,12 @@ def reports(program, script):
 
 
 def main(program):
-    lines = changed()
+    lines = [*longer(), *changed()]
     ended = [line for line in lines if line.endswith(b"\n")]
-    found = reports(program, b"".join(ended))
-    told = [found.get(number) for number in range(1, len(ended) + 1)]
+    told = []
+    for part in (ended[at : at + 2000] for at in range(0, len(ended), 2000)):  # a script has a MiB at most
+        found = reports(program, b"".join(part))
+        told += [found.get(number) for number in range(1, len(part) + 1)]
     told += [reports(program, line).get(1) for line in lines[len(ended) :]]
     wrong = [(line[:60], at) for line, at in zip(lines, told) if at != (None if is_good(line) else column(line))]
     print(f"{len(lines)} lines, {len(wrong)} wrong columns", *wrong[:10], sep="\n")

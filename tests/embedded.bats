@@ -1,6 +1,6 @@
 #!/usr/bin/env bats
-# What docs/embedded.md says of small machines, measured: without malloc, on armhf under qemu, and compiled for Cortex-M4.
-# The page's numbers are bounds for Debian 12's compilers, but for those of memory, which hold everywhere.
+# What docs/embedded.md says of small machines, measured: without malloc, on a Cortex-M4 that qemu has (tests/platforms runs more
+# there). The page's numbers are bounds for Debian 12's compilers, but for those of memory, which hold everywhere.
 # shellcheck disable=SC2034,SC2086
 load helpers
 
@@ -10,8 +10,10 @@ setup_file() {
 }
 setup() { set -o pipefail; }
 small="-std=c11 -Wall -Wextra -Werror -pedantic -DTIMERS_NO_MALLOC -DTIMERS_NO_DESK -Iinclude"
-arm="arm-linux-gnueabihf-gcc -static"
-needs_arm() { needs arm-linux-gnueabihf-gcc qemu-arm-static; }
+m4="arm-none-eabi-gcc -mcpu=cortex-m4 -mthumb --specs=rdimon.specs -T tests/c/mps2.ld"
+needs_m4() { needs arm-none-eabi-gcc qemu-system-arm; }
+# on_m4 PROGRAM WORD..: runs it
+on_m4() { timeout 60 qemu-system-arm -M mps2-an386 -cpu cortex-m4 -nographic -semihosting $counting -kernel "$1" -append "${*:2}"; }
 
 # by COMPILER: names the library's object, which is made once
 by() {
@@ -60,25 +62,16 @@ EOT
     [[ $output != *alloc* ]]
 }
 
-@test "the page's code is that of the example" {
-    squeezed() { tr -s ' \t' ' ' | sed 's/^ //'; }
-    squeezed < examples/c/static_memory.c > "$work/example"
-    sed -n '/^## In a static buffer/,/^## /s/^    //p' "$page" | grep -vE '^(cc |add_subdirectory|target_|\.\.)' | squeezed > "$work/page"
-    [ "$(wc -l < "$work/page")" -gt 10 ]
-    while read -r line; do
-        echo "$line"
-        grep -qxF -- "$line" "$work/example"
-    done < "$work/page"
-}
 @test "the example runs in a static buffer" {
     needs cc
     cc $small -o "$work/static" examples/c/static_memory.c "$(by cc)"
     "$work/static" | diff examples/c/static_memory.stdout -
 }
-@test "and on armhf" {
-    needs_arm
-    $arm $small -o "$work/static" examples/c/static_memory.c "$(by "$arm")"
-    qemu-arm-static "$work/static" | diff examples/c/static_memory.stdout -
+@test "and, by the page's commands, on a Cortex-M4" {
+    needs_m4
+    sed -n '1,/^## /s/^    //p' "$page" | sed "s, static\>, $work/static," > "$work/commands"
+    [ "$(wc -l < "$work/commands")" -eq 3 ]
+    timeout 60 sh -e "$work/commands" | diff examples/c/static_memory.stdout -
 }
 
 @test "a project of CMake builds it so" {
@@ -100,56 +93,89 @@ EOT
     "$work/small" memory > "$work/memory"
     rows Memory | sed -n 's/^TIMERS_[A-Z0-9]* //p' | diff - "$work/memory"
 }
-@test "and on armhf, too" {
-    needs_arm
-    $arm $small -o "$work/small" tests/c/small.c "$(by "$arm")"
-    qemu-arm-static "$work/small" memory > "$work/memory"
+@test "and on a Cortex-M4, too" {
+    needs_m4
+    $m4 $small -o "$work/small" tests/c/small.c "$(by "$m4")"
+    on_m4 "$work/small" memory > "$work/memory"
     rows Memory | sed -n 's/^TIMERS_[A-Z0-9]* //p' | diff - "$work/memory"
 }
 
-@test "no call takes more stack than the page says" {
-    needs arm-linux-gnueabihf-gcc python3
-    (cd "$work" && arm-linux-gnueabihf-gcc -Os ${small/-Iinclude/-I$BATS_TEST_DIRNAME/../include} -fcallgraph-info=su -c -o stack.o \
-        "$BATS_TEST_DIRNAME/../generated/timers.c")
+# bound_of CALL COLUMN: of stack, of stack without the smooth wheel, or of instructions
+bound_of() { rows "Stack and time" | sed -nE "s/^(.* )?$1( [^0-9]*)? ([0-9]+) ([0-9]+) ([0-9]*).*/\\$(($2 + 2))/p"; }
+# no_more_stack COLUMN FLAGS
+no_more_stack() {
+    needs arm-none-eabi-gcc python3
+    $m4 -Os $small $2 -fcallgraph-info=su -c -o "$work/stack.o" generated/timers.c
     tests/stack.py "$work/stack.ci" > "$work/stack"
-    most=$(rows Stack | sed -n 's/^each other call //p')
+    most=$(bound_of "each other call" "$1")
     checked=0
     while read -r name bytes; do
-        bound=$(rows Stack | sed -nE "s/^(.* )?$name( .*)? ([0-9]+)$/\3/p")
+        bound=$(bound_of "$name" "$1")
         at_most "${bound:-$most}" "$((bytes + 1))" "$name"
         checked=$((checked + 1))
     done < "$work/stack"
     [ "$checked" -eq "$(sed -n 's/^[a-z].*[ *]\(timers_[a-z_]*\)(.*[,;]$/\1/p' include/timers.h | wc -l)" ]
 }
+@test "no call takes more stack than the page says" { no_more_stack 1; }
+@test "nor without the smooth wheel" { no_more_stack 2 -DTIMERS_NO_SMOOTH; }
 
-# linked COMPILER FLAGS: the bytes of code and constants of a program that starts, stops and takes
+# linked FLAGS: links bare.c, with the library or as a peer, by $compiler and $linker. Sets `bytes`, its code and constants, and
+# `ram`, its data.
 linked() {
-    $1 $2 -ffreestanding -ffunction-sections -fdata-sections $small -c -o "$work/timers.o" generated/timers.c
-    $1 $2 -ffreestanding -ffunction-sections -fdata-sections -fno-builtin $small -c -o "$work/bare.o" tests/c/bare.c
-    ${3:-$1 -nostdlib} -Wl,--gc-sections,-e,main,--unresolved-symbols=ignore-all -o "$work/bare" "$work/timers.o" "$work/bare.o" ${4--lgcc}
-    size "$work/bare" | awk 'NR == 2 { print $1 }'
+    local bare="-ffreestanding -ffunction-sections -fdata-sections $small $*"
+    $compiler $bare -c -o "$work/timers.o" generated/timers.c
+    $compiler $bare -fno-builtin -c -o "$work/bare.o" tests/c/bare.c
+    $linker -nostdlib -Wl,--gc-sections,-e,main,--unresolved-symbols=ignore-all -o "$work/bare" "$work/timers.o" "$work/bare.o" $division
+    read -r bytes ram < <(size "$work/bare" | awk 'NR == 2 { print $1, $2 + $3 }')
 }
-# bound_of NAME COLUMN
-bound_of() { rows Code | sed -n "s/^$1 //p" | cut -d ' ' -f "$2"; }
-# no_more_code COLUMN: than the page says in this column
+by_gcc() {
+    needs arm-none-eabi-gcc size
+    compiler="arm-none-eabi-gcc -mcpu=cortex-m4 -mthumb" division=-lgcc
+    linker=$compiler
+}
+by_clang() {
+    needs clang ld.lld size
+    linker="clang --target=thumbv7em-none-eabi -mcpu=cortex-m4 -fuse-ld=lld" division=
+    compiler="${linker% *} -nostdlibinc"
+}
+# no_more_code ROW FLAGS: than the page says, with the smooth wheel and without
 no_more_code() {
-    needs size
-    checked=0
-    if command -v arm-linux-gnueabihf-gcc; then
-        for flag in -Os -O2; do at_most "$(bound_of "ARMv7 Linux gcc 12.2 $flag" "$1")" "$(linked "$arm" $flag)" "armhf $flag"; done
-        checked=1
-    fi
-    if command -v clang && command -v ld.lld; then
-        cortex="clang --target=thumbv7em-none-eabi -mcpu=cortex-m4"
-        at_most "$(bound_of "Cortex-M4 clang 14 -Os" "$1")" "$(linked "$cortex -nostdlibinc" -Os "$cortex -fuse-ld=lld -nostdlib" "")" cortex-m4
-        checked=1
-    fi
-    [ $checked = 1 ] || skip "no compiler for ARM"
+    read -r with without < <(rows Code | sed -n "s/^$1 //p")
+    linked "$2"
+    at_most "$with" "$bytes" "$1"
+    linked "$2 -DTIMERS_NO_SMOOTH"
+    at_most "$without" "$bytes" "$1 without the smooth wheel"
 }
-@test "no more code is linked than the page says" { no_more_code 1; }
-@test "and without the smooth wheel" {
-    small="$small -DTIMERS_NO_SMOOTH"
-    no_more_code 2
+@test "no more code is linked than the page says, by gcc" {
+    by_gcc
+    for flag in -Os -O2; do no_more_code "gcc 12.2 $flag" $flag; done
+}
+@test "and by clang" {
+    by_clang
+    no_more_code "clang 14 -Os" -Os
+}
+# What a function is for, and the page's words for it.
+@test "of the smallest build no part takes more than the page says, and the parts are nearly all" {
+    by_gcc
+    linked -Os -DTIMERS_NO_SMOOTH
+    nm --size-sort -t d "$work/bare" | awk '
+        $2 !~ /[tT]/ { next }
+        $3 ~ /^__/ { sum["division"] += $1; next }
+        $3 ~ /take|migrat|advance/ { sum["ticks"] += $1; next }
+        $3 ~ /start/ { sum["start"] += $1; next }
+        $3 ~ /stop/ { sum["stop"] += $1; next }
+        $3 ~ /timers_new|Buckets_new/ { sum["new"] += $1; next }
+        $3 ~ /reserve|make_r|grow|rattle_|give|alloc/ { sum["memory"] += $1; next }
+        { sum["rest"] += $1 }
+        END { for (part in sum) print part, sum[part] }' > "$work/parts"
+    sed -n '/^No option leaves/,/^$/p' "$page" | tr -d '\n,' | sed -nE 's/.* (14300) .*`timers_take` have ([0-9]+).*start has ([0-9]+).*`timers_reserve` ([0-9]+).*`timers_new` ([0-9]+).*stop ([0-9]+).*`__ctzdi2` ([0-9]+)\..*/all \1 ticks \2 start \3 memory \4 new \5 stop \6 division \7/p' |
+        xargs -n 2 > "$work/said"
+    [ "$(wc -l < "$work/said")" -eq 7 ]
+    at_most "$(sed -n 's/^all //p' "$work/said")" "$bytes" all
+    while read -r part size; do
+        [ "$part" != rest ] || at_most 500 "$size" rest
+        [ "$part" = rest ] || at_most "$(sed -n "s/^$part //p" "$work/said")" "$size" "$part"
+    done < "$work/parts"
 }
 
 @test "without the smooth wheel its table is none, and random calls on the others agree with a sorted list" {
@@ -166,10 +192,8 @@ int main(void)
     IS(NO_TABLE, timers_new(&timers, TIMERS_SMOOTH, TIMERS_NEVER));
     IS(OK, timers_new(&timers, TIMERS_WIDE, 0));
     IS(OPEN, timers_new(&timers, TIMERS_SMOOTH, 0));
-    if (timers_move_ahead(&timers, 9) != 0)
-        return __LINE__;
     IS(DESK_OUT_OF_RANGE, timers_desk_new(&desk, &line, 1, &config));
-    config.table = TIMERS_CLOCK;
+    config.table = TIMERS_SMALL;
     IS(DESK_OK, timers_desk_new(&desk, &line, 1, &config));
     IS(DESK_OPEN, timers_desk_new(&desk, &line, 1, &config));
     timers_free(&timers), timers_desk_free(&desk), timers_line_free(&line);
@@ -181,36 +205,67 @@ EOT
         cc $flags -c -o "$work/no_smooth.o" generated/timers.c
         cc $flags -o "$work/none" "$work/none.c" "$work/no_smooth.o"
         "$work/none"
-        cc $flags -o "$work/stress" tests/c/stress.c "$work/no_smooth.o"
-        "$work/stress" 200000 3
+        cc $flags -o "$work/driver" tests/driver/*.c "$work/no_smooth.o"
+        "$work/driver" timers 200000 3
     done
 }
 
-# instructions NAME COUNT: those of the program, each a line of qemu's log
+# instructions PROGRAM WORD..: those of a run, each a line of qemu's log
 instructions() {
-    qemu-arm-static -singlestep -d exec,nochain -D "$work/log" "$work/small" "$@"
+    counting="-singlestep -d exec,nochain -D $work/log" on_m4 "$@"
     grep -c '^Trace' "$work/log"
 }
 # takes NAME [HELD]: those of the operation, by the difference of 100 and 228 of them
 takes() {
     local few many
-    few=$(instructions "$1" 100 "${2:-10}")
-    many=$(instructions "$1" 228 "${2:-10}")
+    few=$(instructions "$work/small" "$1" 100 "${2:-10}")
+    many=$(instructions "$work/small" "$1" 228 "${2:-10}")
     echo $(((many - few) / 128 - none))
 }
 @test "no operation takes more instructions than the page says, however many timers are held" {
-    needs_arm
-    $arm -O2 $small -o "$work/small" tests/c/small.c generated/timers.c
+    needs_m4
+    $m4 -Os $small -o "$work/small" tests/c/small.c generated/timers.c
     none=0
     none=$(takes nothing)
     # A start comes last, since a move below is what comes on top of it.
     for name in tick wakeup stop restart take start; do
-        bound=$(rows Time | sed -nE "s/^timers_$name( .*)? ([0-9]+)$/\2/p")
+        bound=$(bound_of timers_$name 3)
         at_most "$bound" "$(takes $name 1000)" "$name, of 1,000"
         taken=$(takes $name)
         at_most "$bound" "$taken" $name
     done
-    at_most "$(rows Time | sed -n 's/^each timer that moves to a lower wheel //p')" "$(($(takes start+move) - taken))" "a move, which follows a start"
+    bound=$(sed -nE 's/.* each in ([0-9]+) instructions.*/\1/p' "$page")
+    at_most "$bound" "$(($(takes start+move) - taken))" "a move, which follows a start"
+}
+
+# The peers of the page's list, by their macros.
+peers='SET_AT timers.h
+LIST a sorted list
+HEAP_ORDERED a heap with four children in order
+WHEEL wheels in your structs'
+# pushes HELD: the instructions of a push back, by the difference of 64 and 576 of them
+pushes() {
+    local few many
+    few=$(instructions "$work/few" 64 "$1")
+    many=$(instructions "$work/few" 576 "$1")
+    echo $(((many - few) / 512))
+}
+@test "no push back takes more than the page says, of this library or of its peers, nor do these take more code and data" {
+    needs_m4
+    by_gcc
+    while read -r peer name; do
+        read -r -a said < <(rows "Or a sorted list" | sed -n "s/^$name //p")
+        $m4 -Os -std=c11 -Wall -Wextra -Werror -pedantic -Iinclude -D$peer -DTIMERS_NO_DESK -DTIMERS_NO_SMOOTH -o "$work/few" tests/c/few.c generated/timers.c
+        none=$(pushes 0)
+        for at in 0 1 2 3; do
+            held=$((at < 3 ? 8 * 4 ** at : 1000))
+            at_most "${said[at]}" "$(($(pushes $held) - none))" "$name, $held"
+        done
+        [ $peer != SET_AT ] || continue
+        linked -Os -DPEER -D$peer
+        at_most "${said[4]}" "$bytes" "$name, code"
+        at_most "$((said[5] + said[6] + 4))" "$ram" "$name, data, with the program's own count"
+    done <<< "$peers"
 }
 
 @test "a program that has another header with the guard TIMERS_H gets this one" {

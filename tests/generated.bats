@@ -124,6 +124,54 @@ link_time() {
 @test "gcc inlines the calls at link time" { link_time gcc; }
 @test "clang inlines the calls at link time" { link_time clang; }
 
+# Linkers differ in their flags. Each flag is tried, and what is refused is not passed.
+@test "LLVM's linker builds the shared object, also where each name of the map has to be there" {
+    needs clang ld.lld nm readelf
+    export CC="clang -Wl,--no-undefined-version" LDFLAGS=-fuse-ld=lld CFLAGS=-O0
+    tools/lib "$work/lld"
+    [ "$(nm -D "$work/lld/libtimers.so" | grep -c ' T timers_.*@@TIMERS_1$')" -eq "$(functions)" ]
+    is_hardened "$work/lld/libtimers.so"
+    CPPFLAGS=-DTIMERS_NO_DESK tools/lib "$work/lld"
+}
+@test "for macOS it builds libtimers.dylib, which exports the API, and a program links with that and the archive" {
+    local target path
+    needs clang
+    for name in ld64.lld llvm-nm llvm-ar; do
+        path=$(clang -print-prog-name=$name)
+        [ -x "$path" ] || skip "no $name"
+    done
+    mkdir -p "$work/apple"
+    echo 'void *malloc(__SIZE_TYPE__), *realloc(void *, __SIZE_TYPE__); void free(void *), abort(void);' > "$work/apple/stdlib.h"
+    echo 'void *memcpy(void *, const void *, __SIZE_TYPE__), *memset(void *, int, __SIZE_TYPE__);' > "$work/apple/string.h"
+    echo '#include <timers.h>
+int start(void) { return (int)timers_version(); }' > "$work/apple/start.c"
+    export CPPFLAGS="-ffreestanding -nostdlibinc -isystem $work/apple" CFLAGS=-O0 AR=$path
+    export LDFLAGS="-fuse-ld=lld -nostdlib -Wl,-undefined,dynamic_lookup"
+    for target in arm64-apple-macos11 x86_64-apple-macos11; do
+        CC="clang --target=$target" tools/lib "$work/apple/lib"
+        [ "$("$(clang -print-prog-name=llvm-nm)" -gU "$work/apple/lib/libtimers.dylib" | grep -c ' T _timers_')" -eq "$(functions)" ]
+        clang --target=$target $CPPFLAGS $LDFLAGS -Iinclude -shared -o "$work/apple/a" "$work/apple/start.c" "$work/apple/lib/libtimers.a"
+        clang --target=$target $CPPFLAGS $LDFLAGS -Iinclude -shared -o "$work/apple/b" "$work/apple/start.c" -L"$work/apple/lib" -ltimers
+    done
+}
+@test "an ar without D makes the archive, and a linker that takes no flag the program" {
+    printf '#!/bin/sh\ncase $1 in *D*) exit 1 ;; esac\nexec ar "$@"\n' > "$work/ar"
+    printf '#!/bin/sh\ncase "$*" in *-Wl,*) exit 1 ;; esac\nwhile [ "$1" != -o ]; do shift; done\necho > "$2"\n' > "$work/plain"
+    chmod 755 "$work/ar" "$work/plain"
+    CFLAGS=-O0 AR=$work/ar tools/lib "$work/plain_ar"
+    by_hand "cc -O1" examples/c/first.c "$work/plain_ar/libtimers.a"
+    CC=$work/plain tools/program "$work/made"
+    [ -e "$work/made" ]
+    # The archiver is the compiler's, and flags for the linker are at the end.
+    printf '#!/bin/sh\ncase "$1 $2" in *-print-prog-name=ar*) echo "%s"; exit ;; *-Wl,*) exit 1 ;; esac\nshift\necho "$@" >> "%s"\nwhile [ "$1" != -o ]; do shift; done\necho > "$2"\n' "$work/of_compiler" "$work/asked" > "$work/tells"
+    printf '#!/bin/sh\necho its archiver >> "%s"\nexec ar "$@"\n' "$work/asked" > "$work/of_compiler"
+    chmod 755 "$work/tells" "$work/of_compiler"
+    (unset AR && CC=$work/tells tools/lib "$work/tells_lib")
+    grep -x 'its archiver' "$work/asked"
+    CC=$work/tells LDFLAGS=-of_linker tools/program "$work/made"
+    grep -e "-o $work/made .* -of_linker\$" "$work/asked"
+}
+
 @test "the program and the shared object that make builds are hardened" {
     needs readelf objdump
     is_hardened "$program"
@@ -198,6 +246,18 @@ EOT
     [ ! -e "$work/cmake/prefix/lib" ]
     [ ! -e "$work/cmake/prefix/include" ]
 }
+@test "a subproject is installed where the project sets TIMERS_INSTALL, in the folders that it names" {
+    local name prefix=$work/installs/prefix
+    cmake_app installs "-DCMAKE_INSTALL_PREFIX=$prefix" -DCMAKE_INSTALL_LIBDIR=of/libs -DCMAKE_INSTALL_INCLUDEDIR=of/headers <<< "set(TIMERS_INSTALL ON)
+add_subdirectory($top timers)"
+    cmake --install "$work/installs/build"
+    diff <(ls include) <(ls "$prefix/of/headers")
+    cmake_app finds_folders "-Dtimers_DIR=$prefix/of/libs/cmake/timers" <<< "find_package(timers 1.0 CONFIG REQUIRED)"
+    needs pkg-config
+    for name in libdir:libs includedir:headers; do
+        [ "$(PKG_CONFIG_PATH=$prefix/of/libs/pkgconfig pkg-config --variable=${name%:*} timers)" = "$prefix/of/${name#*:}" ]
+    done
+}
 @test "as a shared object, too, which is linked as make does" {
     cmake_app cmake -DBUILD_SHARED_LIBS=ON <<< "add_subdirectory($top timers)"
     is_linked_alike "$work/cmake/build/timers/libtimers.so"
@@ -234,6 +294,12 @@ EOT
     is_linked_alike "$work/meson/build/subprojects/timers/libtimers.so"
 }
 
+@test "with Meson's both libraries the shared object is that, too, and the archive shows its names" {
+    needs nm
+    meson_app -Dtimers:default_library=both
+    is_linked_alike "$work/meson/build/subprojects/timers/libtimers.so"
+    [ "$(nm --defined-only --extern-only "$work/meson/build/subprojects/timers/libtimers.a" | grep -c ' T timers_')" -eq "$(functions)" ]
+}
 @test "pkg-config finds what Meson installs" {
     needs meson ninja pkg-config cc
     meson setup --prefix "$work/meson_prefix" --libdir lib "$work/meson_build" .
@@ -243,6 +309,16 @@ EOT
     prints_first "$work/first"
     diff <(ls include) <(ls "$work/meson_prefix/include")
     has_licences "$work/meson_prefix/share/doc/timers"
+}
+
+@test "the program is compiled in pieces, which is said, and one that can't be compiled fails" {
+    # shellcheck disable=SC2016
+    printf '#!/bin/sh\ncase "$*" in *PIECE=7*) exit 1 ;; esac\nwhile [ "$1" != -o ]; do shift; done\necho > "$2"\n' > "$work/fails"
+    chmod 755 "$work/fails"
+    run env CC="$work/fails" tools/program "$work/failed"
+    [ "$status" -ne 0 ]
+    [[ $output == "compiling the program in 16 pieces, "*" at a time: $work/fails "* ]]
+    [ ! -e "$work/failed" ]
 }
 
 sources="generated/timers.c include/timers.h"
@@ -302,7 +378,7 @@ is_made_anew() {
 }
 @test "CMake builds anew if its code or a header has changed" {
     needs cmake
-    by_cmake() { cmake -S . -B build/cmake && cmake --build build/cmake; }
+    by_cmake() { { [ -e build/cmake ] || cmake -S . -B build/cmake; } && cmake --build build/cmake; }
     builds_anew build/cmake/libtimers.a "$sources" by_cmake
 }
 @test "so does Meson" {
@@ -311,8 +387,7 @@ is_made_anew() {
     builds_anew build/meson/libtimers.a "$sources" by_meson
 }
 @test "so does cargo" {
-    needs cargo
-    cargo --version || skip "no cargo"
+    needs_cargo
     builds_anew "build/cargo/debug/build/timers-*/out/libtimers.a" "$sources" \
         cargo build --offline --manifest-path bindings/rust/Cargo.toml --target-dir build/cargo
 }
@@ -320,8 +395,9 @@ is_made_anew() {
     for folder in one another/one; do
         copy_tree "$work/twice/$folder"
         (cd "$work/twice/$folder" && CFLAGS=-O0 tools/lib "$work/twice/$folder/out")
-        ! python3 -c 'import tomllib' || (cd "$work/twice/$folder/bindings/python" &&
-            CFLAGS=-O0 python3 -B -c 'import backend; backend.build_wheel("../../out"); backend.build_sdist("../../out")')
+        ! /usr/bin/python3 -c 'import setuptools, wheel' || (cd "$work/twice/$folder/bindings/python" && export SOURCE_DATE_EPOCH=1700000000 &&
+            CFLAGS="-O0 -g0" /usr/bin/python3 -c 'from setuptools.build_meta import *; build_wheel("../../out"); build_sdist(".")' &&
+            tar -xf timers-*.tar.gz -C ../../out) # the archive itself has the time of its making
     done
     diff -r "$work/twice/one/out" "$work/twice/another/one/out"
 }

@@ -100,7 +100,7 @@ int main(void)
     struct timers t = TIMERS_INIT;
     struct timers_desk desk = TIMERS_DESK_INIT;
     struct timers_line line = TIMERS_LINE_INIT;
-    enum timers_status status = timers_new(&t, TIMERS_CLOCK, TIMERS_CLOCK_LAST);
+    enum timers_status status = timers_new(&t, TIMERS_SMALL, TIMERS_SMALL_LAST);
     int ended = timers_line_ended(&line);
     timers_free(&t);
     timers_desk_free(&desk);
@@ -109,7 +109,7 @@ int main(void)
 }
 EOT
 )
-# Those of the loop, of bells and of a record, which need C of 1999.
+# Those of the loop and of bells, which need C of 1999.
 used_in_loop=$(cat << 'EOT'
 #ifndef TIMERS_LOOP_OWN_CLOCK
 #include <timers_desk_bell.h>
@@ -123,8 +123,6 @@ static bool rings(struct timers_desk *desk, uint64_t now)
     return true;
 }
 #endif
-#include <timers_record.h>
-struct timers_record timers_record;
 #include <timers_loop.h>
 struct connection {
     int socket;
@@ -142,10 +140,8 @@ int main(void)
     c.idle.run = hang_up;
     if (timers_loop_new(&loop, nanoseconds, NULL, 1000) != TIMERS_OK || timers_event_after(&loop, &c.idle, 9) != TIMERS_OK)
         return 1;
-    timers_record_begin(&loop.timers, stdout);
     timers_loop_polled(&loop, timers_loop_timeout(&loop), 8);
     timers_loop_dispatch(&loop, 9);
-    timers_record_end();
     timers_event_pause(&loop, &c.idle);
     timers_event_cancel(&loop, &c.idle);
     timers_loop_free(&loop);
@@ -241,11 +237,33 @@ EOT
     done
 }
 
+# Those over FreeRTOS, io_uring and kqueue need headers that a machine may lack: tests/platforms and library.bats compile them.
+@test "the examples compile without a warning, in C and in C++, by gcc and by clang" {
+    local checked=0
+    for file in examples/c/*.c*; do
+        [[ $file =~ (freertos|uring|kqueue)\.c$ ]] && continue
+        for compiler in gcc clang; do
+            [[ $file == *.c ]] && command="$compiler -std=c11" || command="${compiler/gcc/g}++ -std=c++17"
+            command -v "${command%% *}" || continue
+            $command -O2 -Wall -Wextra -Werror -pedantic -Iinclude -c -o "$work/example.o" "$file"
+            checked=$((checked + 1))
+        done
+    done
+    [ "$checked" -ge 14 ] || skip "neither gcc nor clang"
+}
+@test "the first lines of docs/embedding.md compile without a warning" {
+    { printf '#include <stdlib.h>\n#include <unistd.h>\n' && sed -n '/^## The whole loop/,/^    \.\./s/^    //p' docs/embedding.md | sed '$d'; } > "$work/page.c"
+    grep -q '^void hang_up' "$work/page.c"
+    for compiler in gcc clang; do
+        ! command -v $compiler || $compiler -std=gnu11 -Wall -Wextra -Werror -pedantic -Iinclude -c -o "$work/page.o" "$work/page.c"
+    done
+}
+
 # The comment beside each misuse is part of what the compiler says. It reads what all have, the headers, once.
 @test "misuses in C++ don't compile" {
     needs "$CXX"
     sed -n 's/^#.*if MISUSE == [0-9]* *\/\* \(.*\) \*\/$/\1/p' bindings/cpp/misuse.cpp > "$work/misuses"
-    [ "$(wc -l < "$work/misuses")" -eq 16 ]
+    [ "$(wc -l < "$work/misuses")" -eq 18 ]
     for compiler in g++ clang++; do
         command -v "$compiler" || continue
         mkdir "$work/$compiler"
@@ -260,14 +278,14 @@ EOT
 }
 @test "misuses in Rust don't compile" {
     needs_cargo
-    CFLAGS=-O0 cargo build --quiet --offline --manifest-path bindings/rust/Cargo.toml --target-dir "$work/cargo"
+    CFLAGS=-O0 cargo build --quiet --offline --manifest-path "$rust" --target-dir "$work/cargo"
     misuse() {
         rustc --edition 2021 -A unexpected_cfgs --emit=metadata --extern "timers=$work/cargo/debug/libtimers.rlib" -o "$work/misuse" \
             bindings/rust/tests/misuse/misuse.rs "$@"
     }
     misuse
     sed -n 's/^ *#\[cfg(\([a-z_]*\))\] \/\/ \(.*\)$/\1 \2/p' bindings/rust/tests/misuse/misuse.rs > "$work/misuses"
-    [ "$(wc -l < "$work/misuses")" -eq 13 ]
+    [ "$(wc -l < "$work/misuses")" -eq 17 ]
     while read -r name text; do says "$text" misuse --cfg "$name"; done < "$work/misuses"
 }
 

@@ -9,11 +9,20 @@ needs() {
     done
 }
 
-# needs_cargo: skips the test without a Rust that is as new as the crate needs it
+# needs_cargo: the crate for Rust, by its manifest $rust, without a network; skips the test without a Rust that is as new as the
+# crate needs it, or without the crate cc
 needs_cargo() {
     { command -v rustc && cargo --version; } > /dev/null 2>&1 || skip "no cargo"
     oldest=$(sed -n 's/^rust-version = "\(.*\)"$/\1/p' bindings/rust/Cargo.toml)
     printf '%s\n' "$oldest" "$(rustc --version | cut -d ' ' -f 2)" | sort -CV || skip "rustc is older than $oldest"
+    rust=$work/rust/Cargo.toml
+    if [ -e /usr/share/cargo/registry ]; then # Debian's crates
+        export CARGO_HOME=$work/cargo_home
+        mkdir -p "$CARGO_HOME"
+        printf '[source.crates-io]\nreplace-with = "debian"\n[source.debian]\ndirectory = "/usr/share/cargo/registry"\n' > "$CARGO_HOME/config.toml"
+    fi
+    [ -e "$rust" ] || tools/crate "$work/rust"
+    cargo fetch --quiet --offline --manifest-path "$rust" 2> /dev/null || skip "no crate cc: librust-cc-dev"
 }
 
 # From here on no command sees the toolchain.
@@ -30,14 +39,25 @@ copy_tree() {
     git ls-files -z --cached --others --exclude-standard | xargs -0 cp -pP --parents -t "$1"
 }
 
-# needs_python_package: the package for Python, as it is installed, in $work/python; skips the test if it can't be compiled here
+# python_headers: where Python.h of $python is
+python_headers() { "${python:-python3}" -c 'import sysconfig; print(sysconfig.get_paths()["include"])'; }
+# python_package FOLDER FLAGS..: the package for Python, in this folder
+python_package() {
+    local shared=-shared
+    [ "$(uname)" != Darwin ] || shared="-bundle -undefined dynamic_lookup"
+    mkdir -p "$1/timers"
+    cp bindings/python/src/timers/{*.py,*.pyi,py.typed} "$1/timers"
+    # shellcheck disable=SC2086
+    cc $shared -std=c11 -fPIC -fvisibility=hidden -O2 $CFLAGS "${@:2}" -Igenerated -Iinclude -I"$(python_headers)" \
+        -o "$1/timers/_timers.abi3.so" bindings/python/extension/_timers.c
+}
+# needs_python_package: the package in $work/python; skips the test if it can't be compiled here
 needs_python_package() {
-    local python=${python:-python3} folder
+    local python=${python:-python3}
     needs "$python" cc
-    folder=$("$python" -c 'import sysconfig; print(sysconfig.get_paths()["include"])')
-    [ -e "$folder/Python.h" ] || skip "no Python.h for $python: python3-dev"
+    [ -e "$(python_headers)/Python.h" ] || skip "no Python.h for $python: python3-dev"
     "$python" -c 'import sys; sys.exit(sys.version_info < (3, 11))' || skip "$python is older than 3.11"
-    [ -e "$work/python" ] || "$python" -B bindings/python/backend.py "$work/python"
+    [ -e "$work/python" ] || python_package "$work/python"
 }
 
 # What follows builds with $CC or $CXX over $library, files or an archive, into the folder $work.
@@ -56,6 +76,32 @@ build() {
     $compiler -o "$work/program" "$source" -pthread "${@:2}" $library
 }
 
+# build_driver FILE FLAGS..: the random driver of tests/driver, in which a model is
+build_driver() {
+    needs "${CC:-cc}"
+    # shellcheck disable=SC2086
+    ${CC:-cc} $of_c -o "$1" tests/driver/*.c "${@:2}" -pthread
+}
+
+# needs_traces [LIBRARY]: the driver as $made/driver, and what wrappers replay, its calls over each table and their answers:
+# $made/timers.N and desk.N. They are made once, in the folder MADE, if files of tests share one.
+needs_traces() {
+    local tables table
+    made=${MADE:-$work}
+    [ ! -e "$made/driver" ] || return 0
+    build_driver "$made/driver" "${1:-generated/timers.c}"
+    tables=$(sed -nE 's/^#define TIMERS_TABLES +([0-9]+).*/\1/p' include/timers.h)
+    for ((table = 0; table < tables; table++)); do
+        "$made/driver" --replay $table timers 20000 > "$made/timers.$table"
+        "$made/driver" --replay $table desk 12000 > "$made/desk.$table"
+    done
+}
+# replays FILE..: the program that was built last agrees with each trace
+replays() {
+    local trace
+    for trace; do runs < "$trace"; done
+}
+
 # runs ARGUMENTS..: the program that was built last, on another processor by $emulator
 runs() {
     # shellcheck disable=SC2086
@@ -72,7 +118,7 @@ notices() {
 }
 
 # Programs of examples/c that print what stands in their files.
-printing="first messages expired counts porting desk_server desk_sockets"
+printing="first messages expired counts porting record desk_server desk_sockets"
 
 # The most clients of a desk.
 most_clients() { sed -nE 's/^#define TIMERS_DESK_CLIENTS ([0-9]+).*/\1/p' include/timers_desk.h; }

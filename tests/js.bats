@@ -44,9 +44,11 @@ needs_package() {
     for number in 1 2; do node "$app/readme$number.mjs" | diff "$app/readme$number.txt" -; done
     [ ! -e "$app/readme3.mjs" ]
 }
-@test "random calls agree with a sorted list" {
+@test "random calls have the answers of C" {
     needs_package
-    node "$app/random.mjs"
+    needs_traces
+    cp "$made/timers.0" "$app/timers.trace"
+    node "$app/replay.mjs"
 }
 @test "both ends of each range: what is refused changes nothing, and what is gone is not referred to" {
     needs_package
@@ -63,8 +65,10 @@ needs_package() {
     needs_package
     needs chromedriver
     /usr/bin/python3 -c 'import selenium' 2> /dev/null || skip "no python3-selenium"
-    bindings/js/tests/in_browser.py "$app" readme1.mjs random.mjs > "$work/out"
-    { cat "$app/readme1.txt" && echo "100000 random calls agree"; } | diff - "$work/out"
+    needs_traces
+    cp "$made/timers.0" "$app/timers.trace"
+    bindings/js/tests/in_browser.py "$app" readme1.mjs replay.mjs timers.trace > "$work/out"
+    { cat "$app/readme1.txt" && echo "the calls of the trace have their answers"; } | diff - "$work/out"
 }
 
 @test "tsc takes the README's program, and refuses values of another type" {

@@ -1,6 +1,7 @@
 #!/usr/bin/env bats
-# The programs of examples/c and tests/c, and the wrappers, over the libraries in LIB, by default build/lib. CALLS is how
-# many random calls a run makes. tests/headers.bats has what needs no run, tests/platforms other processors and systems.
+# The programs of examples/c, tests/c and tests/driver, and the wrappers, over the libraries in LIB, by default build/lib. CALLS
+# is how many random calls a run makes; the driver makes twice as many over each table. tests/headers.bats has what needs no run,
+# tests/platforms other processors and systems.
 # shellcheck disable=SC2030,SC2031,SC2034,SC2086,SC2154
 load helpers
 
@@ -36,10 +37,38 @@ setup() {
 @test "connections in C++ time out over a real clock, in order" { build connections.cpp && prints examples/c/connections.stdout; }
 @test "a program may give NULL for what it does not want" { build unwanted.c && runs; }
 
-@test "random calls agree with a sorted list" { build stress.c && runs $calls 1; }
-@test "they agree when allocations are refused, and no other calls allocate" { build stress.c -DREFUSE $wraps && runs $calls 2; }
-@test "no call of smooth wheels moves more timers than the header says" { build smooth.c && runs; }
-@test "random calls in C++ agree with a sorted map" { build agree.cpp $wrap && runs; }
+@test "random calls are recorded, for wrappers to replay" { needs_traces "$library"; }
+# agrees KIND: over each table each status and each step comes with 200,000 calls
+agrees() {
+    needs_traces "$library"
+    "$made/driver" "$1" $((2 * calls)) 1
+    "$made/driver" --copies "$1" 200000 2
+}
+@test "random calls agree with a sorted list over each table, refused allocations among them, and no other calls allocate" { agrees timers; }
+@test "no call of smooth wheels moves more timers than the header says, which a tick of the others does" {
+    build ../costs/calls.c
+    for shape in spread bucket tick order expired again wave; do runs 1 $shape 10000; done
+    runs 0 wave 10000
+}
+@test "that one table alone lacks a case is noticed" {
+    printf '#include "trace.h"\nbool __real_has_all(const struct wanted *, size_t), __wrap_has_all(const struct wanted *, size_t);\n%s\n' \
+        'bool __wrap_has_all(const struct wanted *w, size_t n) { static bool later; bool all = __real_has_all(w, n) && later; later = true; return all; }' > "$work/lacks.c"
+    build_driver "$work/program" -Itests/driver "$work/lacks.c" $library -Wl,--wrap=has_all
+    run runs timers 200000 1
+    [ "$status" -eq 1 ]
+    [ -z "$output" ]
+}
+@test "fields of the crates' types lie where names in timers.c say" {
+    needs python3
+    (cd tools && python3 -B -m translator.fields) > "$work/layout.h" || skip "no python3 from 3.11 on"
+    build layout.c -I"$work" && runs
+}
+@test "random calls in C++ have the answers of C" {
+    needs_traces "$library"
+    build replay.cpp
+    replays "$made"/timers.? "$made"/desk.?
+}
+@test "the edges of C++ are as the header says" { build agree.cpp $wrap && runs; }
 @test "so they do in C++20, by g++ and by clang++" {
     needs g++ clang++
     for compiler in g++ clang++; do
@@ -52,22 +81,7 @@ setup() {
 @test "so they do in C++" { build loop_model.cpp && runs $calls 2; }
 @test "a server that stalls anywhere hangs up on no client that talks, and on each that is silent" {
     build loop_stalls.c
-    for seed in 0 1 2 3 4 5; do runs $calls $seed; done
-}
-
-@test "a recorded script expires the timers that the program saw, at the same ticks in the same order" {
-    build record.c
-    for seed in 1 2 3; do
-        "$work/program" "$work/script" $((calls / 5)) "$seed" > "$work/saw"
-        [ "$(cut -d ' ' -f 1 "$work/script" | sort | uniq -c | awk '$1 > 100' | wc -l)" -eq 4 ]
-        "${TIMERS:-./timers}" serve --capacity 1000000 < "$work/script" > "$work/played"
-        run grep -c refused "$work/played"
-        [ "$output" = 0 ]
-        sed -n -e '/^expired/p' -e 's/^\(end [0-9]*\) .*/\1/p' "$work/played" | diff "$work/saw" -
-    done
-    "$work/program" "$work/script" loop > "$work/saw"
-    "${TIMERS:-./timers}" serve < "$work/script" | sed -n 's/^\(expired [0-9]*\) .*/\1/p' | diff "$work/saw" -
-    [ "$(wc -l < "$work/saw")" -gt 200 ]
+    for seed in 0 1 2 3 4 5; do runs $((calls / 4)) $seed; done
 }
 
 # serves CLIENTS FILE FLAGS..: stopped for longer than its time-out, the server hangs up on each silent client and on no
@@ -96,6 +110,8 @@ serves() {
 # A test and, built with a mistake, that it notices it.
 @test "starts allocate nothing if room was made" { build reserve.c $wraps && runs; }
 @test "that no room was made is noticed" { build reserve.c -DFORGETS $wraps && notices; }
+@test "each allocation of timers and of a desk is refused in turn, and the call that is made again goes on" { build refused.c && runs; }
+@test "that nothing was refused is noticed" { build refused.c -DFORGETS && notices; }
 @test "there is room for as many timers as links can name, and for no more" {
     build most.c
     run runs
@@ -116,11 +132,8 @@ serves() {
 
 @test "the desk's edges are as the header says" { build desk_edges.c && runs; }
 @test "a desk whose allocations are refused in turn loses nothing" { build desk_edges.c -DREFUSE $wrap && runs; }
-@test "random calls to a desk, its lines freed and opened again, agree with a model" {
-    build desk_model.cpp
-    runs 300 $((calls / 30))
-}
-@test "a desk in C++ agrees with a sorted map, and threads get all their words" { build desk_agree.cpp && runs; }
+@test "random calls to a desk, its lines freed and opened again, agree with a model over each table" { agrees desk; }
+@test "clients of a desk in C++ come and go" { build desk_agree.cpp && runs; }
 @test "threads beside a desk get all their words, and the end of them" {
     build desk_threads.c
     for clients in 1 8 $(most_clients); do runs $clients 10000 mixed; done
@@ -129,7 +142,7 @@ serves() {
     build desk_threads.c -DREFUSE $wraps
     runs 8 10000 mixed
 }
-@test "an end is gone once it is freed, and after its last item, over lines of 1 to 60,000" { build desk_gone.c && runs; }
+@test "an end is gone once it is freed, and after its last item, over lines of 1 to 65,536" { build desk_gone.c && runs; }
 @test "desks and lines may be freed while the other side calls" { build desk_frees.c && runs 200 8; }
 @test "clients come and go in threads, and lines are opened again" {
     build desk_lives.c
@@ -141,8 +154,9 @@ serves() {
 @test "valgrind finds no error and no leak where allocations are refused, in a loop, and where both sides free" {
     needs valgrind
     emulator="valgrind -q --leak-check=full --show-leak-kinds=all --error-exitcode=9"
-    build stress.c -DREFUSE $wraps
-    runs $((calls / 10)) 5
+    build_driver "$work/program" -DMALLOC_BLOCKS "$library"
+    runs timers $((calls / 40)) 5
+    runs desk $((calls / 40)) 5
     build loop_model.c
     runs $((calls / 10)) 5
     build desk_frees.c
@@ -161,10 +175,14 @@ serves() {
 over_lib() {
     needs_cargo
     target=target.$(rustc -vV | sed -n 's/^host: //p').timers
-    cargo "$1" --quiet --offline --manifest-path bindings/rust/Cargo.toml --target-dir "$work/cargo" \
+    cargo "$1" --quiet --offline --manifest-path "$rust" --target-dir "$work/cargo" \
         --config "$target.rustc-link-search=['$lib']" --config "$target.rustc-link-lib=['static=timers']" "${@:2}"
 }
-@test "random calls in Rust agree with a sorted map, and values come back" { over_lib test --tests; }
+@test "random calls in Rust have the answers of C, and values come back" {
+    needs_cargo
+    needs_traces "$library"
+    TIMERS_TRACES=$made over_lib test --tests -- --include-ignored
+}
 
 # Room for a word to each timer and to each request, and one more. Python refuses what is above the last number.
 @test "the room that a desk needs is one sum in C++, Python and Rust, and does not wrap around" {

@@ -66,7 +66,7 @@ lines_of() { tools/origins "$1" | awk '{ all += $3 } $1 ~ /^(core|std.*)$/ { the
     [ "$theirs" -gt 0 ]
     wheels=$((theirs * 100 / all + 1))
     read -r theirs all <<< "$(lines_of generated/timers.c)"
-    grep -qF "In C they make up under $wheels %, and under $((theirs * 100 / all + 1)) % with the desk" README.md
+    grep -qF "In C these parts make up under $wheels %, and under $((theirs * 100 / all + 1)) % with the desk" generated/README.md
 }
 
 @test "tools/origins counts functions of ours, of a library, and of a module" {

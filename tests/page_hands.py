@@ -11,11 +11,12 @@ from selenium.webdriver.common.by import By
 from selenium.webdriver.common.keys import Keys
 
 WIDTHS = ((390, 844), (900, 700), (1280, 800))
+SIZES = ((390, 844), (1366, 650), (1280, 800))
 MOST_STOPS = 70  # of the Tab key, on the page of docs/
 SPOKEN = ["trouble alert", "news polite"]
 CALM = "document.querySelector('#news').getAttribute('aria-live')"
 FIRST = ["#play", "#lesson=shown_migration", "#lesson=shown_carry", "#lesson=shown_rounds", "#lesson=shown_clock", "theme",
-         "explained", "paper", "deadline", "interval"]
+         "explained", "paper", "deadline", "start"]
 LIGHTHOUSE = ("identical-links-same-purpose", "label-content-name-mismatch", "table-fake-caption", "target-size", "td-has-header")
 FINDINGS = "({violations}) => violations.map(({id, nodes}) => `${id}: ${nodes.map(({target}) => target.join(' ')).join(', ')}`)"
 MIXED = "#scheme=7&script=start+0+1+4161+1;start+0+2+5+1;stop+0+9+1;tick+4161;bad"
@@ -83,10 +84,10 @@ def acts(reader):
         reader.expect("where it would go", reader.find("#preview").text, f"goes to {place}")
         reader.type("#deadline", deadline)
         reader.as_shown(f"a start for {deadline}", lines)
-    reader.click("#tickNext")
+    reader.click("#next")
     reader.as_shown("the next event", [*lines, "tick 5"])
     reader.click("#tick1")
-    reader.click("#tick64")
+    reader.tab.run("advance(64n)")
     lines += ["tick 5", "tick 1", "tick 64"]
     reader.as_shown("ticks", lines)
     reader.type("#serial", "1")
@@ -102,14 +103,21 @@ def acts(reader):
     reader.click("#tick1")
     reader.as_shown("an act within a line of ticks", [*lines[:5], "tick 58", "tick 1"])
     reader.tab.run("slide(4)")
-    reader.click("#tick64")
+    reader.tab.run("advance(64n)")
     reader.as_shown("an act at an earlier step", [*lines[:3], "tick 5", "tick 64"])
+    reader.open(link="#scheme=7&script=start+0+1+70+1&step=1")
+    for wanted in (["tick 64"], ["tick 64", "tick 6"], ["tick 64", "tick 6"]):
+        reader.click("#next")
+        reader.as_shown("a step on after the last", ["start 0 1 70 1", *wanted])
+    reader.expect("nothing is pending", reader.find("#next").get_attribute("aria-disabled"), "true")
+    reader.expect("one player", reader.tab.value("[...document.querySelectorAll('button')].filter((node) => node.checkVisibility() &&"
+                  " /tick|event|step|play/i.test(nameOf(node)) && !node.closest('.controls, #lines, .history')).map(nameOf)"), [])
 
 
 def in_place(reader):
     """The buttons stay where they are on the screen after each act, at three widths. There is a way back to the lesson."""
     for width, height in ((1280, 900), (900, 900), (900, 700), (390, 844)):
-        for name in ("#starter button", "#tickNext", "#tick64", "#undo", "#undo", "#clear"):
+        for name in ("#starter button", "#restart", "#stop", "#undo", "#undo", "#clear"):
             if name == "#starter button":
                 reader.open(width, height)
                 reader.expect("no way back is needed", reader.find("#changed").is_displayed(), False)
@@ -131,6 +139,46 @@ def in_place(reader):
     reader.expect("the lesson is back", reader.find("#changed").is_displayed(), False)
 
 
+def rings_stay(reader):
+    """What a reader does first, in each lesson, moves no ring and makes none smaller, at three sizes."""
+    acts = ["$('tick1').click()", "$('starter').requestSubmit()", "setDeadline(play.now(shown.step) + 300000n); $('starter').requestSubmit()",
+            "$('stop').click()", "setDeadline(play.now(shown.step) + 5000n); $('restart').click()", "cards.get(0).acts.turn(0, 5)",
+            "go(play.last); $('next').click()", "$('clear').click()"]
+    for width, height in SIZES:
+        reader.open(width, height)
+        for lesson in ("migration", "carry", "rounds", "clock"):
+            for act in acts:
+                reader.tab.run(f"history.replaceState(null, '', '#lesson=shown_{lesson}&step=2'); loadLink()")
+                before = reader.tab.value("places()")
+                reader.tab.run(act)
+                after = reader.tab.value("places()")
+                moved = {name: (place, after.get(name)) for name, place in before.items() if after.get(name) != place}
+                reader.expect(f"{lesson} at {width}, {act}", moved, {})
+
+
+def many_wheels(reader):
+    """Four wheels and ten: the lowest and what is said are on the screen at each step, at two sizes."""
+    four = [3, 70, 5000, 300000]
+    for width, height in ((1280, 800), (390, 844)):
+        for intervals in (four, [64**k + 1 for k in range(10)]):
+            script = ";".join(f"start+0+{at}+{interval}+1" for at, interval in enumerate(intervals, 1))
+            reader.open(width, height, f"#scheme=7&script={script}&step=1")
+            for step in range(1, len(intervals) + 9):
+                reader.expect(f"{len(intervals)} wheels at {width}, step {step}", reader.tab.value("unseen()"), [])
+                reader.click("#next")
+
+
+def refused(reader):
+    """A deadline that has passed, or is after the last tick, is said to be so, and starts nothing."""
+    reader.open()
+    before = reader.script()
+    for typed, said in (("0", "has passed"), ("9" * 19, "after the last tick"), ("9" * 30, "after the last tick"), ("x", "a number, please")):
+        reader.type("#deadline", typed)
+        reader.click("#starter button")
+        reader.expect(f"what is said of {typed}", reader.find("#preview").text, said)
+        reader.expect(f"the script after {typed}", reader.script(), before)
+
+
 def carries(reader):
     """Where the next tick carries up to the digit for which a timer waits, the page says so, with powers of 64."""
     nine = "The next tick is a carry: nine digits go from 63 to 0, and digit 9 becomes 1. The deadline lies behind it. "
@@ -149,8 +197,7 @@ def carries(reader):
         reader.expect(f"{link} says", [words for words in wanted if words not in said], [])
         reader.expect(f"{link} also says", [words for words in unwanted if words in said], [])
     reader.open(link="#lesson=shown_carry")
-    foot = "[...document.querySelectorAll('.between')].map((node) => node.textContent)"
-    reader.expect("what isn't drawn", reader.tab.value(foot), ["Wheels 1 to 8: empty, not drawn"])
+    reader.expect("what isn't drawn", "not drawn: wheels that stay empty" in reader.find("#legend").text, True)
 
 
 def hands(reader):
@@ -239,12 +286,10 @@ def compared(reader):
     numbers = "[...document.querySelectorAll('.column strong')].map((node) => parseInt(node.textContent, 10))"
     wanted = looked(reader, reader.script()[0], 8)
     reader.expect("timers looked at", reader.tab.value(numbers), wanted)
-    alone = reader.find("#looks").get_attribute("textContent")
-    reader.expect("of the scheme alone", alone, f"work so far: {wanted[2]} timers looked at")
     reader.tab.run("go(play.steps.findIndex(({line}) => line === 6) + 1)")
-    read = ("[...document.querySelectorAll('.column')].map((node) => [...node.querySelectorAll('.bucket')].map((row) =>"
-            " [row.closest('article').querySelector('h3').textContent, row.querySelector('.name').textContent,"
-            " [...row.querySelectorAll('.chip')].map((chip) => chip.textContent)]))")
+    read = "[...document.querySelectorAll('.column')].map((node) => [...node.querySelectorAll('.bucket')].map(bucket))"
+    chips = reader.tab.value("[...document.querySelectorAll('.column .chip')].map((chip) => chip.textContent)")
+    reader.expect("chips that are no serial", [chip for chip in chips if not chip.isdecimal()], [])
     first = b"".join(line + b"\n" for line in reader.script()[0].split(b"\n")[:7])
     for buckets, options in zip(reader.tab.value(read), (["--scheme", "plain"], ["--scheme", "hashed", "--slots", "8"], [])):
         if not reader.same({"buckets": buckets}, reader.shown(first, options)[-1]):
@@ -308,10 +353,9 @@ def by_keyboard(reader):
         reader.keys(Keys.ENTER)
         reader.expect(f"the focus after Enter at {selector}", reader.tab.value("focused()"), had)
     reader.open(900, 700, "#lesson=shown_clock")
-    for selector, name in (("#news", "news"), (".scroll", "digits")):
-        reader.tab.run(f"go(2); document.querySelector('{selector}').focus()")
-        reader.keys(Keys.ARROW_RIGHT)
-        reader.expect(f"the focus after a step from {selector}", reader.tab.value("[focused(), shown.step]"), [name, 3])
+    reader.tab.run("go(2); document.querySelector('.scroll').focus()")
+    reader.keys(Keys.ARROW_RIGHT)
+    reader.expect("the focus after a step from the digits", reader.tab.value("[focused(), shown.step]"), ["digits", 3])
     reader.open(link="#lesson=shown_rounds&step=3", keep=True)
     reader.tab.run("go(play.last - 1); document.querySelector('#next').focus()")
     reader.keys(Keys.ENTER, Keys.ENTER)
@@ -367,8 +411,9 @@ def by_axe(reader, source):
 def arrows(reader):
     """No arrow runs through a text or a ring, at three widths."""
     own = "#scheme=7&script=start+0+1+4161+1;start+0+2+4097+1;start+0+3+130+1;start+0+4+63+1;tick+4161&step=1"
+    four = "#scheme=7&script=start+0+1+266305+1;start+0+2+262207+1;start+0+3+262300+1;tick+262144;tick+4160&step=1"
     for width, height in WIDTHS:
-        for link in ("#lesson=shown_migration", "#lesson=shown_carry", "#lesson=shown_clock", own):
+        for link in ("#lesson=shown_migration", "#lesson=shown_carry", "#lesson=shown_clock", own, four):
             reader.open(width, height, link)
             for step in range(1, reader.tab.value("play.last") + 1):
                 reader.tab.run(f"slide({step})")

@@ -28,9 +28,9 @@ other_option() {
 
 # tools/facts writes ranges and defaults into the program's options and its help.
 @test "each option takes both ends of its range and the default, and refuses the numbers beside them" {
-    for command in play serve show threads check; do
+    for command in play serve show threads; do
         section=play tried=0
-        case $command in threads | check) section=$command ;; esac
+        [ $command != threads ] || section=threads
         while read -r option least most default; do
             [ -n "$default" ] || continue
             other=$(other_option $command "$option")
@@ -212,4 +212,10 @@ offered() {
     [[ $output == *"--help[Print help"* ]]
     run -0 zsh -f -c "$given" zsh argument show
     [[ $output == *"]:SCHEME:($(tools/facts SCHEMES))"* ]]
+}
+
+@test "each file belongs to one capability, whose lines are counted" {
+    needs git
+    lines=$(git ls-files | grep -v '^generated/' | xargs cat | wc -l)
+    [ "$(tools/capabilities | tail -n 1 | tr -cd 0-9)" -eq "$lines" ]
 }

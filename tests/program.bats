@@ -93,6 +93,25 @@ clock_row() {
         'refused 1 1 {NoSuch}\nexpired 2 0 2 9\nend 2 0\n'
 }
 
+# NAME.args has the arguments of a script, one a line. No file: it has none.
+@test "each script of examples/ gives its output, and no error" {
+    local wanted name arguments
+    for wanted in "$EXAMPLES"/*.stdout; do
+        name=${wanted%.stdout} arguments=()
+        echo "$name"
+        [ ! -e "$name.args" ] || mapfile -t arguments < "$name.args"
+        "$TIMERS" "${arguments[@]}" < "$name" > output 2> errors
+        cmp output "$wanted"
+        [ ! -s errors ]
+    done
+}
+@test "an event loop with a tick of a millisecond gets what it should from serve" {
+    command -v python3 || skip "no python3"
+    "$EXAMPLES/serve.py" "$TIMERS" 0.001 > output 2> errors
+    cmp output "$EXAMPLES/serve.output"
+    [ ! -s errors ]
+}
+
 @test "worked examples of the clock of days" {
     clock_row clock_too_late '--first-tick 8639990' 'start 0 1 10 1\nstart 0 2 9 2\ntick 20\n' \
         'refused 0 1 {TooLate}\nstarted 0 2 1 {LAST_OF_CLOCK}\nexpired {LAST_OF_CLOCK} 0 1 2\ntick refused {ClockEnd}\n' \
@@ -212,12 +231,8 @@ clock_row() {
     refused threads --timers 0
     refused threads --slots 8
     refused check --slots=8
-    refused check --why --scheme plain
-    refused check --why=1
-    refused check --why --clients 0
-    refused check --first-tick -1
-    refused play --why
-    refused serve --why
+    refused check --first-tick 0
+    refused check --why
     refused check x
     refused pause
     refused --scheme plain
@@ -238,8 +253,6 @@ clock_row() {
         'start {MAX_CLIENTS-1} 1 1 0\n' 'refused {MAX_CLIENTS-1} 1 {TooLate}\nend {LAST} 0\n'
     gives 0 "serve --wakeups" 'start 0 1 11 7\ntick 11\n' \
         'started 0 1 1 11\nwakeup 11\nexpired 11 0 1 7\nwakeup never\nend 11 0\n'
-    gives "{BAD}" "check --why --clients=1 --capacity=1 --first-tick=9" 'start 0 1 5 0\nstart 0 2 5 0\ntick 5\nstop 1 1 1\nstop 0 3 2\nstop 0 4 1\n' \
-        'line 5: {NoSuch}: timer 2 had not been started\nline 6: {NoSuch}: timer 1 expired at tick 14\n'
     gives 0 "show --moves" 'start 0 1 65 7\ntick 65\n' "$(printf %s 'started 0 1 1 65\n  now 0\n  wheel 1 slot 1: 1\n' \
         '  moved at 64 from wheel 1 slot 1 to wheel 0 slot 1: 1\nexpired 65 0 1 7\n  now 65\nend 65 0\n')"
 }
@@ -396,6 +409,14 @@ shown() { gives 0 "show $1" "$2" "$(printf '%s\\n' "${@:3}")"; }
         '  moved at 4096 from wheel 2 slot 1 to wheel 1 slot 1: 1 3' 'expired 4097 0 2 2' \
         '  moved at 4160 from wheel 1 slot 1 to wheel 0 slot 1: 1 3' 'expired 4161 0 1 1' 'expired 4161 0 3 3' \
         '  now 4161' 'end 4161 0'
+    # Between higher wheels: 64^4 + 12 * 64^3 at the tick 64^4, and 64^9 + 5 * 64^8 at 64^9.
+    shown "--moves --first-tick 16777215" 'start 0 1 3145729 1\ntick 1\n' 'started 0 1 1 19922944' '  now 16777215' \
+        '  wheel 4 slot 1: 1' '  moved at 16777216 from wheel 4 slot 1 to wheel 3 slot 12: 1' '  now 16777216' \
+        '  wheel 3 slot 12: 1' 'end 16777216 1'
+    shown "--moves --first-tick 18014398509481983" 'start 0 1 1407374883553281 1\ntick 1\n' \
+        'started 0 1 1 19421773393035264' '  now 18014398509481983' '  wheel 9 slot 1: 1' \
+        '  moved at 18014398509481984 from wheel 9 slot 1 to wheel 8 slot 5: 1' '  now 18014398509481984' \
+        '  wheel 8 slot 5: 1' 'end 18014398509481984 1'
     # Ticks of which the last ones are refused, and a move at the last tick of a line.
     shown "--moves --scheme clock --first-tick 8639939" 'start 0 1 59 1\ntick 1\ntick 100\nclose\ntick 9\n' \
         'started 0 1 1 {LAST_OF_CLOCK-1}' '  now 8639939' '  minute 59: 1' \
@@ -464,31 +485,6 @@ shown() { gives 0 "show $1" "$2" "$(printf '%s\\n' "${@:3}")"; }
     gives "{BAD}" "check" 'close\ntick 0\nclose\n' "line 2, column 6: $reason\n"
 }
 
-@test "check --why tells 20,000 ends of timers apart" {
-    local count=20000
-    awk -v count=$count 'BEGIN {
-        for (i = 1; i <= count; i++) print "start 0 " i " 1 7"
-        print "tick 1"
-        for (i = 1; i <= count; i++) {
-            print "stop 0 " count + i " " i
-            print "line " count + 1 + i ": {NoSuch}: timer " i " expired at tick 1" > "wanted"
-        }
-    }' > input
-    leaves "{BAD}" "check --why --capacity $count" "$(put_names < wanted)\n" ""
-    awk -v count=$count 'BEGIN {
-        for (i = 1; i <= count; i++) { print "start 0 " 2 * i - 1 " 9 7"; print "stop 0 " 2 * i " " i }
-        print "stop 0 " 2 * count + 1 " " count / 2
-    }' > input
-    leaves "{BAD}" "check --why" "line $((2 * count + 1)): {NoSuch}: timer $((count / 2)) was stopped by line $count\n" ""
-}
-
-@test "check --why reads no more than a script may have" {
-    local most
-    most=$("$BATS_TEST_DIRNAME/../tools/facts" MAX_SCRIPT)
-    { yes 'stop 0 1 1' || true; } | head -c $((most + 1)) > input
-    leaves "{CHECK_FAILED}" "check --why" "" "{TooLong}\n"
-}
-
 @test "check names the first byte with which no line begins" {
     command -v python3 > /dev/null || skip "no python3"
     python3 -B "$BATS_TEST_DIRNAME/columns.py" "$TIMERS"
@@ -509,6 +505,16 @@ help_of() {
         help_of $verb -hx && cmp output wanted
     done
 }
+@test "a help that is asked for first is written, whatever words come after it" {
+    local verb words
+    for verb in play serve show threads check; do
+        "$TIMERS" $verb --help > wanted
+        for words in x "--slots 3 x" "--scheme sieve --slots 3 x y" "--clients 0 x" "--counts --capacity 0 --what"; do
+            # shellcheck disable=SC2086  # words
+            help_of $verb --help $words && cmp output wanted
+        done
+    done
+}
 
 # The statuses of docs/formats.md, in the order of each help.
 @test "each help gives the exit statuses to what they are for" {
@@ -520,7 +526,7 @@ help_of() {
     statuses "" '{DONE} if it was\. It is {FAILED} after an error, [^.]*, and {REFUSED} if the arguments are refused\.'
     statuses serve '{DONE} if the input came to its end [^.]*\. It is {FAILED} after an error, [^.]*\. It is {REFUSED} if the arguments'
     statuses threads '{DONE} if each client finished\. It is {FAILED} after an error, [^.]*\. It is {REFUSED} if the arguments'
-    statuses check "$(printf %s '{DONE} if no line is bad, [^.]*\. It is {BAD} if a line is bad, [^.]*\. ' \
+    statuses check "$(printf %s '{DONE} if no line is bad, [^.]*\. It is {BAD} if a line is bad\. ' \
         'It is {FAILED} after an error before [^.]*, and {CHECK_FAILED} after any other error, [^.]*\. ' \
         'It is {REFUSED} if the arguments are refused\.')"
 }
@@ -536,7 +542,7 @@ help_of() {
     called serve " [OPTIONS] < FILE"
     called show " [OPTIONS] < FILE"
     called threads " [OPTIONS]"
-    called check " [OPTIONS] < FILE"
+    called check " < FILE"
 }
 
 @test "help and version are whole where they are asked for, and a full output is told" {
@@ -568,4 +574,9 @@ help_of() {
     whole "threads --help" "Runs clients" "$(last_of THREADS)"
     whole "check --help" "Reports every" "$(last_of CHECKS)"
     for words in --version -V; do whole "$words" "timers " "$(cat "$BATS_TEST_DIRNAME/../tools/install/version")"; done
+}
+
+@test "a script that a program wrote of its calls expires the timers that the program saw" {
+    printf 'started 0 1 1 130\nstarted 0 2 2 50\nexpired 50 0 2 97\nstopped 0 3 1\nstarted 0 4 3 120\nexpired 120 0 3 98\nend 200 0\n' |
+        diff - <("$TIMERS" < "$EXAMPLES/c/record.stdout")
 }

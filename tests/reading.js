@@ -1,9 +1,11 @@
 // Read by tests/wheels_page in a page: what can be seen of it, step by step.
 (() => {
   const text = (node) => node.textContent.trim();
-  const bucket = (node) => [
+  // A timer as `show` writes it: its serial, which is all that a chip has, and the number in the remark beside it.
+  const timer = (chip) => [text(chip), ...(chip.nextSibling?.matches(".remark") ? text(chip.nextSibling).match(/\d+/) : [])].join(":");
+  window.bucket = (node) => [
     text(node.closest("article").querySelector("h3")), text(node.querySelector(".name")),
-    [...node.querySelectorAll(".chip")].map(text),
+    [...node.querySelectorAll(".chip")].map(timer),
   ];
   const why = (node) => (node ? text(node) : "");
   const answer = (node) => [node.firstChild.textContent, why(node.querySelector(".why"))];
@@ -17,7 +19,7 @@
     const here = document.querySelector(".is-here");
     return {
       now: text(document.querySelector("#now")),
-      buckets: [...document.querySelectorAll("#wheels .bucket")].filter((node) => node.checkVisibility()).map(bucket),
+      buckets: [...document.querySelectorAll("#wheels .bucket")].filter((node) => node.checkVisibility()).map(window.bucket),
       gone: [...document.querySelectorAll("#wheels .left-it")].map((node) => [
         text(node.closest("article").querySelector("h3")), text(node.closest("li").querySelector(".name")), text(node),
       ]),
@@ -32,12 +34,14 @@
       answers: here ? [...here.querySelectorAll(".answer")].map(answer) : [],
     };
   };
-  // Clicks a button up to so many times, as long as it isn't disabled.
+  // Clicks a button up to so many times, as long as it isn't disabled; at the end of the script a step on would add a line.
   window.clicked = (selector, most) => {
     const button = document.querySelector(selector);
     const steps = [];
     const times = [];
-    while (!isOff(button) && steps.length < most) {
+    const slider = document.querySelector("#slider");
+    const isEnd = () => selector === "#next" && slider.value === slider.max;
+    while (!isOff(button) && !isEnd() && steps.length < most) {
       const start = performance.now();
       button.click();
       document.body.getBoundingClientRect();
@@ -58,7 +62,7 @@
     const row = (node) => [node.firstChild.textContent, node.querySelector("small").textContent];
     return JSON.stringify([...document.querySelectorAll(".history li button")].map(row));
   };
-  const nameOf = (node) => node.ariaLabel || text(node) || [...node.labels ?? []].map(text).join(" ");
+  const nameOf = window.nameOf = (node) => node.ariaLabel || text(node) || [...node.labels ?? []].map(text).join(" ");
   window.unnamed = () => [...document.querySelectorAll("button, input, select, textarea, [role=slider], [role=group]")]
     .filter((node) => !nameOf(node) && !node.hasAttribute("aria-labelledby")).length;
   // The lengths of the rests while it plays; they are not waited for.
@@ -74,13 +78,6 @@
     button.click();
     see();
   });
-  // The bottom of what is marked in the history, and the top of the controls.
-  window.hidden = () => {
-    const bottom = (node) => (node ? node.getBoundingClientRect().bottom : 0);
-    const controls = document.querySelector(".controls").getBoundingClientRect().top;
-    return [".history .is-now", ".follow", ".stage"].filter(
-      (name) => bottom(document.querySelector(name)) > controls);
-  };
   // The part of the screen in which the stage is seen.
   const sight = () => {
     const stage = document.querySelector(".stage");
@@ -93,17 +90,34 @@
     const { top, bottom, left, right } = node.getBoundingClientRect();
     return top >= seen.top && bottom <= seen.bottom && left >= 0 && right <= window.innerWidth;
   };
-  // What of a step is not on the screen: rings that timers left or came to, arrows, and what is said.
+  const box = (node) => node.getBoundingClientRect();
+  const ring = (wheel) => wheel.querySelector(".track");
+  // What of a step is not on the screen: the lowest wheel, rings that timers left or came to, arrows, and what is said, which
+  // is beside the wheels or under them.
   window.unseen = () => {
-    const rings = [...document.querySelectorAll("#wheels .wheel")].filter((node) => node.querySelector(".went"))
-      .map((node) => node.querySelector("svg"));
+    const wheels = [...document.querySelectorAll("#wheels .wheel")];
+    const lowest = document.querySelector("#wheels [data-focus$='-0']").closest(".wheel");
+    const rings = wheels.filter((node) => node === lowest || node.querySelector(".went")).map(ring);
     const news = document.querySelector("#news");
+    const said = [news.closest(".side"), news].some((node) => node.scrollTop) || news.scrollHeight > news.clientHeight;
+    const isApart = wheels.every((wheel) => box(news).right <= box(wheel).left || box(news).top >= box(wheel).bottom);
     return [...rings, ...document.querySelectorAll(".arrows path"), news].filter((node) => !isInside(node, node === news))
-      .map((node) => `${node.getAttribute("class")} is not all on the screen`)
-      .concat(news.scrollHeight > news.clientHeight ? ["what is said is cut"] : []);
+      .map((node) => `${node.getAttribute("class")} of ${text(node.closest("section") ?? node).slice(0, 20)} is not all on the screen`)
+      .concat(said ? ["what is said is cut"] : [], isApart ? [] : ["what is said is over a wheel"]);
   };
+  // Whether the rings are what is seen first: a third of the width of the wheels, or one of 180 pixels.
+  window.smallRings = () => {
+    const widths = [...document.querySelectorAll("#wheels > .wheel")].map((wheel) => box(ring(wheel)).width);
+    const sum = widths.reduce((a, b) => a + b);
+    return sum >= box(document.querySelector("#wheels")).width / 3 || widths[0] >= 180 ? [] : [`rings of ${widths} pixels`];
+  };
+  // Where each ring is: on the screen, or on a phone, which scrolls as a whole, on the page.
+  window.places = () => Object.fromEntries([...document.querySelectorAll("#wheels .wheel")].map((wheel) => {
+    const { left, top, width } = box(ring(wheel));
+    return [text(wheel.querySelector("h3")), [left, top + window.scrollY, width].map(Math.round).join(" ")];
+  }));
   // What scrolls without a stop of the Tab key, or has a stop and doesn't scroll.
-  window.needless = () => [...document.querySelectorAll("#news, .scroll")]
+  window.needless = () => [...document.querySelectorAll(".scroll")]
     .filter((node) => (node.tabIndex === 0) !== (node.scrollHeight > node.clientHeight || node.scrollWidth > node.clientWidth))
     .map((node) => node.className);
   // What can't be brought on the screen by scrolling.

@@ -14,7 +14,7 @@ setup() { set -o pipefail; }
 # with COMPILER SANITIZERS: what is built from here on; the library once
 with() {
     needs "$1"
-    CC=$1 CXX=${1/gcc/g}++ library=$work/$1-$2.o
+    CC=$1 CXX=${1/gcc/g}++ library=${MADE:-$work}/$1-$2.o
     sanitize="-O0 -fsanitize=$2 -fno-sanitize-recover=all"
     [ ! -e "$library" ] || return 0
     echo 'int main(void) { return 0; }' > "$work/empty.c"
@@ -35,29 +35,29 @@ examples() {
         runs > "$work/out"
     done
 }
-timers() {
-    build stress.c $sanitize
-    runs 30000 3
-    build stress.c -DREFUSE $wraps $sanitize
-    runs 30000 4
+models() {
+    build_driver "$work/program" -DMALLOC_BLOCKS $sanitize "$library"
+    for kind in timers desk; do
+        runs $kind 10000 3
+        runs --copies $kind 10000 4
+    done
     build allocator.c $wrap $sanitize
     runs resizes
     runs copies
     build loop_model.c $sanitize
     runs 30000 2
-}
-desks() {
     build desk_edges.c $sanitize
     runs
     build desk_edges.c -DREFUSE $wrap $sanitize
     runs
 }
-# In C++. For the sanitizer of memory it would need a C++ library that is compiled for it.
-models() {
+# For the sanitizer of memory it would need a C++ library that is compiled for it.
+wrappers() {
     build agree.cpp $wrap $sanitize
     runs
-    build desk_model.cpp $sanitize
-    runs 50
+    needs_traces
+    build replay.cpp $sanitize
+    replays "$made"/timers.? "$made"/desk.?
     build desk_agree.cpp $sanitize
     runs
 }
@@ -84,13 +84,17 @@ each() {
     for part in "${@:3}"; do $part; done
 }
 
-@test "gcc, addresses and undefined behaviour: examples, timers and desks" { each gcc address,undefined examples timers desks; }
-@test "gcc, addresses and undefined behaviour: models and threads" { each gcc address,undefined models threads; }
-@test "clang, addresses and undefined behaviour: examples, timers and desks" { each clang address,undefined examples timers desks; }
-@test "clang, addresses and undefined behaviour: models and threads" { each clang address,undefined models threads; }
-@test "clang, threads: examples, timers and desks" { each clang thread examples timers desks; }
-@test "clang, threads: models and threads" { each clang thread models threads; }
-@test "clang, memory: examples, timers, desks and threads" { each clang memory examples timers desks threads; }
+@test "gcc, addresses and undefined behaviour: the library compiles" { with gcc address,undefined; }
+@test "gcc, addresses and undefined behaviour: examples, timers and desks" { each gcc address,undefined examples models; }
+@test "gcc, addresses and undefined behaviour: threads" { each gcc address,undefined threads; }
+@test "gcc, addresses and undefined behaviour: models, in C++" { each gcc address,undefined wrappers; }
+@test "clang, addresses and undefined behaviour: examples, timers and desks" { each clang address,undefined examples models; }
+@test "clang, addresses and undefined behaviour: threads" { each clang address,undefined threads; }
+@test "clang, addresses and undefined behaviour: models, in C++" { each clang address,undefined wrappers; }
+@test "clang, threads: examples, timers and desks" { each clang thread examples models; }
+@test "clang, threads: threads" { each clang thread threads; }
+@test "clang, threads: models, in C++" { each clang thread wrappers; }
+@test "clang, memory: examples, timers, desks and threads" { each clang memory examples models threads; }
 
 # finds COMPILER SANITIZER MISTAKE TEXT: of tests/c/misuse.c, and reports it so
 finds() {
@@ -100,8 +104,8 @@ finds() {
     notices "$3"
     [[ $output == *$4* ]]
 }
-@test "gcc, addresses: a block that is too short is noticed" { finds gcc address short heap-buffer-overflow; }
-@test "clang, addresses: a block that is too short is noticed" { finds clang address short heap-buffer-overflow; }
+@test "gcc, addresses: a block that is too short is noticed" { finds gcc address,undefined short heap-buffer-overflow; }
+@test "clang, addresses: a block that is too short is noticed" { finds clang address,undefined short heap-buffer-overflow; }
 @test "clang, undefined behaviour: a block that isn't aligned is noticed" { finds clang undefined askew alignment; }
 @test "clang, threads: two threads in one struct are noticed" { finds clang thread shared "data race"; }
 @test "clang, memory: a struct that was not set is noticed" { finds clang memory unset use-of-uninitialized-value; }

@@ -4,8 +4,8 @@ import os
 import re
 
 from formats import DRAWN, FIELDS, LASTS, LIMITS, RADICES, SCHEMES, WORDS, reasons
-from schemes import HANDS
 
+HANDS = SCHEMES["clock"]["hands"]
 PAGES = os.path.join(os.path.dirname(os.path.abspath(__file__)), "../../docs/pages")
 
 
