@@ -94,11 +94,11 @@ static void sleep_once(uint64_t now)
 	struct owner *o = NULL;
 	for (size_t left = timers_in_all + 16; left > 0 && o == NULL; left--) {
 		uint64_t tick = next();
-		NEED(tick > now && tick <= now + 60000);
+		NEED(tick > now && tick <= now + 60000 + MOST_LATE);
 		now = tick;
 		o = (struct owner *)take(now);
 	}
-	NEED(o && o->at == now);
+	NEED(o && o->at <= now && now <= o->at + MOST_LATE);
 }
 
 static uint64_t processor(void)

@@ -8,6 +8,11 @@
 #define IS_COUNTED 0
 #endif
 #define NEED(fact) ((fact) ? (void)0 : abort())
+#ifdef NO_CASCADES                               /* one of 60,000 ticks may come so much later */
+#define MOST_LATE 4096
+#else
+#define MOST_LATE 0
+#endif
 #if defined(LIBEVENT) || defined(LIBEVENT_COMMON)
 #define HAS_NEXT 0
 #else
@@ -57,8 +62,13 @@ CALL struct node *take(uint64_t now)
 }
 CALL uint64_t next(void) { return timers_loop_deadline(&loop); }
 
-#elif defined(HEAP) || defined(HEAP_ORDERED)     /* a heap with four children in an array; each node has its index */
-struct node { size_t index; };                   /* from 1; 0 while it is not in the heap */
+#elif defined(HEAP) || defined(HEAP_ORDERED) || defined(HEAP_LAZY) /* a heap with four children in an array; each node has its index */
+struct node {
+	size_t index;                            /* from 1; 0 while it is not in the heap */
+#ifdef HEAP_LAZY                                 /* a push back is a store: its entry sinks at its old tick, for which a loop wakes up */
+	uint64_t at;
+#endif
+};
 #ifdef HEAP_ORDERED                              /* those of one tick in the order in which they were set */
 struct entry { uint64_t at, serial; struct node *node; };
 static uint64_t serial;
@@ -96,6 +106,11 @@ static void down(size_t i, struct entry e)
 CALL void set(struct node *n, uint64_t at)
 {
 	struct entry e = entry_of(n, at);
+#ifdef HEAP_LAZY
+	n->at = at;
+	if (n->index && heap[n->index - 1].at <= at)
+		return;
+#endif
 	if (n->index == 0)
 		up(length++, e);
 	else if (less(heap[n->index - 1], e))
@@ -119,6 +134,10 @@ CALL void stop(struct node *n) { if (n->index) drop(n); }
 CALL struct node *take(uint64_t now)
 {
 	struct node *n;
+#ifdef HEAP_LAZY
+	for (; length && heap[0].at <= now && heap[0].at < heap[0].node->at; down(0, entry_of(n, n->at)))
+		n = heap[0].node;
+#endif
 	if (length == 0 || heap[0].at > now)
 		return NULL;
 	n = heap[0].node;
@@ -127,8 +146,16 @@ CALL struct node *take(uint64_t now)
 }
 CALL uint64_t next(void) { return length ? heap[0].at : UINT64_MAX; }
 
-#elif defined(WHEEL)                             /* wheels of 64 slots, as timeout.c has them: the nodes are the caller's */
-struct node { struct node *next, **prev; uint64_t at; uint16_t slot; bool on; };
+#elif defined(WHEEL) || defined(WHEEL_LAZY)      /* wheels of 64 slots, as timeout.c has them: the nodes are the caller's */
+struct node {
+	struct node *next, **prev;
+	uint64_t at;
+#ifdef WHEEL_LAZY                                /* a push back is a store: the node moves once its slot is emptied, at this tick */
+	uint64_t visit;
+#endif
+	uint16_t slot;
+	bool on;
+};
 struct queue { struct node *first, **last; };
 enum { WHEELS = 7, DUE = 0xffff };
 static struct queue slots[WHEELS][64], due;
@@ -166,9 +193,24 @@ static inline void put(struct node *n)
 	NEED(level < WHEELS);
 	n->slot = (uint16_t)(level * 64 + slot);
 	bits[level] |= UINT64_C(1) << slot;
+#ifdef WHEEL_LAZY
+	n->visit = n->at >> 6 * level << 6 * level;
+#endif
 	insert(&slots[level][slot], n);
 }
-CALL void set(struct node *n, uint64_t at) { if (n->on) drop(n); n->at = at; put(n); }
+CALL void set(struct node *n, uint64_t at)
+{
+	bool stays = false;
+#ifdef WHEEL_LAZY
+	stays = n->on && n->slot != DUE && at >= n->visit;
+#endif
+	n->at = at;
+	if (!stays) {
+		if (n->on)
+			drop(n);
+		put(n);
+	}
+}
 CALL void stop(struct node *n) { if (n->on) drop(n); }
 static inline uint64_t wake(void)
 {
@@ -205,6 +247,93 @@ CALL struct node *take(uint64_t now)
 	return n;
 }
 CALL uint64_t next(void) { return due.first ? current : wake(); }
+
+#elif defined(NO_CASCADES)                       /* wheels as Linux has them: no timer moves, and those far away come out late */
+struct node { struct node *next, **prev; uint64_t at; uint16_t slot; bool on; };
+struct queue { struct node *first; };
+enum { WHEELS = 9, FINER = 3 };                  /* a slot is 8 times as long as one of the wheel before */
+static struct queue slots[WHEELS][64];
+static uint64_t bits[WHEELS], current = 1;       /* the tick that is run next */
+static void init(size_t n) { (void)n; }
+static inline void drop(struct node *n)
+{
+	if (n->next)
+		n->next->prev = n->prev;
+	*n->prev = n->next;
+	if (!slots[n->slot / 64][n->slot % 64].first)
+		bits[n->slot / 64] &= ~(UINT64_C(1) << n->slot % 64);
+	n->on = false;
+}
+CALL void set(struct node *n, uint64_t at)
+{
+	int wheel = 0;
+	uint64_t away = at > current ? at - current : 0;
+	if (n->on)
+		drop(n);
+	while (away >= UINT64_C(63) << FINER * wheel)
+		NEED(++wheel < WHEELS);
+	uint64_t slot = (current + away + (UINT64_C(1) << FINER * wheel) - 1) >> FINER * wheel & 63;
+	struct queue *q = &slots[wheel][slot];
+	n->at = at, n->on = true, n->slot = (uint16_t)(wheel * 64 + slot);
+	bits[wheel] |= UINT64_C(1) << slot;
+	n->next = q->first, n->prev = &q->first, q->first = n;
+	if (n->next)
+		n->next->prev = &n->next;
+}
+CALL void stop(struct node *n) { if (n->on) drop(n); }
+static inline uint64_t wake(void)
+{
+	uint64_t best = UINT64_MAX;
+	for (int w = 0; w < WHEELS; w++)
+		if (bits[w]) {
+			uint64_t from = (current + (UINT64_C(1) << FINER * w) - 1) >> FINER * w, by = from & 63;
+			uint64_t turned = bits[w] >> by | (by ? bits[w] << (64 - by) : 0);
+			uint64_t at = (from + (uint64_t)__builtin_ctzll(turned)) << FINER * w;
+			best = at < best ? at : best;
+		}
+	return best;
+}
+CALL struct node *take(uint64_t now)
+{
+	for (uint64_t at; (at = wake()) <= now; current = at + 1)
+		for (int w = 0; current = at, w < WHEELS && at % (UINT64_C(1) << FINER * w) == 0; w++)
+			if (bits[w] >> (at >> FINER * w & 63) & 1) {
+				struct node *n = slots[w][at >> FINER * w & 63].first;
+				drop(n);
+				return n;
+			}
+	current = now + 1;
+	return NULL;
+}
+CALL uint64_t next(void) { return wake(); }
+
+#elif defined(TREE)                              /* a red-black tree, of BSD's macros: the nodes are the caller's */
+#include <bsd/sys/tree.h>
+struct node { RB_ENTRY(node) link; uint64_t at; bool on; };
+static RB_HEAD(tree, node) tree = RB_INITIALIZER(&tree);
+static inline int order(struct node *a, struct node *b) { return a->at < b->at ? -1 : 1; } /* of one tick: as they were set */
+RB_PROTOTYPE(tree, node, link, order)
+RB_GENERATE(tree, node, link, order)
+static void init(size_t n) { (void)n; }
+static inline void drop(struct node *n) { RB_REMOVE(tree, &tree, n); n->on = false; }
+CALL void stop(struct node *n) { if (n->on) drop(n); }
+CALL void set(struct node *n, uint64_t at)
+{
+	if (n->on)
+		drop(n);
+	n->at = at, n->on = true;
+	RB_INSERT(tree, &tree, n);
+}
+CALL struct node *take(uint64_t now)
+{
+	struct node *n = RB_MIN(tree, &tree);
+	return n && n->at <= now ? (drop(n), n) : NULL;
+}
+CALL uint64_t next(void)
+{
+	struct node *n = RB_MIN(tree, &tree);
+	return n ? n->at : UINT64_MAX;
+}
 
 #elif defined(LIST)                              /* a list by deadline, in the order of setting; the nodes are the caller's */
 struct node { struct node *next, *prev; uint64_t at; };

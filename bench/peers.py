@@ -25,14 +25,20 @@ PEERS = {
     "LOOP_PAUSE_LTO": "the same, pauses, LTO",
     "HEAP": "array heap, no order",
     "HEAP_ORDERED": "array heap, ordered",
+    "HEAP_LAZY": "array heap, lazy",
     "WHEEL": "intrusive wheel",
+    "WHEEL_LAZY": "intrusive wheel, lazy",
+    "NO_CASCADES": "wheel without cascades",
+    "TREE": "red-black tree",
     "QUEUE": "std::priority_queue",
     "LIBUV": "libuv",
     "LIBEVENT": "libevent",
     "LIBEVENT_COMMON": "libevent, common time-out",
 }
 # Those of one tick come in the order in which they were set. In `resend` events that were pushed back do not.
-ORDERED = ["SET_AT", "SET_AT_LTO", "FIND_NEXT", "HEAP_ORDERED", "WHEEL", "LIBUV"]
+ORDERED = ["SET_AT", "SET_AT_LTO", "FIND_NEXT", "HEAP_ORDERED", "WHEEL", "TREE", "LIBUV"]
+# Those far away come out late. So there are fewer.
+LATE = ["NO_CASCADES"]
 # Ticks by the number of timers, and sets a tick.
 LOADS = {"idle": (lambda n: 7000, 200), "resend": (lambda n: 3000, 200), "expire": (lambda n: max(3000, n // 16), 64)}
 CALLS = ["set", "stop", "take", "next"]
@@ -69,8 +75,8 @@ def count(peers, load, size):
 
 
 def compare(load, size, runs):
-    """Each peer has the same operations, and those that keep an order the same."""
-    for what, peers in ((1, list(runs)), (2, [peer for peer in runs if peer in ORDERED])):
+    """Each peer that is never late has the same operations, and those that keep an order the same."""
+    for what, peers in ((1, [peer for peer in runs if peer not in LATE]), (2, [peer for peer in runs if peer in ORDERED])):
         if len({str(runs[peer][what]) for peer in peers}) > 1:
             fail(f"{load}, {size} timers: the peers disagree: {[(peer, runs[peer][what]) for peer in peers]}")
 
