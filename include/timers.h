@@ -62,8 +62,8 @@
  *
  *     The functions were proved, and then translated into C. Each meets the contract that the sources state for it
  *     (crates/timer_c/src/exports.rt), for every call that keeps the rules below. Nothing checks that a caller keeps
- *     them. A checker, which is trusted, shows of each translated function that it does what was proved. Tests alone
- *     cover the C around them, which allocates, accepts NULL for results that nobody wants, and has
+ *     them. The compiler of the sources is trusted. A checker, which is trusted too, shows of each translated function
+ *     that on x86-64 it does what that compiler wrote. Tests alone cover the C around them, which allocates, accepts NULL for results that nobody wants, and has
  *     timers_set_allocator and timers_message.
  *
  * COSTS

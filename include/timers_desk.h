@@ -99,8 +99,9 @@
  *     The functions were proved, and then translated into C. Each meets the contract stated in
  *     crates/timer_desk_c/src/desk_exports.rt or line_exports.rt, for every call that keeps the rules below. The
  *     library does not check the rules, except that the settling and ending calls check the client and the life of a
- *     line (rule 5). A checker, which is trusted, shows of each translated function that it does what was proved. Tests
- *     alone cover the C around them, which allocates, and timers_desk_message.
+ *     line (rule 5). The compiler of the sources is trusted. A checker, which is trusted too, shows of each translated
+ *     function that on x86-64 it does what that compiler wrote. Tests alone cover the C around them, which allocates,
+ *     and timers_desk_message.
  *     Nothing is proved about time: when a thread runs, and when a word arrives. timers_desk_line_freed and
  *     timers_line_abandoned are proved to change nothing, and to record their checks in the right order: first whether
  *     the desk is gone, then whether a word is left in the line. Tests show that they return true exactly if the other

@@ -53,7 +53,7 @@
 #include <poll.h>
 #include <sched.h>
 #include <unistd.h>
-#include <timers_desk.h>
+#include "timers_desk.h"
 #if defined(__linux__) && !defined(TIMERS_BELL_PIPE)
 #include <sys/eventfd.h>
 #endif

@@ -91,7 +91,7 @@
 
 #include <limits.h>
 #include <time.h>
-#include <timers.h>
+#include "timers.h"
 #if !defined(CLOCK_MONOTONIC) && !defined(TIMERS_LOOP_OWN_CLOCK)
 #error "define _POSIX_C_SOURCE as 199309L or more, or TIMERS_LOOP_OWN_CLOCK if each loop is given a clock"
 #endif
