@@ -509,8 +509,9 @@ bool timers_has_due(const struct timers *t);
 TIMERS_CALL
 uint64_t timers_now(const struct timers *t);
 
-/* How many timers are pending. Expired timers are not counted. Returns 0 if not open. While expired timers
- * wait, it takes time for each of them: timers_has_due returns in constant time whether any wait. */
+/* How many timers are pending. Expired timers are not counted (by the lengths of Python and Rust they are).
+ * Returns 0 if not open. While expired timers wait, it takes time for each of them: timers_has_due returns in
+ * constant time whether any wait. */
 TIMERS_CALL
 size_t timers_len(const struct timers *t);
 

@@ -341,7 +341,7 @@ public:
 	bool has_due() const noexcept { return timers_has_due(&raw_); }
 	time_point now() const noexcept { return point(timers_now(&raw_)); }
 
-	/* How many timers are pending. */
+	/* How many timers are pending. Expired ones, which wait to be taken, are not counted. */
 	std::size_t size() const noexcept { return timers_len(&raw_); }
 
 	/* A time until which the caller may sleep; the exact first deadline; the same, kept for a loop that asks in each turn.
