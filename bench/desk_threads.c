@@ -10,13 +10,14 @@
  * itself, in wheel c % SHARDS, and the owner hands out what expires by a queue for each client, which has a mutex of its own.
  *
  * Prints one line of numbers: words (an answer and an expiry a timer), seconds, then in nanoseconds the median, the 99.9th and
- * 99.99th percentiles and the most of a call to start, and the same of the time from a request to its answer. A desk's call is timed
- * if its line had room; a request begins at its first call, so it has the time in which the line was full. Otherwise the call
- * is the answer. */
+ * 99.99th percentiles and the most of a call to start, and the same of the time from a request to its answer. A desk's call is
+ * timed if its line had room; a request begins at its first call, so it has the time in which the line was full. Without a desk
+ * the call is the answer. */
 #include "desk_clients.h"
 #include "timers_desk.h"
 
 enum { QUEUE = 1024, BATCH = 256 };
+enum way { DESK, MUTEX, LOCKED, OWN, WAYS };
 
 /* The desk. */
 
@@ -234,32 +235,33 @@ static void free_shards(void)
 	}
 }
 
-static void run_wheels(struct client *all, pthread_t *threads, const char *way, size_t count)
+static void run_wheels(struct client *all, pthread_t *threads, enum way way, size_t count)
 {
 	make_shards(count);
-	if (strcmp(way, "mutex") == 0)
+	if (way == MUTEX)
 		own_shards(all, threads);
 	else
-		begin(threads, all, strcmp(way, "locked") == 0 ? work_locked : work_alone);
+		begin(threads, all, way == LOCKED ? work_locked : work_alone);
 	end(threads);
 	free_shards();
 }
 
 int main(int argc, char **argv)
 {
-	static const struct { const char *way; int words; } ways[] = { { "desk", 6 }, { "mutex", 5 }, { "locked", 4 }, { "own", 4 } };
-	size_t w = 0;
-	while (w < 4 && (argc != ways[w].words || strcmp(argv[1], ways[w].way) != 0))
-		w++;
-	if (w == 4)
+	static const struct { const char *name; int words; } ways[WAYS] =
+		{ { "desk", 6 }, { "mutex", 5 }, { "locked", 4 }, { "own", 4 } };
+	enum way way = DESK;
+	while (way < WAYS && (argc != ways[way].words || strcmp(argv[1], ways[way].name) != 0))
+		way++;
+	if (way == WAYS)
 		return 2;
 	struct client *all = new_clients(argv[2], argv[3]);
 	pthread_t threads[MAX_CLIENTS];
 	uint64_t began = nanoseconds();
-	if (w == 0)
+	if (way == DESK)
 		own_desk(all, threads, strtoul(argv[4], NULL, 10), strtoul(argv[5], NULL, 10));
 	else
-		run_wheels(all, threads, argv[1], w == 1 ? strtoul(argv[4], NULL, 10) : clients);
-	print_run(all, nanoseconds() - began, w == 0);
+		run_wheels(all, threads, way, way == MUTEX ? strtoul(argv[4], NULL, 10) : clients);
+	print_run(all, nanoseconds() - began, way == DESK);
 	return 0;
 }
