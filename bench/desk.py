@@ -37,6 +37,8 @@ LONGER = 16
 TIMES = ["p50", "p999", "p9999", "most"]
 FIELDS = ["words", "seconds", *(f"{what}_{time}" for what in ("start", "answer") for time in TIMES)]
 SHOWN = ["start_p50", "start_p999", "start_p9999", "start_most", "answer_p50", "answer_p999"]
+# A busy process, which ends if the one of the number that it is given is gone: that may be killed.
+SPIN = "import os, sys\nwhile os.getppid() == int(sys.argv[1]): sum(range(100_000))"
 
 
 def stay_on(cores):
@@ -46,7 +48,7 @@ def stay_on(cores):
 @contextlib.contextmanager
 def others_at_work(many, cores):
     """Meanwhile so many other processes never rest on these cores."""
-    spin = [sys.executable, "-c", "while True: pass"]
+    spin = [sys.executable, "-c", SPIN, str(os.getpid())]
     others = [subprocess.Popen(spin, preexec_fn=lambda: stay_on(cores)) for _ in range(many)]
     try:
         yield
