@@ -15,7 +15,7 @@
 # make bench-tail  measures how long single ticks and starts take (bench/build/results); make measure-tail is for the
 #                  repository: it writes bench/results/tail.csv and docs/tail.svg (measure-scale and measure-next as well)
 # make bench-next  measures turns of an event loop that asks for its next deadline (bench/build/results)
-# make bench-desk  measures client threads over a desk, over C++ rings and around a mutex (bench/build/results)
+# make bench-desk  measures client threads over a desk, C++ rings, mutexes and wheels of their own (bench/build/results)
 # make bench-lines measures a desk's calls in one thread, its flushes, and the clients of timers threads, beside C++
 # make ports       libuv, nginx and lwIP on these timers: their tests, traces, memory, instructions (ports/README.md)
 # make docs        makes docs/pages/lessons.js from the scripts of examples/ and docs/formats.md, and

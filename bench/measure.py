@@ -1,5 +1,5 @@
 #!/usr/bin/env python3
-"""Measures the tables of results/, on a machine that does nothing else: some twenty minutes in all.
+"""Measures the tables of results/, on a machine that does nothing else: some 25 minutes in all.
 
     bench/build_all && python3 bench/measure.py [PART..]      all parts, or some of them
     python3 bench/plots.py                                    then draws the plots of docs/
@@ -34,6 +34,7 @@ SCRIPTS = {
     "scale": ["runs.py", "scale", "--repeats", "3", "--count", "500000"],
     "next": ["runs.py", "next", "--repeats", "3"],
     "desk": ["desk.py", "--repeats", "7"],
+    "desk_busy": ["desk.py", "--busy", "1", "--repeats", "5", "--timers", "32000", "--limit", "600"],
     "peers": ["peers.py"],
 }
 

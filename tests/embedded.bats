@@ -123,7 +123,7 @@ no_more_stack() {
 # `ram`, its data.
 linked() {
     local bare="-ffreestanding -ffunction-sections -fdata-sections $small $*"
-    $compiler $bare -c -o "$work/timers.o" generated/timers.c
+    $compiler $bare -fbuiltin -c -o "$work/timers.o" generated/timers.c
     $compiler $bare -fno-builtin -c -o "$work/bare.o" tests/c/bare.c
     $linker -nostdlib -Wl,--gc-sections,-e,main,--unresolved-symbols=ignore-all -o "$work/bare" "$work/timers.o" "$work/bare.o" $division
     read -r bytes ram < <(size "$work/bare" | awk 'NR == 2 { print $1, $2 + $3 }')
@@ -148,11 +148,11 @@ no_more_code() {
 }
 @test "no more code is linked than the page says, by gcc" {
     by_gcc
-    for flag in -Os -O2; do no_more_code "gcc 12.2 $flag" $flag; done
+    for flags in -Os "-Os -flto" -O2; do no_more_code "gcc 12.2 $flags" "$flags"; done
 }
 @test "and by clang" {
     by_clang
-    no_more_code "clang 14 -Os" -Os
+    no_more_code "clang 14 -Oz" -Oz
 }
 # What a function is for, and the page's words for it.
 @test "of the smallest build no part takes more than the page says, and the parts are nearly all" {
@@ -168,7 +168,7 @@ no_more_code() {
         $3 ~ /reserve|make_r|grow|rattle_|give|alloc/ { sum["memory"] += $1; next }
         { sum["rest"] += $1 }
         END { for (part in sum) print part, sum[part] }' > "$work/parts"
-    sed -n '/^No option leaves/,/^$/p' "$page" | tr -d '\n,' | sed -nE 's/.* (14300) .*`timers_take` have ([0-9]+).*start has ([0-9]+).*`timers_reserve` ([0-9]+).*`timers_new` ([0-9]+).*stop ([0-9]+).*`__ctzdi2` ([0-9]+)\..*/all \1 ticks \2 start \3 memory \4 new \5 stop \6 division \7/p' |
+    sed -n '/^No option leaves/,/^$/p' "$page" | tr -d '\n,' | sed -nE 's/.* (11100) .*`timers_take` have ([0-9]+).*start has ([0-9]+).*`timers_reserve` ([0-9]+).*`timers_new` ([0-9]+).*stop ([0-9]+).*`__ctzdi2` ([0-9]+)\..*/all \1 ticks \2 start \3 memory \4 new \5 stop \6 division \7/p' |
         xargs -n 2 > "$work/said"
     [ "$(wc -l < "$work/said")" -eq 7 ]
     at_most "$(sed -n 's/^all //p' "$work/said")" "$bytes" all

@@ -1,7 +1,6 @@
 //! A desk: one thread keeps the timers of up to [`CLIENTS`] others, which send it requests and receive words, without a lock.
 //!
-//! It is for threads that block, in a database or in code of others. One that runs a loop is better served by
-//! [`Timers`](crate::Timers) of its own.
+//! It is for threads of which none may wait for another. [`Timers`](crate::Timers) of each thread's own are faster.
 //!
 //! A [`Desk`] is the owner's, and stays in the thread that made it: so it is plain which thread owns it. A [`Line`] is a
 //! client's end: it can be sent to the client's thread, and not be shared by two. Both are freed when they are dropped,
