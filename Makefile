@@ -17,7 +17,6 @@
 # make bench-next  measures turns of an event loop that asks for its next deadline (bench/build/results)
 # make bench-desk  measures client threads over a desk, over C++ rings and around a mutex (bench/build/results)
 # make bench-lines measures a desk's calls in one thread, its flushes, and the clients of timers threads, beside C++
-# make ports       libuv, nginx and lwIP on these timers: their tests, traces, memory, instructions (ports/README.md)
 # make docs        makes docs/pages/lessons.js from the scripts of examples/ and docs/formats.md, and
 #                  counts lines for docs/proofs.md (tools/page_program makes docs/pages/program.js, with clang for wasm32)
 # make clean       removes what make built
@@ -123,11 +122,8 @@ docs: all
 	TIMERS=$(CURDIR)/timers tools/docs_pages docs
 	tools/line_counts docs/proofs.md
 
-ports:
-	ports/run $(PORTS)
-
 clean:
 	rm -rf crates/*/out build timers tools/install/*.[13]
 	$(MAKE) -C bench clean
 
-.PHONY: FORCE all lib pages run test check gate prove try generate install uninstall dist deb bench bench-scale bench-tail bench-next bench-desk bench-lines measure-scale measure-tail measure-next fuzz fuzz-loop docs ports clean
+.PHONY: FORCE all lib pages run test check gate prove try generate install uninstall dist deb bench bench-scale bench-tail bench-next bench-desk bench-lines measure-scale measure-tail measure-next fuzz fuzz-loop docs clean

@@ -25,6 +25,14 @@ needs_cargo() {
     cargo fetch --quiet --offline --manifest-path "$rust" 2> /dev/null || skip "no crate cc: librust-cc-dev"
 }
 
+# neighbours: their folders; a_neighbour_is_gone: one of them was deleted
+neighbours() { grep -v '^#' neighbours; }
+a_neighbour_is_gone() {
+    local folder
+    for folder in $(neighbours); do [ -d "$folder" ] || return 0; done
+    return 1
+}
+
 # From here on no command sees the toolchain.
 hide_toolchain() {
     mkdir -p "$BATS_FILE_TMPDIR/bin"
@@ -33,10 +41,10 @@ hide_toolchain() {
     export PATH=$BATS_FILE_TMPDIR/bin:$PATH
 }
 
-# copy_tree FOLDER: the files of the repository as they stand, without what was built
+# copy_tree FOLDER: the files of the repository as they stand, without what was built and without those that were deleted
 copy_tree() {
     mkdir -p "$1"
-    git ls-files -z --cached --others --exclude-standard | xargs -0 cp -pP --parents -t "$1"
+    comm -z -23 <(git ls-files -zco --exclude-standard | sort -zu) <(git ls-files -zd | sort -z) | xargs -0 cp -pP --parents -t "$1"
 }
 
 # python_headers: where Python.h of $python is
