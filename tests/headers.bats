@@ -262,15 +262,15 @@ EOT
 # The comment beside each misuse is part of what the compiler says. It reads what all have, the headers, once.
 @test "misuses in C++ don't compile" {
     needs "$CXX"
-    sed -n 's/^#.*if MISUSE == [0-9]* *\/\* \(.*\) \*\/$/\1/p' bindings/cpp/misuse.cpp > "$work/misuses"
+    sed -n 's/^#.*if MISUSE == [0-9]* *\/\* \(.*\) \*\/$/\1/p' tests/c/misuse.cpp > "$work/misuses"
     [ "$(wc -l < "$work/misuses")" -eq 18 ]
     for compiler in g++ clang++; do
         command -v "$compiler" || continue
         mkdir "$work/$compiler"
-        grep '^#include' bindings/cpp/misuse.cpp > "$work/$compiler/headers.hpp"
+        grep '^#include' tests/c/misuse.cpp > "$work/$compiler/headers.hpp"
         with_flags() { "$compiler" -std=c++17 -Werror -Wall -Wextra -Iinclude "$@"; }
         with_flags -x c++-header -o "$work/$compiler/headers.hpp.gch" "$work/$compiler/headers.hpp"
-        misuse() { with_flags -DMISUSE="$1" -include "$work/$compiler/headers.hpp" -fsyntax-only bindings/cpp/misuse.cpp; }
+        misuse() { with_flags -DMISUSE="$1" -include "$work/$compiler/headers.hpp" -fsyntax-only tests/c/misuse.cpp; }
         misuse 0
         number=0
         while read -r text; do says "$text" misuse $((++number)); done < "$work/misuses"

@@ -21,7 +21,7 @@ needs_cargo() {
         mkdir -p "$CARGO_HOME"
         printf '[source.crates-io]\nreplace-with = "debian"\n[source.debian]\ndirectory = "/usr/share/cargo/registry"\n' > "$CARGO_HOME/config.toml"
     fi
-    [ -e "$rust" ] || tools/crate "$work/rust"
+    [ -e "$rust" ] || bindings/rust/crate "$work/rust"
     cargo fetch --quiet --offline --manifest-path "$rust" 2> /dev/null || skip "no crate cc: librust-cc-dev"
 }
 

@@ -69,7 +69,7 @@ of_crate() { cargo "$1" --quiet --offline --manifest-path "$rust" "${@:2}"; }
     printf '{"dl":"file://%s/none","api":"file://%s/none"}\n' "$work" "$work" > "$work/index/config.json"
     git -C "$work/index" add config.json
     git -C "$work/index" -c user.name=index -c user.email=index@localhost commit --quiet --message index
-    tools/crate "$work/to_publish"
+    bindings/rust/crate "$work/to_publish"
     cargo publish --dry-run --allow-dirty --manifest-path "$work/to_publish/Cargo.toml" --index "file://$work/index" > "$work/out" 2>&1 ||
         { cat "$work/out" && false; }
     grep 'Verifying timers' "$work/out"
@@ -81,7 +81,7 @@ unpacks_crate() {
     unset CFLAGS
     crate=$work/unpacked/timers-$(cat tools/install/version)
     if [ ! -e "$crate" ]; then
-        tools/crate "$work/to_pack"
+        bindings/rust/crate "$work/to_pack"
         cargo package --quiet --offline --no-verify --allow-dirty --manifest-path "$work/to_pack/Cargo.toml"
         mkdir "$work/unpacked"
         tar -C "$work/unpacked" -xf "$work/cargo/package/${crate##*/}.crate"
@@ -194,7 +194,7 @@ EOT
     cp -R bindings/rust "$work/alone"
     run cargo package --quiet --offline --allow-dirty --manifest-path "$work/alone/Cargo.toml"
     [ "$status" -ne 0 ]
-    [[ $output == *"timers.c is not there: tools/crate makes the folder to pack"* ]]
+    [[ $output == *"timers.c is not there: bindings/rust/crate makes the folder to pack"* ]]
     [ -z "$(git ls-files --stage | grep '^120000')" ]
 }
 
