@@ -35,9 +35,9 @@ setup_file() {
 
 # The expression at the head of timers.c; Debian's names are others.
 @test "the library's licence is one expression in the code and in each package" {
-    licence=$(sed -n '2s/.*SPDX-License-Identifier: \(.*\) \*\//\1/p' generated/timers.c)
+    licence=$(licence)
     [[ $licence == *LicenseRef-Rattle-libraries* ]]
-    for file in meson.build tools/install/timers.pc.in bindings/rust/Cargo.toml bindings/python/pyproject.toml bindings/js/package.json generated/README.md .reuse/dep5; do
+    for file in meson.build tools/install/timers.pc.in generated/README.md .reuse/dep5; do
         echo "$file"
         grep -qF "$licence" "$file"
     done
