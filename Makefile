@@ -13,7 +13,7 @@
 # make fuzz-loop   ten million random operations of timers_loop.h, against a model, under the sanitizers
 # make bench-scale measures an operation with 1,000 to 10,000,000 timers pending (bench/build/results)
 # make bench-tail  measures how long single ticks and starts take (bench/build/results); make measure-tail is for the
-#                  repository: it writes bench/results/tail.csv and docs/tail.svg (measure-scale and measure-next as well)
+#                  repository: it writes bench/results/tail.csv and bench/tail.svg (measure-scale and measure-next as well)
 # make bench-next  measures turns of an event loop that asks for its next deadline (bench/build/results)
 # make bench-desk  measures client threads over a desk, over C++ rings and around a mutex (bench/build/results)
 # make bench-lines measures a desk's calls in one thread, its flushes, and the clients of timers threads, beside C++

@@ -255,7 +255,7 @@ pushes() {
     by_gcc
     while read -r peer name; do
         read -r -a said < <(rows "Or a sorted list" | sed -n "s/^$name //p")
-        $m4 -Os -std=c11 -Wall -Wextra -Werror -pedantic -Iinclude -D$peer -DTIMERS_NO_DESK -DTIMERS_NO_SMOOTH -o "$work/few" tests/c/few.c generated/timers.c
+        $m4 -Os -std=c11 -Wall -Wextra -Werror -pedantic -Iinclude -D$peer -DTIMERS_NO_DESK -DTIMERS_NO_SMOOTH -o "$work/few" bench/few.c generated/timers.c
         none=$(pushes 0)
         for at in 0 1 2 3; do
             held=$((at < 3 ? 8 * 4 ** at : 1000))
