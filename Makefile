@@ -11,12 +11,6 @@
 # make deb         Debian packages, binary and source: build/deb
 # make fuzz        an hour of scripts, against a model of docs/formats.md (MINUTES=N)
 # make fuzz-loop   ten million random operations of timers_loop.h, against a model, under the sanitizers
-# make bench-scale measures an operation with 1,000 to 10,000,000 timers pending (bench/build/results)
-# make bench-tail  measures how long single ticks and starts take (bench/build/results); make measure-tail is for the
-#                  repository: it writes bench/results/tail.csv and bench/tail.svg (measure-scale and measure-next as well)
-# make bench-next  measures turns of an event loop that asks for its next deadline (bench/build/results)
-# make bench-desk  measures client threads over a desk, over C++ rings and around a mutex (bench/build/results)
-# make bench-lines measures a desk's calls in one thread, its flushes, and the clients of timers threads, beside C++
 # make docs        makes docs/pages/lessons.js from the scripts of examples/ and docs/formats.md, and
 #                  counts lines for docs/proofs.md (tools/page_program makes docs/pages/program.js, with clang for wasm32)
 # make clean       removes what make built
@@ -29,9 +23,7 @@
 # make prove       proves program and libraries, writes what they compile to into generated/, and builds from that
 # make try         plays a script with an unproved build that has checks at run time (SCRIPT=, ARGUMENTS=)
 # make generate    as make prove, and builds nothing
-# make bench       measures the wheels against others (bench/README.md)
 
-KIT = $(dir $(shell rt doc))
 SCRIPT = examples/retransmission
 ARGUMENTS = play
 MINUTES = 60
@@ -97,20 +89,6 @@ dist: all
 deb:
 	tools/deb
 
-bench: lib
-	bench/product
-	$(MAKE) -C bench run PRODUCT=$(CURDIR)/bench/build/product/object PRODUCT_HEAP=$(KIT)c/liblibc_c.a \
-	    TIMERS_C=$(CURDIR)/build/lib/libtimers.a OPTIONS="$(OPTIONS)"
-	$(MAKE) bench-lines
-
-bench-lines: timers
-
-bench-scale bench-tail bench-next bench-desk bench-lines: bench-%: lib
-	$(MAKE) -C bench $* TIMERS_C=$(CURDIR)/build/lib/libtimers.a RUN_OPTIONS="$(RUN_OPTIONS)"
-
-measure-scale measure-tail measure-next: lib
-	$(MAKE) -C bench $@ TIMERS_C=$(CURDIR)/build/lib/libtimers.a
-
 fuzz: all
 	tools/fuzz/run ./timers $(MINUTES)
 
@@ -124,6 +102,6 @@ docs: all
 
 clean:
 	rm -rf crates/*/out build timers tools/install/*.[13]
-	$(MAKE) -C bench clean
+	@for folder in $$(grep -v '^#' neighbours); do ! grep -qs '^clean:' $$folder/Makefile || $(MAKE) -C $$folder clean; done
 
-.PHONY: FORCE all lib pages run test check gate prove try generate install uninstall dist deb bench bench-scale bench-tail bench-next bench-desk bench-lines measure-scale measure-tail measure-next fuzz fuzz-loop docs clean
+.PHONY: FORCE all lib pages run test check gate prove try generate install uninstall dist deb fuzz fuzz-loop docs clean

@@ -218,7 +218,7 @@ def tail_row(axes, at, row, style):
 def tail(folder):
     rows = {(row["load"], row["facility"]): row for row in figures.read("tail") if row.get("timers") == "1000000"}
     if not all((load, facility) in rows for load in TAIL_LOADS for facility in list(TAIL)[:2]):
-        figures.fail("plots.py: results/tail.csv lacks a load of the library: run make measure-tail")
+        figures.fail("plots.py: results/tail.csv lacks a load of the library: run make -C bench measure-tail")
     figure, all_axes = plt.subplots(len(TAIL_LOADS), 1, figsize=(WIDTH, 9), layout="constrained", sharex=True)
     for axes, (load, title) in zip(all_axes, TAIL_LOADS.items()):
         shown = [facility for facility in TAIL if (load, facility) in rows]
