@@ -12,7 +12,7 @@
 # make fuzz        an hour of scripts, against a model of docs/formats.md (MINUTES=N)
 # make fuzz-loop   ten million random operations of timers_loop.h, against a model, under the sanitizers
 # make docs        makes docs/pages/lessons.js from the scripts of examples/ and docs/formats.md, and
-#                  counts lines for docs/proofs.md (tools/page_program makes docs/pages/program.js, with clang for wasm32)
+#                  counts lines for docs/proofs.md (docs/pages/program makes docs/pages/program.js, with clang for wasm32)
 # make clean       removes what make built
 #
 # CC is the C compiler, by default cc: CC=aarch64-linux-gnu-gcc builds for another processor. CPPFLAGS, CFLAGS and LDFLAGS are
@@ -97,7 +97,7 @@ fuzz-loop: lib
 	for seed in 1 2 3 4 5 6 7 8 9 10; do build/loop_model 1000000 $$seed || exit 1; done
 
 docs: all
-	TIMERS=$(CURDIR)/timers tools/docs_pages docs
+	TIMERS=$(CURDIR)/timers docs/pages/lessons > docs/pages/lessons.js
 	tools/line_counts docs/proofs.md
 
 clean:
