@@ -11,8 +11,7 @@
 # make deb         Debian packages, binary and source: build/deb
 # make fuzz        an hour of scripts, against a model of docs/formats.md (MINUTES=N)
 # make fuzz-loop   ten million random operations of timers_loop.h, against a model, under the sanitizers
-# make docs        makes docs/pages/lessons.js from the scripts of examples/ and docs/formats.md, and
-#                  counts lines for docs/proofs.md (docs/pages/program makes docs/pages/program.js, with clang for wasm32)
+# make docs        counts lines for docs/proofs.md
 # make clean       removes what make built
 #
 # CC is the C compiler, by default cc: CC=aarch64-linux-gnu-gcc builds for another processor. CPPFLAGS, CFLAGS and LDFLAGS are
@@ -96,8 +95,7 @@ fuzz-loop: lib
 	$(CC) -std=c11 -O1 -g -fsanitize=address,undefined -fno-sanitize-recover=all -Iinclude -o build/loop_model tests/c/loop_model.c build/lib/libtimers.a
 	for seed in 1 2 3 4 5 6 7 8 9 10; do build/loop_model 1000000 $$seed || exit 1; done
 
-docs: all
-	TIMERS=$(CURDIR)/timers docs/pages/lessons > docs/pages/lessons.js
+docs:
 	tools/line_counts docs/proofs.md
 
 clean:

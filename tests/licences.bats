@@ -41,7 +41,7 @@ setup_file() {
         echo "$file"
         grep -qF "$licence" "$file"
     done
-    for file in generated/program.c docs/pages/program.js; do grep -qF "$licence AND Unicode-3.0" "$file"; done
+    grep -qF "$licence AND Unicode-3.0" generated/program.c
     sed -e 's/MIT/Expat/g; s/3-Clause/3-clause/; s/ AND / and /g; s/ OR / or /; s/.*/License: & and Unicode-3.0/' <<< "$licence" > "$work/debian"
     grep -qxFf "$work/debian" tools/debian/copyright
 }
