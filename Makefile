@@ -86,7 +86,7 @@ dist: all
 	tools/dist
 
 deb:
-	tools/deb
+	packages/deb
 
 fuzz: all
 	tools/fuzz/run ./timers $(MINUTES)

@@ -43,17 +43,17 @@ setup_file() {
     done
     grep -qF "$licence AND Unicode-3.0" generated/program.c
     sed -e 's/MIT/Expat/g; s/3-Clause/3-clause/; s/ AND / and /g; s/ OR / or /; s/.*/License: & and Unicode-3.0/' <<< "$licence" > "$work/debian"
-    grep -qxFf "$work/debian" tools/debian/copyright
+    grep -qxFf "$work/debian" packages/debian/copyright
 }
 
 sentence="the compiled code has parts of the toolchain's own libraries, whose licence is not known"
 @test "where people look they read that the licence of parts is not known" {
     said() { sed -e 's/^[#* ]*//' "$1" | tr -s ' \n' ' ' | grep -qF "$sentence"; }
-    for file in README.md generated/README.md tools/install/dist_readme tools/debian/copyright docs/embedding.md CMakeLists.txt meson.build; do
+    for file in README.md generated/README.md tools/install/dist_readme packages/debian/copyright docs/embedding.md CMakeLists.txt meson.build; do
         echo "$file"
         said "$file"
     done
-    [ "$(sed 's/^ *//' tools/debian/control | tr -s ' \n' ' ' | grep -oF "$sentence" | wc -l)" -eq "$(grep -c ^Package: tools/debian/control)" ]
+    [ "$(sed 's/^ *//' packages/debian/control | tr -s ' \n' ' ' | grep -oF "$sentence" | wc -l)" -eq "$(grep -c ^Package: packages/debian/control)" ]
 }
 
 # The lines of a file that are the toolchain's, and all that are in functions.
