@@ -8,7 +8,6 @@
 # make uninstall   removes what it installed
 # make dist        a tarball of program and libraries, for machines without a compiler: build/timers-*.tar.gz (for another
 #                  processor give it CC, too)
-# make deb         Debian packages, binary and source: build/deb
 # make fuzz        an hour of scripts, against a model of docs/formats.md (MINUTES=N)
 # make fuzz-loop   ten million random operations of timers_loop.h, against a model, under the sanitizers
 # make docs        counts lines for docs/proofs.md
@@ -85,9 +84,6 @@ uninstall:
 dist: all
 	tools/dist
 
-deb:
-	packages/deb
-
 fuzz: all
 	tools/fuzz/run ./timers $(MINUTES)
 
@@ -102,4 +98,4 @@ clean:
 	rm -rf crates/*/out build timers tools/install/*.[13]
 	@for folder in $$(grep -v '^#' neighbours); do ! grep -qs '^clean:' $$folder/Makefile || $(MAKE) -C $$folder clean; done
 
-.PHONY: FORCE all lib pages run test check gate prove try generate install uninstall dist deb fuzz fuzz-loop docs clean
+.PHONY: FORCE all lib pages run test check gate prove try generate install uninstall dist fuzz fuzz-loop docs clean

@@ -104,6 +104,12 @@ EOT
     cut -d' ' -f1,2 <<< "$rooms" | "$@" | diff <(cut -d' ' -f3 <<< "$rooms") -
 }
 
+# times_said FILE: how often it says that the licence of parts is not known
+times_said() {
+    echo "$1" >&2
+    sed 's/^[#* ]*//' "$1" | tr -s ' \n' ' ' | grep -oF "the compiled code has parts of the toolchain's own libraries, whose licence is not known" | wc -l
+}
+
 # says TEXT COMMAND..: it fails, and says this
 says() {
     run "${@:2}"

@@ -33,7 +33,7 @@ setup_file() {
     done
 }
 
-# The expression at the head of timers.c; Debian's names are others.
+# The expression at the head of timers.c.
 @test "the library's licence is one expression in the code and in each package" {
     licence=$(licence)
     [[ $licence == *LicenseRef-Rattle-libraries* ]]
@@ -42,18 +42,12 @@ setup_file() {
         grep -qF "$licence" "$file"
     done
     grep -qF "$licence AND Unicode-3.0" generated/program.c
-    sed -e 's/MIT/Expat/g; s/3-Clause/3-clause/; s/ AND / and /g; s/ OR / or /; s/.*/License: & and Unicode-3.0/' <<< "$licence" > "$work/debian"
-    grep -qxFf "$work/debian" packages/debian/copyright
 }
 
-sentence="the compiled code has parts of the toolchain's own libraries, whose licence is not known"
 @test "where people look they read that the licence of parts is not known" {
-    said() { sed -e 's/^[#* ]*//' "$1" | tr -s ' \n' ' ' | grep -qF "$sentence"; }
-    for file in README.md generated/README.md tools/install/dist_readme packages/debian/copyright docs/embedding.md CMakeLists.txt meson.build; do
-        echo "$file"
-        said "$file"
+    for file in README.md generated/README.md tools/install/dist_readme docs/embedding.md CMakeLists.txt meson.build; do
+        [ "$(times_said "$file")" -gt 0 ]
     done
-    [ "$(sed 's/^ *//' packages/debian/control | tr -s ' \n' ' ' | grep -oF "$sentence" | wc -l)" -eq "$(grep -c ^Package: packages/debian/control)" ]
 }
 
 # The lines of a file that are the toolchain's, and all that are in functions.

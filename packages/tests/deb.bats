@@ -44,6 +44,14 @@ EOT
     grep "only a clone" <<< "$output"
 }
 
+# Debian's names of licences are others than those at the head of timers.c.
+@test "the copyright file has the library's licence, and where people look they read that that of parts is not known" {
+    sed -e 's/MIT/Expat/g; s/3-Clause/3-clause/; s/ AND / and /g; s/ OR / or /; s/.*/License: & and Unicode-3.0/' <<< "$(licence)" > "$work/licence"
+    grep -qxFf "$work/licence" packages/debian/copyright
+    [ "$(times_said packages/debian/copyright)" -gt 0 ]
+    [ "$(times_said packages/debian/control)" -eq "$(grep -c ^Package: packages/debian/control)" ]
+}
+
 @test "packages are made, source and binary" {
     needs_debian
     packages/deb
