@@ -162,7 +162,7 @@ for line in sys.stdin:
     copy_tree "$work/tree"
     new_venv installed
     CFLAGS=-O0 install_in installed "$work/tree/bindings/python"
-    printf '240: egg\n300: tea\n' | diff - <(cd / && "$work/installed/bin/python" "$OLDPWD/examples/c/first.py")
+    printf '240: egg\n300: tea\n' | diff - <(cd / && "$work/installed/bin/python" "$OLDPWD/bindings/python/first.py")
 }
 @test "the wheel names what it is for and what it is, and is removed again" {
     [ -e "$work/installed" ] || skip "nothing was installed"
