@@ -9,7 +9,8 @@ needs() {
     done
 }
 
-# neighbours: their folders; of_neighbours FILE: the files of this name in those that are there; a_neighbour_is_gone: one was deleted
+# neighbours: their folders; of_neighbours FILE: the files of this name in those that are there; a_neighbour_is_gone: one was
+# deleted
 neighbours() { grep -v '^#' neighbours; }
 of_neighbours() {
     local folder
@@ -77,8 +78,8 @@ replays() {
     for trace; do runs < "$trace"; done
 }
 
-# has_rooms COMMAND..: it reads lines with the most timers and the most requests of a desk, and prints the room that it needs: for a
-# word to each, and one more
+# has_rooms COMMAND..: it reads lines with the most timers and the most requests of a desk, and prints the room that it needs:
+# for a word to each, and one more
 has_rooms() {
     local rooms
     rooms=$(cat << 'EOT'

@@ -16,8 +16,8 @@ at_most() {
     [ "$2" -gt 0 ]
 }
 
-# linked FLAGS: links bare.c, over the library or other timers, by $compiler and $linker. Sets `bytes`, its code and constants, and
-# `ram`, its data.
+# linked FLAGS: links bare.c, over the library or other timers, by $compiler and $linker. Sets `bytes`, its code and constants,
+# and `ram`, its data.
 linked() {
     local bare="-ffreestanding -ffunction-sections -fdata-sections $small $*"
     $compiler $bare -c -o "$work/timers.o" generated/timers.c

@@ -1,6 +1,6 @@
 #!/usr/bin/env bats
-# That the benchmarks measure work that was done, and what docs/embedded.md says of other timers on a small machine. The library is
-# that which `make` has built.
+# That the benchmarks measure work that was done, and what docs/embedded.md says of other timers on a small machine. The
+# library is that which `make` has built.
 # shellcheck disable=SC2034,SC2086,SC2154
 load ../../tests/helpers
 load ../../tests/small

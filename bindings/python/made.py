@@ -7,8 +7,8 @@ from made.tables import ENDS, TABLES, table_of_tables
 
 # Those with a list; and wheel.h, of which lists are made.
 FILES = """
-README.md extension/_timers.c extension/common.h extension/wheel.h src/timers/__init__.py src/timers/_timers.pyi src/timers/desk.py
-tests/desk_test.py tests/timers_test.py
+README.md extension/_timers.c extension/common.h extension/wheel.h src/timers/__init__.py src/timers/_timers.pyi
+src/timers/desk.py tests/desk_test.py tests/timers_test.py
 """.split()
 NAMES_OF_TIMERS = {**TABLES, **ENDS, **TIMERS}
 NAMES_OF_DESKS = {**TABLES, **DESKS, **KINDS}
