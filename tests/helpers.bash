@@ -1,4 +1,4 @@
-# shellcheck shell=bash disable=SC2034,SC2154
+# shellcheck shell=bash disable=SC2034,SC2086,SC2154
 # What the tests of this folder share.
 
 # needs TOOL..: skips the test if the machine lacks one of them

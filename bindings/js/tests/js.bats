@@ -1,5 +1,6 @@
 #!/usr/bin/env bats
 # The package for JavaScript: as npm packs and installs it, in node and in a browser. Nothing needs a registry.
+# shellcheck disable=SC2154
 load ../../../tests/helpers
 
 setup_file() {

@@ -1,7 +1,7 @@
 #!/usr/bin/env bats
 # The package for Python: its types, its event loop, its hints, and what pip makes of it. Nothing needs a registry.
 # PYTHON is the interpreter, by default python3.
-# shellcheck disable=SC2030,SC2031
+# shellcheck disable=SC2030,SC2031,SC2154
 load ../../../tests/helpers
 
 setup_file() {

@@ -1,7 +1,7 @@
 #!/usr/bin/env bats
 # The crate, as cargo builds, tests, packs and installs it. It compiles the library from generated/. No command needs a network or
 # the toolchain. LIB is where the libraries are that `make` built, by default build/lib.
-# shellcheck disable=SC2030,SC2031,SC2154
+# shellcheck disable=SC2030,SC2031,SC2143,SC2154
 load ../../../tests/helpers
 
 setup_file() {
