@@ -9,6 +9,12 @@ needs() {
     done
 }
 
+# needs_built FILE..: what make builds
+needs_built() {
+    local file
+    for file; do [ -e "$file" ] || { echo "$file was not built: make" >&2 && return 1; }; done
+}
+
 # neighbours: their folders; of_neighbours FILE: the files of this name in those that are there; a_neighbour_is_gone: one was
 # deleted
 neighbours() { grep -v '^#' neighbours; }

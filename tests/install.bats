@@ -6,10 +6,7 @@ load helpers
 
 setup_file() {
     cd "$BATS_TEST_DIRNAME/.." || return
-    if ! [ -e timers ] || ! [ -e build/lib/libtimers.a ]; then
-        echo "./timers and build/lib were not built: make" >&2
-        return 1
-    fi
+    needs_built timers build/lib/libtimers.a
     hide_toolchain
     unset PREFIX BINDIR LIBDIR INCLUDEDIR DATADIR MANDIR DOCDIR DESTDIR PKG_CONFIG_PATH
     version=$(cat tools/install/version)

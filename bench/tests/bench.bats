@@ -8,6 +8,7 @@ load ../../tests/small
 setup_file() {
     cd "$BATS_TEST_DIRNAME/../.." || return
     export work=$BATS_FILE_TMPDIR page=docs/embedded.md
+    needs_built build/lib/libtimers.a
 }
 setup() { set -o pipefail; }
 

@@ -10,6 +10,7 @@ setup_file() {
     unset PREFIX BINDIR LIBDIR INCLUDEDIR DATADIR MANDIR DOCDIR DESTDIR
     export top=$PWD work=$BATS_FILE_TMPDIR lib=${LIB:-$PWD/build/lib}
     export library=$lib/libtimers.a
+    needs_built "$library"
     # The C of a packed crate is compiled as users compile it; elsewhere it is not optimized.
     export CARGO_TARGET_DIR=$work/cargo CFLAGS=-O0
 }
