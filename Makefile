@@ -8,18 +8,9 @@
 # make uninstall   removes what it installed
 # make dist        a tarball of program and libraries, for machines without a compiler: build/timers-*.tar.gz (for another
 #                  processor give it CC, too)
-# make deb         Debian packages, binary and source: build/deb
 # make fuzz        an hour of scripts, against a model of docs/formats.md (MINUTES=N)
 # make fuzz-loop   ten million random operations of timers_loop.h, against a model, under the sanitizers
-# make bench-scale measures an operation with 1,000 to 10,000,000 timers pending (bench/build/results)
-# make bench-tail  measures how long single ticks and starts take (bench/build/results); make measure-tail is for the
-#                  repository: it writes bench/results/tail.csv and docs/tail.svg (measure-scale and measure-next as well)
-# make bench-next  measures turns of an event loop that asks for its next deadline (bench/build/results)
-# make bench-desk  measures client threads over a desk, C++ rings, mutexes and wheels of their own (bench/build/results)
-# make bench-lines measures a desk's calls in one thread, its flushes, and the clients of timers threads, beside C++
-# make ports       libuv, nginx and lwIP on these timers: their tests, traces, memory, instructions (ports/README.md)
-# make docs        makes docs/pages/lessons.js from the scripts of examples/ and docs/formats.md, and
-#                  counts lines for docs/proofs.md (tools/page_program makes docs/pages/program.js, with clang for wasm32)
+# make docs        counts lines for docs/proofs.md
 # make clean       removes what make built
 #
 # CC is the C compiler, by default cc: CC=aarch64-linux-gnu-gcc builds for another processor. CPPFLAGS, CFLAGS and LDFLAGS are
@@ -30,9 +21,7 @@
 # make prove       proves program and libraries, writes what they compile to into generated/, and builds from that
 # make try         plays a script with an unproved build that has checks at run time (SCRIPT=, ARGUMENTS=)
 # make generate    as make prove, and builds nothing
-# make bench       measures the wheels against others (bench/README.md)
 
-KIT = $(dir $(shell rt doc))
 SCRIPT = examples/retransmission
 ARGUMENTS = play
 MINUTES = 60
@@ -95,23 +84,6 @@ uninstall:
 dist: all
 	tools/dist
 
-deb:
-	tools/deb
-
-bench: lib
-	bench/product
-	$(MAKE) -C bench run PRODUCT=$(CURDIR)/bench/build/product/object PRODUCT_HEAP=$(KIT)c/liblibc_c.a \
-	    TIMERS_C=$(CURDIR)/build/lib/libtimers.a OPTIONS="$(OPTIONS)"
-	$(MAKE) bench-lines
-
-bench-lines: timers
-
-bench-scale bench-tail bench-next bench-desk bench-lines: bench-%: lib
-	$(MAKE) -C bench $* TIMERS_C=$(CURDIR)/build/lib/libtimers.a RUN_OPTIONS="$(RUN_OPTIONS)"
-
-measure-scale measure-tail measure-next: lib
-	$(MAKE) -C bench $@ TIMERS_C=$(CURDIR)/build/lib/libtimers.a
-
 fuzz: all
 	tools/fuzz/run ./timers $(MINUTES)
 
@@ -119,15 +91,11 @@ fuzz-loop: lib
 	$(CC) -std=c11 -O1 -g -fsanitize=address,undefined -fno-sanitize-recover=all -Iinclude -o build/loop_model tests/c/loop_model.c build/lib/libtimers.a
 	for seed in 1 2 3 4 5 6 7 8 9 10; do build/loop_model 1000000 $$seed || exit 1; done
 
-docs: all
-	TIMERS=$(CURDIR)/timers tools/docs_pages docs
+docs:
 	tools/line_counts docs/proofs.md
-
-ports:
-	ports/run $(PORTS)
 
 clean:
 	rm -rf crates/*/out build timers tools/install/*.[13]
-	$(MAKE) -C bench clean
+	@for folder in $$(grep -v '^#' neighbours); do ! grep -qs '^clean:' $$folder/Makefile || $(MAKE) -C $$folder clean; done
 
-.PHONY: FORCE all lib pages run test check gate prove try generate install uninstall dist deb bench bench-scale bench-tail bench-next bench-desk bench-lines measure-scale measure-tail measure-next fuzz fuzz-loop docs ports clean
+.PHONY: FORCE all lib pages run test check gate prove try generate install uninstall dist fuzz fuzz-loop docs clean

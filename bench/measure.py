@@ -2,7 +2,7 @@
 """Measures the tables of results/, on a machine that does nothing else: some 25 minutes in all.
 
     bench/build_all && python3 bench/measure.py [PART..]      all parts, or some of them
-    python3 bench/plots.py                                    then draws the plots of docs/
+    python3 bench/plots.py                                    then draws the plots
 
 results/settings.csv gets the machine, the date, and how many cores other processes and the host's neighbours took.
 Status 1: a part failed. Status 2: wrong arguments, or bench/build lacks a program.

@@ -1,7 +1,7 @@
 #!/usr/bin/python3
-"""Draws the plots of docs/ from the tables of results/: bench.svg, scale.svg, tail.svg and lines.svg.
+"""Draws the plots from the tables of results/: bench.svg, scale.svg, tail.svg and lines.svg.
 
-    plots.py [FOLDER]      by default docs/. It needs Debian's python3-matplotlib
+    plots.py [FOLDER]      by default bench/. It needs Debian's python3-matplotlib
 
 Each picture has one message, which is its title, and the numbers in it are taken from the tables. It has the colours of light
 and dark pages, and a marker shape for each series, which is named where it stands. It is as narrow as a phone, so that its
@@ -218,7 +218,7 @@ def tail_row(axes, at, row, style):
 def tail(folder):
     rows = {(row["load"], row["facility"]): row for row in figures.read("tail") if row.get("timers") == "1000000"}
     if not all((load, facility) in rows for load in TAIL_LOADS for facility in list(TAIL)[:2]):
-        figures.fail("plots.py: results/tail.csv lacks a load of the library: run make measure-tail")
+        figures.fail("plots.py: results/tail.csv lacks a load of the library: run make -C bench measure-tail")
     figure, all_axes = plt.subplots(len(TAIL_LOADS), 1, figsize=(WIDTH, 9), layout="constrained", sharex=True)
     for axes, (load, title) in zip(all_axes, TAIL_LOADS.items()):
         shown = [facility for facility in TAIL if (load, facility) in rows]
@@ -265,7 +265,7 @@ def lines(folder):
 
 
 def main():
-    folder = sys.argv[1] if len(sys.argv) > 1 else os.path.join(figures.HERE, "..", "docs")
+    folder = sys.argv[1] if len(sys.argv) > 1 else figures.HERE
     if not os.path.isdir(folder):
         figures.fail(__doc__, 2)
     for plot in (bench, scale, lines, tail):

@@ -131,7 +131,7 @@
  *
  *     The calls of TIMERS_SMOOTH take more instructions than those of TIMERS_WIDE: with 10,000 timers a start 1.4 times
  *     as many, a restart 1.4, a stop 1.2, a take 2.2, and a tick at which nothing expires or moves 1.1 times
- *     (bench/README.md). timers_wakeup, timers_next and timers_find_next look at one wheel after another, until none
+ *     (measured). timers_wakeup, timers_next and timers_find_next look at one wheel after another, until none
  *     above can have an earlier deadline. timers_wakeup walks no bucket, the others at most one in each wheel. None of
  *     them keeps what it found. So each call of timers_find_next walks, unless a timer waits or expires before the next
  *     multiple of a revolution. With 10,000 timers in the bucket it takes 260,000 instructions, and with TIMERS_WIDE

@@ -3,32 +3,18 @@
 # there). The page's numbers are bounds for Debian 12's compilers, but for those of memory, which hold everywhere.
 # shellcheck disable=SC2034,SC2086
 load helpers
+load small
 
 setup_file() {
     cd "$BATS_TEST_DIRNAME/.." || return
     export work=$BATS_FILE_TMPDIR page=docs/embedded.md
 }
 setup() { set -o pipefail; }
-small="-std=c11 -Wall -Wextra -Werror -pedantic -DTIMERS_NO_MALLOC -DTIMERS_NO_DESK -Iinclude"
-m4="arm-none-eabi-gcc -mcpu=cortex-m4 -mthumb --specs=rdimon.specs -T tests/c/mps2.ld"
-needs_m4() { needs arm-none-eabi-gcc qemu-system-arm; }
-# on_m4 PROGRAM WORD..: runs it
-on_m4() { timeout 60 qemu-system-arm -M mps2-an386 -cpu cortex-m4 -nographic -semihosting $counting -kernel "$1" -append "${*:2}"; }
-
 # by COMPILER: names the library's object, which is made once
 by() {
     local object=$work/${1%% *}.o
     [ -e "$object" ] || $1 $small -c -o "$object" generated/timers.c
     echo "$object"
-}
-
-# rows HEADING: those of the page's table below the heading, with a space between two cells, and without commas
-rows() { sed -n "/^## $1\$/,/^## /p" "$page" | sed -nE 's/^\| (.*) \|$/\1/p' | tr -d '`,' | sed 's/ | / /g'; }
-# at_most BOUND NUMBER NAME
-at_most() {
-    echo "$3: at most $1, and it is $2"
-    [ "$2" -le "$1" ]
-    [ "$2" -gt 0 ]
 }
 
 @test "the library without malloc calls memcpy and memset alone, and needs no header of C" {
@@ -119,20 +105,6 @@ no_more_stack() {
 @test "no call takes more stack than the page says" { no_more_stack 1; }
 @test "nor without the smooth wheel" { no_more_stack 2 -DTIMERS_NO_SMOOTH; }
 
-# linked FLAGS: links bare.c, with the library or as a peer, by $compiler and $linker. Sets `bytes`, its code and constants, and
-# `ram`, its data.
-linked() {
-    local bare="-ffreestanding -ffunction-sections -fdata-sections $small $*"
-    $compiler $bare -fbuiltin -c -o "$work/timers.o" generated/timers.c
-    $compiler $bare -fno-builtin -c -o "$work/bare.o" tests/c/bare.c
-    $linker -nostdlib -Wl,--gc-sections,-e,main,--unresolved-symbols=ignore-all -o "$work/bare" "$work/timers.o" "$work/bare.o" $division
-    read -r bytes ram < <(size "$work/bare" | awk 'NR == 2 { print $1, $2 + $3 }')
-}
-by_gcc() {
-    needs arm-none-eabi-gcc size
-    compiler="arm-none-eabi-gcc -mcpu=cortex-m4 -mthumb" division=-lgcc
-    linker=$compiler
-}
 by_clang() {
     needs clang ld.lld size
     linker="clang --target=thumbv7em-none-eabi -mcpu=cortex-m4 -fuse-ld=lld" division=
@@ -210,11 +182,6 @@ EOT
     done
 }
 
-# instructions PROGRAM WORD..: those of a run, each a line of qemu's log
-instructions() {
-    counting="-singlestep -d exec,nochain -D $work/log" on_m4 "$@"
-    grep -c '^Trace' "$work/log"
-}
 # takes NAME [HELD]: those of the operation, by the difference of 100 and 228 of them
 takes() {
     local few many
@@ -236,36 +203,6 @@ takes() {
     done
     bound=$(sed -nE 's/.* each in ([0-9]+) instructions.*/\1/p' "$page")
     at_most "$bound" "$(($(takes start+move) - taken))" "a move, which follows a start"
-}
-
-# The peers of the page's list, by their macros.
-peers='SET_AT timers.h
-LIST a sorted list
-HEAP_ORDERED a heap with four children in order
-WHEEL wheels in your structs'
-# pushes HELD: the instructions of a push back, by the difference of 64 and 576 of them
-pushes() {
-    local few many
-    few=$(instructions "$work/few" 64 "$1")
-    many=$(instructions "$work/few" 576 "$1")
-    echo $(((many - few) / 512))
-}
-@test "no push back takes more than the page says, of this library or of its peers, nor do these take more code and data" {
-    needs_m4
-    by_gcc
-    while read -r peer name; do
-        read -r -a said < <(rows "Or a sorted list" | sed -n "s/^$name //p")
-        $m4 -Os -std=c11 -Wall -Wextra -Werror -pedantic -Iinclude -D$peer -DTIMERS_NO_DESK -DTIMERS_NO_SMOOTH -o "$work/few" tests/c/few.c generated/timers.c
-        none=$(pushes 0)
-        for at in 0 1 2 3; do
-            held=$((at < 3 ? 8 * 4 ** at : 1000))
-            at_most "${said[at]}" "$(($(pushes $held) - none))" "$name, $held"
-        done
-        [ $peer != SET_AT ] || continue
-        linked -Os -DPEER -D$peer
-        at_most "${said[4]}" "$bytes" "$name, code"
-        at_most "$((said[5] + said[6] + 4))" "$ram" "$name, data, with the program's own count"
-    done <<< "$peers"
 }
 
 @test "a program that has another header with the guard TIMERS_H gets this one" {

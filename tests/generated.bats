@@ -212,6 +212,23 @@ cmake_app() {
     cmake --build "$folder/build"
     prints_first "$folder/build/app"
 }
+@test "CMake builds and runs the first program in C++" {
+    needs cmake c++
+    mkdir "$work/cmake_cpp"
+    cat > "$work/cmake_cpp/CMakeLists.txt" << EOT
+cmake_minimum_required(VERSION 3.15)
+project(first LANGUAGES CXX)
+add_subdirectory($top timers)
+add_executable(first $top/examples/c/first.cpp)
+target_compile_features(first PRIVATE cxx_std_17)
+target_link_libraries(first PRIVATE timers::timers)
+add_custom_target(run COMMAND first)
+EOT
+    cmake -S "$work/cmake_cpp" -B "$work/cmake_cpp/build"
+    cmake --build "$work/cmake_cpp/build" --target run > "$work/cmake_cpp/out"
+    grep -x '2400: egg' "$work/cmake_cpp/out"
+    grep -x '3000: tea' "$work/cmake_cpp/out"
+}
 has_licences() {
     for name in generated/NOTICE LICENSE-MIT LICENSE-APACHE; do cmp "$name" "$1/$(basename "$name")"; done
 }
@@ -321,24 +338,6 @@ EOT
     [ ! -e "$work/failed" ]
 }
 
-sources="generated/timers.c include/timers.h"
-# builds_anew FILE SOURCES COMMAND..: in a copy of the tree, FILE has what each of SOURCES got after a first build
-builds_anew() {
-    local source name
-    export CFLAGS="-O0 -DTIMERS_NO_DESK"
-    [ -e "$work/copy" ] || copy_tree "$work/copy"
-    cd "$work/copy" || return
-    "${@:3}"
-    for source in $2; do
-        name=${source//[^a-z]/_}
-        run grep "anew_$name" $1
-        [ "$status" -eq 1 ]
-        printf '#ifndef OF_%s\n#define OF_%s\nstatic const char %s[] __attribute__((used)) = "anew_%s";\n#endif\n' $name $name $name $name >> "$source"
-        "${@:3}"
-        grep "anew_$name" $1
-    done
-    for source in $2; do cp "$top/$source" "$source"; done
-}
 # by_copies COMMAND..: with a compiler that only copies what it reads
 by_copies() {
     # shellcheck disable=SC2016
@@ -386,18 +385,10 @@ is_made_anew() {
     by_meson() { { [ -e build/meson ] || meson setup build/meson; } && ninja -C build/meson; }
     builds_anew build/meson/libtimers.a "$sources" by_meson
 }
-@test "so does cargo" {
-    needs_cargo
-    builds_anew "build/cargo/debug/build/timers-*/out/libtimers.a" "$sources" \
-        cargo build --offline --manifest-path bindings/rust/Cargo.toml --target-dir build/cargo
-}
 @test "two builds, in folders of their own, have the same bytes" {
     for folder in one another/one; do
         copy_tree "$work/twice/$folder"
         (cd "$work/twice/$folder" && CFLAGS=-O0 tools/lib "$work/twice/$folder/out")
-        ! /usr/bin/python3 -c 'import setuptools, wheel' || (cd "$work/twice/$folder/bindings/python" && export SOURCE_DATE_EPOCH=1700000000 &&
-            CFLAGS="-O0 -g0" /usr/bin/python3 -c 'from setuptools.build_meta import *; build_wheel("../../out"); build_sdist(".")' &&
-            tar -xf timers-*.tar.gz -C ../../out) # the archive itself has the time of its making
     done
     diff -r "$work/twice/one/out" "$work/twice/another/one/out"
 }

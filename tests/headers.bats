@@ -38,7 +38,6 @@ int main(void)
 EOT
     "$CC" $of_c -o "$work/version" "$work/version.c" "$lib/libtimers.a"
     awk -F. '{ number = $1 * 10000 + $2 * 100 + $3; print $0, number, number }' tools/install/version | diff - <("$work/version")
-    grep -Fx "version = \"$(cat tools/install/version)\"" bindings/rust/Cargo.toml
 }
 
 # The functions that the headers declare.
@@ -188,11 +187,6 @@ in_cpp() {
     done
 }
 # says TEXT COMMAND..: the command fails, and what it writes has the text
-says() {
-    run "${@:2}"
-    [ "$status" -ne 0 ]
-    grep -F -- "$1" <<< "$output"
-}
 @test "gcc has no warning about the headers" { in_c gcc; }
 @test "clang has no warning about the headers" { in_c clang; }
 @test "g++ has no warning about any header, and says which C++ they need" { in_cpp g++; }
@@ -262,31 +256,19 @@ EOT
 # The comment beside each misuse is part of what the compiler says. It reads what all have, the headers, once.
 @test "misuses in C++ don't compile" {
     needs "$CXX"
-    sed -n 's/^#.*if MISUSE == [0-9]* *\/\* \(.*\) \*\/$/\1/p' bindings/cpp/misuse.cpp > "$work/misuses"
+    sed -n 's/^#.*if MISUSE == [0-9]* *\/\* \(.*\) \*\/$/\1/p' tests/c/misuse.cpp > "$work/misuses"
     [ "$(wc -l < "$work/misuses")" -eq 18 ]
     for compiler in g++ clang++; do
         command -v "$compiler" || continue
         mkdir "$work/$compiler"
-        grep '^#include' bindings/cpp/misuse.cpp > "$work/$compiler/headers.hpp"
+        grep '^#include' tests/c/misuse.cpp > "$work/$compiler/headers.hpp"
         with_flags() { "$compiler" -std=c++17 -Werror -Wall -Wextra -Iinclude "$@"; }
         with_flags -x c++-header -o "$work/$compiler/headers.hpp.gch" "$work/$compiler/headers.hpp"
-        misuse() { with_flags -DMISUSE="$1" -include "$work/$compiler/headers.hpp" -fsyntax-only bindings/cpp/misuse.cpp; }
+        misuse() { with_flags -DMISUSE="$1" -include "$work/$compiler/headers.hpp" -fsyntax-only tests/c/misuse.cpp; }
         misuse 0
         number=0
         while read -r text; do says "$text" misuse $((++number)); done < "$work/misuses"
     done
-}
-@test "misuses in Rust don't compile" {
-    needs_cargo
-    CFLAGS=-O0 cargo build --quiet --offline --manifest-path "$rust" --target-dir "$work/cargo"
-    misuse() {
-        rustc --edition 2021 -A unexpected_cfgs --emit=metadata --extern "timers=$work/cargo/debug/libtimers.rlib" -o "$work/misuse" \
-            bindings/rust/tests/misuse/misuse.rs "$@"
-    }
-    misuse
-    sed -n 's/^ *#\[cfg(\([a-z_]*\))\] \/\/ \(.*\)$/\1 \2/p' bindings/rust/tests/misuse/misuse.rs > "$work/misuses"
-    [ "$(wc -l < "$work/misuses")" -eq 17 ]
-    while read -r name text; do says "$text" misuse --cfg "$name"; done < "$work/misuses"
 }
 
 # A line for each function of the headers that returns a status or a bool: which, its name, and a call that reads no result.

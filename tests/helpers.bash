@@ -1,4 +1,4 @@
-# shellcheck shell=bash disable=SC2034,SC2154
+# shellcheck shell=bash disable=SC2034,SC2086,SC2154
 # What the tests of this folder share.
 
 # needs TOOL..: skips the test if the machine lacks one of them
@@ -9,20 +9,23 @@ needs() {
     done
 }
 
-# needs_cargo: the crate for Rust, by its manifest $rust, without a network; skips the test without a Rust that is as new as the
-# crate needs it, or without the crate cc
-needs_cargo() {
-    { command -v rustc && cargo --version; } > /dev/null 2>&1 || skip "no cargo"
-    oldest=$(sed -n 's/^rust-version = "\(.*\)"$/\1/p' bindings/rust/Cargo.toml)
-    printf '%s\n' "$oldest" "$(rustc --version | cut -d ' ' -f 2)" | sort -CV || skip "rustc is older than $oldest"
-    rust=$work/rust/Cargo.toml
-    if [ -e /usr/share/cargo/registry ]; then # Debian's crates
-        export CARGO_HOME=$work/cargo_home
-        mkdir -p "$CARGO_HOME"
-        printf '[source.crates-io]\nreplace-with = "debian"\n[source.debian]\ndirectory = "/usr/share/cargo/registry"\n' > "$CARGO_HOME/config.toml"
-    fi
-    [ -e "$rust" ] || tools/crate "$work/rust"
-    cargo fetch --quiet --offline --manifest-path "$rust" 2> /dev/null || skip "no crate cc: librust-cc-dev"
+# needs_built FILE..: what make builds
+needs_built() {
+    local file
+    for file; do [ -e "$file" ] || { echo "$file was not built: make" >&2 && return 1; }; done
+}
+
+# neighbours: their folders; of_neighbours FILE: the files of this name in those that are there; a_neighbour_is_gone: one was
+# deleted
+neighbours() { grep -v '^#' neighbours; }
+of_neighbours() {
+    local folder
+    for folder in $(neighbours); do [ ! -e "$folder/$1" ] || echo "$folder/$1"; done
+}
+a_neighbour_is_gone() {
+    local folder
+    for folder in $(neighbours); do [ -d "$folder" ] || return 0; done
+    return 1
 }
 
 # From here on no command sees the toolchain.
@@ -33,31 +36,10 @@ hide_toolchain() {
     export PATH=$BATS_FILE_TMPDIR/bin:$PATH
 }
 
-# copy_tree FOLDER: the files of the repository as they stand, without what was built
+# copy_tree FOLDER: the files of the repository as they stand, without what was built and without those that were deleted
 copy_tree() {
     mkdir -p "$1"
-    git ls-files -z --cached --others --exclude-standard | xargs -0 cp -pP --parents -t "$1"
-}
-
-# python_headers: where Python.h of $python is
-python_headers() { "${python:-python3}" -c 'import sysconfig; print(sysconfig.get_paths()["include"])'; }
-# python_package FOLDER FLAGS..: the package for Python, in this folder
-python_package() {
-    local shared=-shared
-    [ "$(uname)" != Darwin ] || shared="-bundle -undefined dynamic_lookup"
-    mkdir -p "$1/timers"
-    cp bindings/python/src/timers/{*.py,*.pyi,py.typed} "$1/timers"
-    # shellcheck disable=SC2086
-    cc $shared -std=c11 -fPIC -fvisibility=hidden -O2 $CFLAGS "${@:2}" -Igenerated -Iinclude -I"$(python_headers)" \
-        -o "$1/timers/_timers.abi3.so" bindings/python/extension/_timers.c
-}
-# needs_python_package: the package in $work/python; skips the test if it can't be compiled here
-needs_python_package() {
-    local python=${python:-python3}
-    needs "$python" cc
-    [ -e "$(python_headers)/Python.h" ] || skip "no Python.h for $python: python3-dev"
-    "$python" -c 'import sys; sys.exit(sys.version_info < (3, 11))' || skip "$python is older than 3.11"
-    [ -e "$work/python" ] || python_package "$work/python"
+    comm -z -23 <(git ls-files -zco --exclude-standard | sort -zu) <(git ls-files -zd | sort -z) | xargs -0 cp -pP --parents -t "$1"
 }
 
 # What follows builds with $CC or $CXX over $library, files or an archive, into the folder $work.
@@ -101,6 +83,69 @@ replays() {
     local trace
     for trace; do runs < "$trace"; done
 }
+
+# has_rooms COMMAND..: it reads lines with the most timers and the most requests of a desk, and prints the room that it needs:
+# for a word to each, and one more
+has_rooms() {
+    local rooms
+    rooms=$(cat << 'EOT'
+0 0 1
+0 1 2
+1 0 2
+50 8 59
+4294967295 4294967296 8589934592
+18446744073709551613 1 18446744073709551615
+1 18446744073709551613 18446744073709551615
+9223372036854775807 9223372036854775807 18446744073709551615
+18446744073709551614 0 18446744073709551615
+0 18446744073709551615 18446744073709551615
+18446744073709551614 1 18446744073709551615
+1 18446744073709551614 18446744073709551615
+18446744073709551615 1 18446744073709551615
+18446744073709551615 9 18446744073709551615
+9 18446744073709551615 18446744073709551615
+9223372036854775808 9223372036854775808 18446744073709551615
+18446744073709551615 18446744073709551615 18446744073709551615
+EOT
+)
+    cut -d' ' -f1,2 <<< "$rooms" | "$@" | diff <(cut -d' ' -f3 <<< "$rooms") -
+}
+
+# times_said FILE: how often it says that the licence of parts is not known
+times_said() {
+    echo "$1" >&2
+    sed 's/^[#* ]*//' "$1" | tr -s ' \n' ' ' | grep -oF "the compiled code has parts of the toolchain's own libraries, whose licence is not known" | wc -l
+}
+
+# says TEXT COMMAND..: it fails, and says this
+says() {
+    run "${@:2}"
+    [ "$status" -ne 0 ]
+    grep -F -- "$1" <<< "$output"
+}
+
+# What builds of the library are made of.
+sources="generated/timers.c include/timers.h"
+# builds_anew FILE SOURCES COMMAND..: in a copy of the tree, FILE has what each of SOURCES got after a first build
+builds_anew() {
+    local source name
+    export CFLAGS="-O0 -DTIMERS_NO_DESK"
+    [ -e "$work/copy" ] || copy_tree "$work/copy"
+    cd "$work/copy" || return
+    "${@:3}"
+    for source in $2; do
+        name=${source//[^a-z]/_}
+        run grep "anew_$name" $1
+        [ "$status" -eq 1 ]
+        printf '#ifndef OF_%s\n#define OF_%s\nstatic const char %s[] __attribute__((used)) = "anew_%s";\n#endif\n' $name $name $name $name >> "$source"
+        "${@:3}"
+        grep "anew_$name" $1
+    done
+    for source in $2; do cp "$top/$source" "$source"; done
+}
+
+# licence: of timers.c, the expression at its head
+licence() { sed -n '2s/.*SPDX-License-Identifier: \(.*\) \*\//\1/p' generated/timers.c; }
 
 # runs ARGUMENTS..: the program that was built last, on another processor by $emulator
 runs() {

@@ -6,10 +6,7 @@ load helpers
 
 setup_file() {
     cd "$BATS_TEST_DIRNAME/.." || return
-    if ! [ -e timers ] || ! [ -e build/lib/libtimers.a ]; then
-        echo "./timers and build/lib were not built: make" >&2
-        return 1
-    fi
+    needs_built timers build/lib/libtimers.a
     hide_toolchain
     unset PREFIX BINDIR LIBDIR INCLUDEDIR DATADIR MANDIR DOCDIR DESTDIR PKG_CONFIG_PATH
     version=$(cat tools/install/version)
@@ -46,9 +43,11 @@ link lib/libtimers.so libtimers.so.${version%%.*}
 644 share/zsh/site-functions/_timers tools/install/completions/_timers
 644 share/fish/vendor_completions.d/timers.fish tools/install/completions/timers.fish
 644 share/doc/timers/NOTICE generated/NOTICE
-link share/timers/c/timers.c ../rust/c/timers.c
+644 share/timers/c/timers.c generated/timers.c
+644 share/timers/c/timers.h include/timers.h
+644 share/timers/c/timers_desk.h include/timers_desk.h
 EOT
-    for path in CHANGELOG.md LICENSE-APACHE LICENSE-MIT docs/{embedded,embedding,formats,platforms,porting,server,versions,walkthroughs,wheels}.md docs/pages/*; do
+    for path in CHANGELOG.md LICENSE-APACHE LICENSE-MIT docs/{embedded,embedding,formats,platforms,porting,server,versions,walkthroughs,wheels}.md; do
         echo "644 share/doc/timers/$path $path"
     done
     for path in include/*.h; do
@@ -59,10 +58,7 @@ EOT
             echo "link share/man/man3/$function.3 $page"
         done
     done
-    for path in bindings/rust/{Cargo.toml,README.md,build.rs,src/*}; do
-        echo "644 share/timers/${path#bindings/} $path"
-    done
-    for path in generated/timers.c include/timers{,_desk}.h; do echo "644 share/timers/rust/c/${path##*/} $path"; done
+    for path in $(of_neighbours installed); do DATADIR=share DOCDIR=share/doc/timers "$path" | awk '{ print $1, $3, $2 }'; done
     git ls-files examples | grep -v gitignore | while read -r path; do
         mode=644
         [ "$path" != examples/serve.py ] || mode=755
@@ -193,29 +189,6 @@ refused() {
     builds_with_the_shared_object "$work/prefix"
 }
 
-@test "installed: the crate for Rust" {
-    needs_cargo
-    mkdir -p "$work/app/src"
-    cp bindings/rust/examples/first.rs "$work/app/src/main.rs"
-    printf '[package]\nname = "app"\nversion = "1.0.0"\nedition = "2021"\n[dependencies]\ntimers = { path = "%s" }\n' "$work/prefix/share/timers/rust" \
-        > "$work/app/Cargo.toml"
-    chmod -R a-w "$work/prefix/share/timers/rust"
-    CFLAGS=-O0 cargo run --quiet --offline --manifest-path "$work/app/Cargo.toml" > "$work/out"
-    chmod -R u+w "$work/prefix/share/timers/rust"
-    printf '240: egg\n300: tea\n' | diff - "$work/out"
-}
-@test "installed: the crate over the shared object, by the configuration in its README" {
-    needs_cargo
-    cd "$work/app"
-    mkdir .cargo
-    sed -n '/^\[target/,/^```/p' "$work/prefix/share/timers/rust/README.md" | sed -e '/^```/d' -e "s|/usr/local/lib|$work/prefix/lib|" \
-        -e "s|x86_64-unknown-linux-gnu|$(rustc -vV | sed -n 's/^host: //p')|" > .cargo/config.toml
-    cargo build --quiet --offline
-    LD_LIBRARY_PATH=$work/prefix/lib ldd target/debug/app | grep "$work/prefix/lib/libtimers.so"
-    LD_LIBRARY_PATH=$work/prefix/lib target/debug/app > "$work/out"
-    printf '240: egg\n300: tea\n' | diff - "$work/out"
-}
-
 @test "make uninstall, in a tree in which nothing was built and after two installs, leaves what was there before" {
     in_tree install PREFIX="$work/prefix"
     in_clone uninstall PREFIX="$work/prefix"
@@ -247,7 +220,7 @@ refused() {
     folders=()
     for name in BINDIR LIBDIR INCLUDEDIR DATADIR MANDIR DOCDIR; do folders+=("$name=$work/apart/$name"); done
     in_tree install PREFIX="$work/apart/PREFIX" "${folders[@]}"
-    for path in BINDIR/timers LIBDIR/libtimers.a INCLUDEDIR/timers.hpp DATADIR/timers/rust/Cargo.toml MANDIR/man1/timers.1 \
+    for path in BINDIR/timers LIBDIR/libtimers.a INCLUDEDIR/timers.hpp DATADIR/timers/c/timers.h MANDIR/man1/timers.1 \
         MANDIR/man3/timers_start.3 DOCDIR/CHANGELOG.md; do
         echo "$path"
         [ -e "$work/apart/$path" ]

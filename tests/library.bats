@@ -1,5 +1,5 @@
 #!/usr/bin/env bats
-# The programs of examples/c, tests/c and tests/driver, and the wrappers, over the libraries in LIB, by default build/lib. CALLS
+# The programs of examples/c, tests/c and tests/driver over the libraries in LIB, by default build/lib. CALLS
 # is how many random calls a run makes; the driver makes twice as many over each table. tests/headers.bats has what needs no run,
 # tests/platforms other processors and systems.
 # shellcheck disable=SC2030,SC2031,SC2034,SC2086,SC2154
@@ -171,64 +171,12 @@ serves() {
     done
 }
 
-# over_lib WORD..: a command of cargo for the crate, over the archive in $lib in place of what its build script compiles
-over_lib() {
-    needs_cargo
-    target=target.$(rustc -vV | sed -n 's/^host: //p').timers
-    cargo "$1" --quiet --offline --manifest-path "$rust" --target-dir "$work/cargo" \
-        --config "$target.rustc-link-search=['$lib']" --config "$target.rustc-link-lib=['static=timers']" "${@:2}"
-}
-@test "random calls in Rust have the answers of C, and values come back" {
-    needs_cargo
-    needs_traces "$library"
-    TIMERS_TRACES=$made over_lib test --tests -- --include-ignored
-}
-
-# Room for a word to each timer and to each request, and one more. Python refuses what is above the last number.
-@test "the room that a desk needs is one sum in C++, Python and Rust, and does not wrap around" {
-    cat > "$work/rooms" << 'EOT'
-0 0 1
-0 1 2
-1 0 2
-50 8 59
-4294967295 4294967296 8589934592
-18446744073709551613 1 18446744073709551615
-1 18446744073709551613 18446744073709551615
-9223372036854775807 9223372036854775807 18446744073709551615
-18446744073709551614 0 18446744073709551615
-0 18446744073709551615 18446744073709551615
-18446744073709551614 1 18446744073709551615
-1 18446744073709551614 18446744073709551615
-18446744073709551615 1 18446744073709551615
-18446744073709551615 9 18446744073709551615
-9 18446744073709551615 18446744073709551615
-9223372036854775808 9223372036854775808 18446744073709551615
-18446744073709551615 18446744073709551615 18446744073709551615
-EOT
-    rooms() { cut -d' ' -f1,2 "$work/rooms" | "$@" | diff <(cut -d' ' -f3 "$work/rooms") -; }
+@test "the room that a desk needs is one sum in C++, and does not wrap around" {
     needs "$CXX"
     "$CXX" $of_cpp -x c++ -o "$work/program" - -x none $library << 'EOT'
 #include <iostream>
 #include <timers_desk.hpp>
 int main() { for (std::uint64_t t, r; std::cin >> t >> r; ) std::cout << timing::desk::config(1, t, r).room << "\n"; }
 EOT
-    rooms runs
-    CFLAGS=-O0 needs_python_package
-    PYTHONPATH=$work/python rooms python3 -B -c '
-import sys, timers.desk
-for line in sys.stdin:
-    try:
-        print(timers.desk.room_for(*map(int, line.split())))
-    except OverflowError:
-        print(2**64 - 1)'
-    over_lib build
-    rustc --edition 2021 -D warnings --extern "timers=$work/cargo/debug/libtimers.rlib" -o "$work/program" - << 'EOT'
-fn main() {
-    for line in std::io::stdin().lines() {
-        let numbers: Vec<u64> = line.unwrap().split(' ').map(|number| number.parse().unwrap()).collect();
-        println!("{}", timers::desk::Config::new(1, numbers[0], numbers[1]).room);
-    }
-}
-EOT
-    rooms "$work/program"
+    has_rooms runs
 }

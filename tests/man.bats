@@ -83,12 +83,14 @@ command_line() {
     done
 }
 
-# Each path that a page at the top, in docs/ or in bench/ links to is a file or folder here.
+# Each path that a page links to is a file or folder here, or of a neighbour that is not there.
 @test "links lead somewhere" {
-    lost=
+    lost='' gone='^$'
+    for folder in $(neighbours); do [ -d "$folder" ] || gone+="|^$folder/"; done
     while IFS=: read -r page link; do
-        [ -e "$(dirname "$page")/$link" ] || lost+=" $page:$link"
-    done < <(grep -oE '\]\([^)#]+' ./*.md docs/*.md bench/*.md ports/*.md generated/*.md | sed 's/](//' | grep -v ':https:')
+        path=$(realpath -ms --relative-to=. "$(dirname "$page")/$link")
+        [ -e "$path" ] || [[ $path/ =~ $gone ]] || lost+=" $page:$link"
+    done < <(git grep -oE '\]\([^)#]+' '*.md' | sed 's/](//' | grep -vE ':(https|mailto):')
     echo "no such file:$lost"
     [ -z "$lost" ]
 }

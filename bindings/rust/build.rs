@@ -9,7 +9,7 @@ fn source(name: &str, in_repository: &str) -> PathBuf {
     let packed = folder.join("c").join(name);
     let path = if packed.exists() { packed } else { folder.join("../..").join(in_repository).join(name) };
     if !path.exists() {
-        println!("cargo::error={} is not there: tools/crate makes the folder to pack", path.display());
+        println!("cargo::error={} is not there: bindings/rust/crate makes the folder to pack", path.display());
         std::process::exit(1);
     }
     println!("cargo::rerun-if-changed={}", path.display());

@@ -1,5 +1,5 @@
 /* A program without a C library, which starts, stops and takes timers in a static buffer. It is linked and not run: its size is
- * what the library takes with --gc-sections. With PEER they are those of bench/peers.h that another macro chooses. */
+ * what the library takes with --gc-sections. With TIMERS they are those of that header. */
 #include <stdbool.h>
 #include <stddef.h>
 #include <stdint.h>
@@ -25,10 +25,10 @@ void *memset(void *to, int value, size_t size)
 	return to;
 }
 
-#ifdef PEER
+#ifdef TIMERS
 #include <stdlib.h>
 
-#include "../../bench/peers.h"
+#include TIMERS
 
 int main(void)
 {

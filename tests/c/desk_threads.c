@@ -6,7 +6,7 @@
  * With `mixed` about an eighth of the timers is stopped, and an eighth restarted. With `deaf` client 0 sends as much as
  * it can but reads nothing until all others are done. It stops no other, and gets all its words then. Prints how many
  * words the clients received, how many of each kind, and how long it took. At the end each client's words are ended, and
- * it has read them all. bench/desk_threads.c times such threads. With -DREFUSE five of six allocations of the owner are
+ * it has read them all. With -DREFUSE five of six allocations of the owner are
  * refused while the threads work, and no call of a client allocates. */
 #define _POSIX_C_SOURCE 200809L
 #include <inttypes.h>

@@ -1,34 +1,16 @@
-"""Calls: those of C are declared in include/, and those of Python and JavaScript are read in the code of their wrappers."""
+"""Calls: those of C, as include/ declares them."""
 import re
 
 from formats import costs
-from made.forms import markdown, read
+from made.forms import read
 
 CALL = re.compile(r"^TIMERS_(?:CALL|CHECKED)\n([^;(]+?)(\w+)\(([^;]*)\);", re.MULTILINE)
-OF_RUST = {"void": "", "bool": "bool", "uint64_t": "u64", "uint32_t": "u32", "size_t": "usize", "enum timers_status": "c_uint",
-           "enum timers_desk_status": "c_uint", "enum timers_line_status": "c_uint", "struct timers_handle": "Handle",
-           "struct timers": "Held", "struct timers_expired": "Expired", "struct timers_counters": "Counts",
-           "struct timers_desk": "RawDesk", "struct timers_line": "RawLine", "struct timers_word": "RawWord",
-           "struct timers_desk_config": "RawConfig"}
 
 
 def calls(header):
     """The functions that a header declares: what each returns, its name, and its parameters."""
     found = CALL.findall(read(f"include/{header}"))
     return [(of.strip(), name, re.split(r",\s*", parameters)) for of, name, parameters in found]
-
-
-def in_rust(header, visible):
-    """The functions of a header, as Rust declares them. What has a pointer to a function or a text is left to the crate."""
-    def parameter(text):
-        of, pointer, name = re.fullmatch(r"([\w ]+?) ?(\*?)(\w+)", text).groups()
-        kind = OF_RUST[of.removeprefix("const ")]
-        return f"{name}: {('*const ' if of.startswith('const ') else '*mut ') if pointer else ''}{kind}"
-
-    for of, name, parameters in calls(header):
-        if of in OF_RUST and not any("(" in text for text in parameters) and parameters != ["void"]:
-            front = f"    {visible}fn {name}({', '.join(map(parameter, parameters))})"
-            yield f"{front}{f' -> {OF_RUST[of]}' if OF_RUST[of] else ''};"
 
 
 def exported():
@@ -83,55 +65,7 @@ def costs_of_reads():
             yield f"\tCOST({line}" if says.startswith("constant") else f"\tWALK({name}, waiting(), {call}"
 
 
-OF_PYTHON = {"action": "_T", "handle": "Handle | None", "run": "Callable[[int, int, _T], object] | None"}
-
-
-def methods_in_python():
-    """The methods of Python's Timers in the extension: name, result and signature, and lines of C with the docstring."""
-    form = r'^\t\{ "(\w+)", .*, /\* -> (.*) \*/\n\t  "\1\(\$(.*)\)\\n--\\n\\n"\n((?:\t  ".*\n)+)'
-    return re.findall(form, read("bindings/python/extension/wheel.h"), re.MULTILINE)
-
-
-def rows_of_python():
-    """The methods, and the first paragraph of each docstring."""
-    for name, _, signature, lines in methods_in_python():
-        text = "".join(re.findall(r'"(.*)"', lines)).partition(r"\n\n")[0].replace(r"\n", " ")
-        given = [word for word in re.findall("[^ ,]+", signature)[1:] if word != "/"]
-        yield [f"`{name}({', '.join(given)})`", text]
-
-
-def hints_of_calls():
-    """The methods, with hints. Other parameters are numbers."""
-    def hint(found):
-        return f", {found[1]}: {OF_PYTHON.get(found[1], 'SupportsIndex')}{' = ' * bool(found[2])}"
-
-    for name, result, signature, _ in methods_in_python():
-        hinted = re.sub(r", (\w+)(=?)", hint, signature)
-        yield f"    def {name}({'self' if hinted == 'self, /' else hinted}) -> {result}: ..."
-    yield ""
-
-
-def methods_in_javascript():
-    """The methods and numbers of JavaScript's Timers, by the comments in index.js: the text, the type and the name."""
-    form = r"^  /\*\* (?:(.*)\n   \* )?@type \{(.*)\} \*/\n  (?:get |\*)?(\w+)\("
-    return re.findall(form, read("bindings/js/index.js"), re.MULTILINE)
-
-
-def calls_in_javascript():
-    for text, of, name in methods_in_javascript():
-        yield from [f"  /** {text} */"] * bool(text)
-        yield f"  {name}{'): '.join(of.rsplit(') => ', 1))};" if of.startswith("(") else f"  readonly {name}: {of};"
-
-
-def rows_of_javascript():
-    for text, of, name in methods_in_javascript():
-        given = ", ".join(re.findall(r"(\w+\??): ", of))
-        yield [f"`{name}({given})`" if of.startswith("(") else f"`{name}`", text]
-
-
 LISTS = {
-    "calls": lambda: in_rust("timers.h", "pub(crate) "),
-    "calls of a desk": lambda: in_rust("timers_desk.h", ""),
     "exported calls": exported,
     "calls that pass numbers on": lambda: passed_on("timers.h", but=["timers_new", "timers_free", "timers_restart", "timers_look"]),
     "calls of desks that pass numbers on": lambda: passed_on("timers_desk.h", but=["timers_line_receive"]),
@@ -140,8 +74,4 @@ LISTS = {
     "steps of reads": lambda: reads("\t{{ make_{name}, 4, false }},"),
     "costs of reads": costs_of_reads,
     "reads that write nothing": lambda: reads("\tsum += timers_{name}(t{unwanted}), sum += timers_{name}(&all->later{unwanted});"),
-    "hints of calls": hints_of_calls,
-    "table of calls in Python": lambda: markdown(["Call", "What it does"], rows_of_python()),
-    "calls in JavaScript": calls_in_javascript,
-    "table of calls in JavaScript": lambda: markdown(["Call", "What it does"], rows_of_javascript()),
 }

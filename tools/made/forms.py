@@ -33,6 +33,10 @@ def listed(form, named_facts):
     return [form.format(**{"name": name, **fact}) for name, fact in named_facts.items()]
 
 
+def without(names, others):
+    return {name: fact for name, fact in names.items() if name not in others}
+
+
 def in_rows(indent, items):
     """Items with a comma after each, some a line."""
     return wrapped(" ".join(f"{item},".replace(" ", "\0") for item in items), 120, indent, indent)

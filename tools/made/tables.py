@@ -1,6 +1,6 @@
 """Tables of wheels, as C and the wrappers name and describe them: facts/tables.toml."""
 from formats import LIMITS, TABLES as ALL_TABLES
-from made.forms import capital, comment, enumerators, in_rows, listed, markdown, wrapped
+from made.forms import enumerators, markdown, wrapped
 
 # The tables that C and the wrappers name.
 TABLES = {name: fact for name, fact in ALL_TABLES.items() if "only" not in fact}
@@ -61,33 +61,9 @@ def tables_in_tests():
         yield f"\t{{ {{ {', '.join(map(str, table['radices']))} }}, {numbers} }},"
 
 
-def variants():
-    """The tables as variants of an enum of Rust. The first is the default."""
-    for name, table in TABLES.items():
-        said = [f"{capital(what_is(table, in_code))}. They take some {size(table['bytes'][0])}, and are for {table['for']}.",
-                table.get("more", ""), f"The last tick is [`{table['last']}`]."]
-        yield from comment(" " * 4, " ".join(filter(None, said)))
-        yield from ["    #[default]"] * (table["number"] == 0)
-        yield f"    {name.capitalize()} = {table['number']},"
-
-
-def last_ticks_in_rust():
-    for end, table in ENDS.items():
-        of = " and ".join(f"[`Table::{name.capitalize()}`]" for name, other in TABLES.items() if other["end"] == end)
-        yield from (f"/// The last tick of {of}: {table['ends']}.", f"pub const {table['last']}: Tick = Tick({LIMITS[table['last']]:_});")
-    yield ""
-
-
 LISTS = {
     "tables": lambda: enumerators("TIMERS_", TABLES),
     "last ticks": last_ticks,
     "what tables are for": purposes,
-    "rows of tables": lambda: table_of_tables(str),
-    "rows of tables in Rust": lambda: table_of_tables(str.capitalize),
     "tables in tests": tables_in_tests,
-    "tables in tests of Rust": lambda: [f"    (Table::{name.capitalize()}, timers::{table['last']})," for name, table in TABLES.items()],
-    "tables in Rust": variants,
-    "last ticks in Rust": last_ticks_in_rust,
-    "last ticks of tables in Python": lambda: in_rows(" " * 8, listed("module.{end}", TABLES)),
-    "tables of desks in Python": lambda: in_rows(" " * 4, listed("td.{name}", TABLES)),
 }

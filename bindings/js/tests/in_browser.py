@@ -13,7 +13,7 @@ import sys
 import threading
 
 TOP = os.path.join(os.path.dirname(os.path.abspath(__file__)), "../../..")
-sys.path[:0] = [os.path.join(TOP, "tools/page")]
+sys.path[:0] = [os.path.join(TOP, "tests")]
 sys.dont_write_bytecode = True
 import browser  # noqa: E402
 

@@ -1,4 +1,4 @@
-//! Each value comes back or is dropped, once, wherever its timer ends. tests/wrappers.bats of the repository runs this
+//! Each value comes back or is dropped, once, wherever its timer ends. tests/rust.bats runs this
 //! under valgrind too.
 // SPDX-License-Identifier: MIT OR Apache-2.0
 use std::cell::Cell;

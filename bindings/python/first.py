@@ -1,7 +1,7 @@
 """The shortest whole use from Python: three timers, of which one is stopped. In the repository:
 
     python3 -m venv build/venv && build/venv/bin/pip install ./bindings/python
-    build/venv/bin/python examples/c/first.py
+    build/venv/bin/python bindings/python/first.py
 """
 from timers import Timers
 

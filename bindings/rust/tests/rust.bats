@@ -1,14 +1,34 @@
 #!/usr/bin/env bats
-# Builds the wrappers as the tools of their languages do, and runs a first program with each. cargo and CMake compile
-# the library from generated/. Neither needs a network or the toolchain.
-load helpers
+# The crate, as cargo builds, tests, packs and installs it. It compiles the library from generated/. No command needs a network or
+# the toolchain. LIB is where the libraries are that `make` built, by default build/lib.
+# shellcheck disable=SC2030,SC2031,SC2143,SC2154
+load ../../../tests/helpers
 
 setup_file() {
-    cd "$BATS_TEST_DIRNAME/.." || return
+    cd "$BATS_TEST_DIRNAME/../../.." || return
     hide_toolchain
-    export work=$BATS_FILE_TMPDIR lib=${LIB:-$PWD/build/lib}
+    unset PREFIX BINDIR LIBDIR INCLUDEDIR DATADIR MANDIR DOCDIR DESTDIR
+    export top=$PWD work=$BATS_FILE_TMPDIR lib=${LIB:-$PWD/build/lib}
+    export library=$lib/libtimers.a
+    needs_built "$library"
     # The C of a packed crate is compiled as users compile it; elsewhere it is not optimized.
     export CARGO_TARGET_DIR=$work/cargo CFLAGS=-O0
+}
+
+# needs_cargo: the crate for Rust, by its manifest $rust, without a network; skips the test without a Rust that is as new as the
+# crate needs it, or without the crate cc
+needs_cargo() {
+    { command -v rustc && cargo --version; } > /dev/null 2>&1 || skip "no cargo"
+    oldest=$(sed -n 's/^rust-version = "\(.*\)"$/\1/p' bindings/rust/Cargo.toml)
+    printf '%s\n' "$oldest" "$(rustc --version | cut -d ' ' -f 2)" | sort -CV || skip "rustc is older than $oldest"
+    rust=$work/rust/Cargo.toml
+    if [ -e /usr/share/cargo/registry ]; then # Debian's crates
+        export CARGO_HOME=$work/cargo_home
+        mkdir -p "$CARGO_HOME"
+        printf '[source.crates-io]\nreplace-with = "debian"\n[source.debian]\ndirectory = "/usr/share/cargo/registry"\n' > "$CARGO_HOME/config.toml"
+    fi
+    [ -e "$rust" ] || bindings/rust/crate "$work/rust"
+    cargo fetch --quiet --offline --manifest-path "$rust" 2> /dev/null || skip "no crate cc: librust-cc-dev"
 }
 
 egg_and_tea() { printf '240: egg\n300: tea\n'; }
@@ -69,7 +89,7 @@ of_crate() { cargo "$1" --quiet --offline --manifest-path "$rust" "${@:2}"; }
     printf '{"dl":"file://%s/none","api":"file://%s/none"}\n' "$work" "$work" > "$work/index/config.json"
     git -C "$work/index" add config.json
     git -C "$work/index" -c user.name=index -c user.email=index@localhost commit --quiet --message index
-    tools/crate "$work/to_publish"
+    bindings/rust/crate "$work/to_publish"
     cargo publish --dry-run --allow-dirty --manifest-path "$work/to_publish/Cargo.toml" --index "file://$work/index" > "$work/out" 2>&1 ||
         { cat "$work/out" && false; }
     grep 'Verifying timers' "$work/out"
@@ -81,11 +101,15 @@ unpacks_crate() {
     unset CFLAGS
     crate=$work/unpacked/timers-$(cat tools/install/version)
     if [ ! -e "$crate" ]; then
-        tools/crate "$work/to_pack"
+        bindings/rust/crate "$work/to_pack"
         cargo package --quiet --offline --no-verify --allow-dirty --manifest-path "$work/to_pack/Cargo.toml"
         mkdir "$work/unpacked"
         tar -C "$work/unpacked" -xf "$work/cargo/package/${crate##*/}.crate"
     fi
+}
+@test "the crate has the version and the licence of the library" {
+    grep -Fx "version = \"$(cat tools/install/version)\"" bindings/rust/Cargo.toml
+    grep -F "$(licence)" bindings/rust/Cargo.toml
 }
 @test "a packed crate has the C of the repository, and the licences" {
     needs_cargo
@@ -194,7 +218,7 @@ EOT
     cp -R bindings/rust "$work/alone"
     run cargo package --quiet --offline --allow-dirty --manifest-path "$work/alone/Cargo.toml"
     [ "$status" -ne 0 ]
-    [[ $output == *"timers.c is not there: tools/crate makes the folder to pack"* ]]
+    [[ $output == *"timers.c is not there: bindings/rust/crate makes the folder to pack"* ]]
     [ -z "$(git ls-files --stage | grep '^120000')" ]
 }
 
@@ -210,10 +234,69 @@ EOT
     readelf -h "$work/libtimers.a" | grep AArch64
 }
 
-@test "CMake builds and runs the first program in C++" {
-    needs cmake c++
-    cmake -S bindings/cpp -B "$work/cpp"
-    cmake --build "$work/cpp" --target run > "$work/out"
-    grep -x '2400: egg' "$work/out"
-    grep -x '3000: tea' "$work/out"
+# over_lib WORD..: a command of cargo for the crate, over the archive in $lib in place of what its build script compiles
+over_lib() {
+    needs_cargo
+    target=target.$(rustc -vV | sed -n 's/^host: //p').timers
+    cargo "$1" --quiet --offline --manifest-path "$rust" --target-dir "$work/over_lib" \
+        --config "$target.rustc-link-search=['$lib']" --config "$target.rustc-link-lib=['static=timers']" "${@:2}"
+}
+@test "random calls have the answers of C, and values come back" {
+    needs_cargo
+    needs_traces "$library"
+    TIMERS_TRACES=$made over_lib test --tests -- --include-ignored
+}
+@test "the room that a desk needs is the sum of C++, and does not wrap around" {
+    over_lib build
+    rustc --edition 2021 -D warnings --extern "timers=$work/over_lib/debug/libtimers.rlib" -o "$work/program" - << 'EOT'
+fn main() {
+    for line in std::io::stdin().lines() {
+        let numbers: Vec<u64> = line.unwrap().split(' ').map(|number| number.parse().unwrap()).collect();
+        println!("{}", timers::desk::Config::new(1, numbers[0], numbers[1]).room);
+    }
+}
+EOT
+    has_rooms "$work/program"
+}
+@test "misuses don't compile" {
+    needs_cargo
+    cargo build --quiet --offline --manifest-path "$rust" --target-dir "$work/cargo"
+    misuse() {
+        rustc --edition 2021 -A unexpected_cfgs --emit=metadata --extern "timers=$work/cargo/debug/libtimers.rlib" -o "$work/misuse" \
+            bindings/rust/tests/misuse/misuse.rs "$@"
+    }
+    misuse
+    sed -n 's/^ *#\[cfg(\([a-z_]*\))\] \/\/ \(.*\)$/\1 \2/p' bindings/rust/tests/misuse/misuse.rs > "$work/misuses"
+    [ "$(wc -l < "$work/misuses")" -eq 17 ]
+    while read -r name text; do says "$text" misuse --cfg "$name"; done < "$work/misuses"
+}
+@test "cargo builds the library anew if its code or a header has changed" {
+    needs_cargo
+    builds_anew "build/cargo/debug/build/timers-*/out/libtimers.a" "$sources" \
+        cargo build --offline --manifest-path bindings/rust/Cargo.toml --target-dir build/cargo
+}
+
+# What `make` built is installed in $work/prefix.
+@test "installed: the crate" {
+    needs_cargo
+    PREFIX=$work/prefix tools/install/install
+    mkdir -p "$work/of_installed/src"
+    cp bindings/rust/examples/first.rs "$work/of_installed/src/main.rs"
+    printf '[package]\nname = "app"\nversion = "1.0.0"\nedition = "2021"\n[dependencies]\ntimers = { path = "%s" }\n' "$work/prefix/share/timers/rust" \
+        > "$work/of_installed/Cargo.toml"
+    chmod -R a-w "$work/prefix/share/timers/rust"
+    cargo run --quiet --offline --manifest-path "$work/of_installed/Cargo.toml" > "$work/out"
+    chmod -R u+w "$work/prefix/share/timers/rust"
+    egg_and_tea | diff - "$work/out"
+}
+@test "installed: the crate over the shared object, by the configuration in its README" {
+    needs_cargo
+    cd "$work/of_installed"
+    mkdir .cargo
+    sed -n '/^\[target/,/^```/p' "$work/prefix/share/timers/rust/README.md" | sed -e '/^```/d' -e "s|/usr/local/lib|$work/prefix/lib|" \
+        -e "s|x86_64-unknown-linux-gnu|$(rustc -vV | sed -n 's/^host: //p')|" > .cargo/config.toml
+    cargo build --quiet --offline --target-dir target
+    LD_LIBRARY_PATH=$work/prefix/lib ldd target/debug/app | grep "$work/prefix/lib/libtimers.so"
+    LD_LIBRARY_PATH=$work/prefix/lib target/debug/app > "$work/out"
+    egg_and_tea | diff - "$work/out"
 }

@@ -1,9 +1,10 @@
 #!/usr/bin/env bats
 # The package for JavaScript: as npm packs and installs it, in node and in a browser. Nothing needs a registry.
-load helpers
+# shellcheck disable=SC2154
+load ../../../tests/helpers
 
 setup_file() {
-    cd "$BATS_TEST_DIRNAME/.." || return
+    cd "$BATS_TEST_DIRNAME/../../.." || return
     hide_toolchain
     export work=$BATS_FILE_TMPDIR
     export npm_config_cache=$work/npm npm_config_offline=true npm_config_audit=false npm_config_fund=false npm_config_update_notifier=false
@@ -37,6 +38,7 @@ needs_package() {
         cmp "$name" "$app/node_modules/libtimers/${name##*/}"
     done
     [ "$(node -p "require('$app/node_modules/libtimers/package.json').version")" = "$(cat tools/install/version)" ]
+    grep -F "$(licence)" bindings/js/package.json
     [ "$(cd "$app" && node -p "WebAssembly.Module.imports(new WebAssembly.Module(fs.readFileSync(require.resolve('libtimers/timers.wasm')))).length")" = 0 ]
 }
 @test "the README's programs print what it says" {

@@ -6,7 +6,7 @@ import re
 from formats import DRAWN, FIELDS, LASTS, LIMITS, RADICES, SCHEMES, WORDS, reasons
 
 HANDS = SCHEMES["clock"]["hands"]
-PAGES = os.path.join(os.path.dirname(os.path.abspath(__file__)), "../../docs/pages")
+PAGES = os.path.dirname(os.path.dirname(os.path.abspath(__file__)))
 
 
 def read(name):

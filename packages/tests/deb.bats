@@ -2,10 +2,10 @@
 # Makes the Debian packages, and installs, uses and removes them in a clean root. No command here sees the toolchain. The
 # clean root is a Debian of the machine's release with compilers, pkg-config and CMake, and comes from the machine's mirrors,
 # within 900 seconds.
-load helpers
+load ../../tests/helpers
 
 setup_file() {
-    cd "$BATS_TEST_DIRNAME/.." || return
+    cd "$BATS_TEST_DIRNAME/../.." || return
     hide_toolchain
     version=$(cat tools/install/version)
     architecture=$(dpkg --print-architecture) || architecture= # then all is skipped
@@ -35,18 +35,26 @@ timers $2.deb
 EOT
 }
 
-@test "outside of a clone tools/deb says that it needs one, in a line" {
+@test "outside of a clone packages/deb says that it needs one, in a line" {
     needs_debian
     copy_tree "$work/copy"
-    run "$work/copy/tools/deb"
+    run "$work/copy/packages/deb"
     [ "$status" -eq 3 ]
     [ "${#lines[@]}" -eq 1 ]
     grep "only a clone" <<< "$output"
 }
 
+# Debian's names of licences are others than those at the head of timers.c.
+@test "the copyright file has the library's licence, and where people look they read that that of parts is not known" {
+    sed -e 's/MIT/Expat/g; s/3-Clause/3-clause/; s/ AND / and /g; s/ OR / or /; s/.*/License: & and Unicode-3.0/' <<< "$(licence)" > "$work/licence"
+    grep -qxFf "$work/licence" packages/debian/copyright
+    [ "$(times_said packages/debian/copyright)" -gt 0 ]
+    [ "$(times_said packages/debian/control)" -eq "$(grep -c ^Package: packages/debian/control)" ]
+}
+
 @test "packages are made, source and binary" {
     needs_debian
-    tools/deb
+    packages/deb
     has_its_packages build/deb "$architecture"
 }
 
@@ -110,7 +118,7 @@ EOT
 
 @test "packages for arm64 are made" {
     needs_cross
-    DEB_CFLAGS_APPEND=-O0 tools/deb arm64
+    DEB_CFLAGS_APPEND=-O0 packages/deb arm64
     has_its_packages build/deb-arm64 arm64
 }
 
@@ -198,5 +206,5 @@ files() {
     run timeout 900 autopkgtest --no-built-binaries build/deb/{libtimers1,libtimers-dev,timers}_*.deb build/deb/timers_*.dsc -- chroot "$root"
     echo "$output"
     [ "$status" -eq 0 ]
-    [ "$(sed '1,/ summary$/d' <<< "$output" | grep -c ' PASS$')" -eq "$(find tools/debian/tests -type f -executable | wc -l)" ]
+    [ "$(sed '1,/ summary$/d' <<< "$output" | grep -c ' PASS$')" -eq "$(find packages/debian/tests -type f -executable | wc -l)" ]
 }

@@ -1,4 +1,4 @@
-/* What a push back takes on a small machine, of the timers of bench/peers.h that a macro chooses.
+/* What a push back takes on a small machine, of the timers of peers.h that a macro chooses.
  *
  *     few COUNT HELD   pushes one of HELD timers to a deadline at random, COUNT times; then all come out, by deadline. With
  *                      HELD 0 nothing is pushed: the rest is the same. */
@@ -7,7 +7,7 @@
 #include <stdint.h>
 #include <stdlib.h>
 
-#include "../../bench/peers.h"
+#include "peers.h"
 
 static struct node nodes[1000];
 static uint64_t deadlines[1000];

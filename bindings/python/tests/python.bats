@@ -1,14 +1,35 @@
 #!/usr/bin/env bats
 # The package for Python: its types, its event loop, its hints, and what pip makes of it. Nothing needs a registry.
 # PYTHON is the interpreter, by default python3.
-# shellcheck disable=SC2030,SC2031
-load helpers
+# shellcheck disable=SC2030,SC2031,SC2154
+load ../../../tests/helpers
 
 setup_file() {
-    cd "$BATS_TEST_DIRNAME/.." || return
+    cd "$BATS_TEST_DIRNAME/../../.." || return
     hide_toolchain
     export work=$BATS_FILE_TMPDIR python=${PYTHON:-python3}
     export PYTHONDONTWRITEBYTECODE=1 PIP_DISABLE_PIP_VERSION_CHECK=1 PIP_NO_INDEX=1
+}
+
+# python_headers: where Python.h of $python is
+python_headers() { "${python:-python3}" -c 'import sysconfig; print(sysconfig.get_paths()["include"])'; }
+# python_package FOLDER FLAGS..: the package for Python, in this folder
+python_package() {
+    local shared=-shared
+    [ "$(uname)" != Darwin ] || shared="-bundle -undefined dynamic_lookup"
+    mkdir -p "$1/timers"
+    cp bindings/python/src/timers/{*.py,*.pyi,py.typed} "$1/timers"
+    # shellcheck disable=SC2086
+    cc $shared -std=c11 -fPIC -fvisibility=hidden -O2 $CFLAGS "${@:2}" -Igenerated -Iinclude -I"$(python_headers)" \
+        -o "$1/timers/_timers.abi3.so" bindings/python/extension/_timers.c
+}
+# needs_python_package: the package in $work/python; skips the test if it can't be compiled here
+needs_python_package() {
+    local python=${python:-python3}
+    needs "$python" cc
+    [ -e "$(python_headers)/Python.h" ] || skip "no Python.h for $python: python3-dev"
+    "$python" -c 'import sys; sys.exit(sys.version_info < (3, 11))' || skip "$python is older than 3.11"
+    [ -e "$work/python" ] || python_package "$work/python"
 }
 
 # needs_setuptools: what builds the package, $python or Debian's, as $builder
@@ -57,6 +78,18 @@ built() { (cd "$2" && "$builder" -c "from setuptools import build_meta; build_me
         PYTHONPATH=$work/sanitized PYTHONMALLOC=malloc ASAN_OPTIONS=detect_leaks=0:quarantine_size_mb=4 LD_PRELOAD=$preloaded \
             "$python" bindings/python/tests/${test/_test/_test.py}
     done
+}
+
+# Python refuses what is above the last number.
+@test "the room that a desk needs is the sum of C++, and does not wrap around" {
+    needs_python_package
+    PYTHONPATH=$work/python has_rooms "$python" -c '
+import sys, timers.desk
+for line in sys.stdin:
+    try:
+        print(timers.desk.room_for(*map(int, line.split())))
+    except OverflowError:
+        print(2**64 - 1)'
 }
 
 @test "no call releases the GIL" {
@@ -129,7 +162,7 @@ built() { (cd "$2" && "$builder" -c "from setuptools import build_meta; build_me
     copy_tree "$work/tree"
     new_venv installed
     CFLAGS=-O0 install_in installed "$work/tree/bindings/python"
-    printf '240: egg\n300: tea\n' | diff - <(cd / && "$work/installed/bin/python" "$OLDPWD/examples/c/first.py")
+    printf '240: egg\n300: tea\n' | diff - <(cd / && "$work/installed/bin/python" "$OLDPWD/bindings/python/first.py")
 }
 @test "the wheel names what it is for and what it is, and is removed again" {
     [ -e "$work/installed" ] || skip "nothing was installed"
@@ -146,6 +179,7 @@ built() { (cd "$2" && "$builder" -c "from setuptools import build_meta; build_me
     grep -x "Root-Is-Purelib: false" "$package"/../timers-*.dist-info/WHEEL
     grep -x "Requires-Python: >=3.11" "$package"/../timers-*.dist-info/METADATA
     grep -q "^# timers" "$package"/../timers-*.dist-info/METADATA
+    grep -F "$(licence)" bindings/python/pyproject.toml
     is_hardened "$package/_timers.abi3.so"
     [ "$(nm -D --defined-only "$package/_timers.abi3.so" | sed 's/.* //')" = PyInit__timers ]
     pip_in installed uninstall --yes timers
@@ -166,6 +200,17 @@ built() { (cd "$2" && "$builder" -c "from setuptools import build_meta; build_me
     cmp "$work"/wheel/timers-*.whl "$work/wheel of repository"/timers-*.whl
     new_venv "from sources"
     (cd / && install_in "from sources" "$work"/sdist/timers-*.tar.gz && "$work/from sources/bin/python" "$work"/sources/timers-*/tests/desk_test.py)
+}
+@test "two builds, in folders of their own, have the same bytes" {
+    needs_python_package
+    needs_setuptools
+    for folder in one another/one; do
+        copy_tree "$work/twice/$folder"
+        (cd "$work/twice/$folder/bindings/python" && export SOURCE_DATE_EPOCH=1700000000 &&
+            CFLAGS="-O0 -g0" "$builder" -c 'from setuptools.build_meta import *; build_wheel("../../out"); build_sdist(".")' &&
+            tar -xf timers-*.tar.gz -C ../../out) # the archive itself has the time of its making
+    done
+    diff -r "$work/twice/one/out" "$work/twice/another/one/out"
 }
 @test "an editable install sees what is changed in the folder" {
     needs_python_package

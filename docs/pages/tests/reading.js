@@ -1,4 +1,4 @@
-// Read by tests/wheels_page in a page: what can be seen of it, step by step.
+// Read by wheels_page in a page: what can be seen of it, step by step.
 (() => {
   const text = (node) => node.textContent.trim();
   // A timer as `show` writes it: its serial, which is all that a chip has, and the number in the remark beside it.
