@@ -55,6 +55,12 @@ EOT
     diff <(git ls-files -- ':!ports' | sort) <(tar -tzf build/deb/*.orig.tar.gz | sed -n 's|^[^/]*/\(.*[^/]\)$|\1|p' | sort)
 }
 
+@test "headers are installed beside the library of just their own version" {
+    needs_debian
+    field() { dpkg-deb -f build/deb/libtimers-dev_*.deb "$1"; }
+    [ "$(field Depends)" = "libtimers1 (= $(field Version))" ]
+}
+
 @test "the pages that timers(3) names are in libtimers-dev, and the examples, which a compiler reads" {
     needs_debian
     dpkg-deb -x build/deb/libtimers-dev_*.deb "$work/dev"

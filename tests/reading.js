@@ -29,6 +29,9 @@
       top: document.querySelector("#wheels").getBoundingClientRect().top,
       followed: document.querySelector("#serial").value,
       news: text(document.querySelector("#news")),
+      // The wheel and the digit that the table marks, of now and of the deadline.
+      marked: [...document.querySelectorAll("#digits td.level")].map((node) => [
+        text(node.closest("table").tHead.rows[0].cells[node.cellIndex]), text(node)]),
       because: [...document.querySelectorAll(".because")].map(text).join(" "),
       line: here ? Number(text(here.querySelector(".number"))) : 0,
       answers: here ? [...here.querySelectorAll(".answer")].map(answer) : [],
