@@ -15,7 +15,7 @@
 
 #include <timers.h>
 
-uint64_t counted;
+uint64_t counted, resized;
 void __sanitizer_cov_trace_pc(void);
 void __sanitizer_cov_trace_pc(void) { counted++; }
 
