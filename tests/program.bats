@@ -292,6 +292,16 @@ clock_row() {
     done
 }
 
+# Of addresses: some 12 MB are the script, its answer and the timers.
+@test "a script of 900,000 bytes is played in 64 MB, and show holds no more than a line's picture" {
+    awk 'BEGIN { for (i = 1; i <= 50000; i++) print "start 0 " i " 1 1" }' > input
+    (ulimit -v 65536 && "$TIMERS" play --capacity 50000) < input > output
+    [ "$(tail -n 1 output)" = "end 0 50000" ]
+    awk 'BEGIN { for (i = 1; i <= 1000; i++) print "start 0 " i " 100000 1"; for (i = 1; i <= 2500; i++) print "tick 1" }' > input
+    (ulimit -v 16384 && "$TIMERS" show) < input > output
+    [ "$(tail -n 1 output)" = "end 2500 1000" ]
+}
+
 @test "each option of show that is read is used" {
     shows() { gives 0 "show $1" 'start 0 1 11 7\n' "started 0 1 1 11\n  now 0\n$2\nend 0 1\n"; }
     shows "" '  wheel 0 slot 11: 1'
