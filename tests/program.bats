@@ -535,6 +535,7 @@ help_of() {
     }
     statuses "" '{DONE} if it was\. It is {FAILED} after an error, [^.]*, and {REFUSED} if the arguments are refused\.'
     statuses serve '{DONE} if the input came to its end [^.]*\. It is {FAILED} after an error, [^.]*\. It is {REFUSED} if the arguments'
+    statuses serve '{SKIPPED} at the end\.'
     statuses threads '{DONE} if each client finished\. It is {FAILED} after an error, [^.]*\. It is {REFUSED} if the arguments'
     statuses check "$(printf %s '{DONE} if no line is bad, [^.]*\. It is {BAD} if a line is bad\. ' \
         'It is {FAILED} after an error before [^.]*, and {CHECK_FAILED} after any other error, [^.]*\. ' \
