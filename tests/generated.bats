@@ -320,7 +320,8 @@ EOT
     meson setup "$work/any_address/meson" .
     ninja -C "$work/any_address/meson"
     for tool in cmake meson; do
-        gcc -shared -o "$work/any_address/$tool.so" -Wl,-z,text,--whole-archive "$work/any_address/$tool/libtimers.a" -Wl,--no-whole-archive
+        gcc -shared -o "$work/any_address/$tool.so" \
+            -Wl,-z,text,--whole-archive "$work/any_address/$tool/libtimers.a" -Wl,--no-whole-archive
     done
 }
 
