@@ -328,6 +328,20 @@ EOT
     has_licences "$work/meson_prefix/share/doc/timers"
 }
 
+# Most compilers of distributions make code for any address unless they are told otherwise. Others have to be told to.
+@test "what CMake and Meson archive goes into a shared object, whatever the compiler makes by itself" {
+    needs gcc cmake meson ninja
+    export CC="gcc -fno-pie" CFLAGS="-O0 -DTIMERS_NO_DESK"
+    cmake -S . -B "$work/any_address/cmake"
+    cmake --build "$work/any_address/cmake"
+    meson setup "$work/any_address/meson" .
+    ninja -C "$work/any_address/meson"
+    for tool in cmake meson; do
+        gcc -shared -o "$work/any_address/$tool.so" \
+            -Wl,-z,text,--whole-archive "$work/any_address/$tool/libtimers.a" -Wl,--no-whole-archive
+    done
+}
+
 @test "the program is compiled in pieces, which is said, and one that can't be compiled fails" {
     # shellcheck disable=SC2016
     printf '#!/bin/sh\ncase "$*" in *PIECE=7*) exit 1 ;; esac\nwhile [ "$1" != -o ]; do shift; done\necho > "$2"\n' > "$work/fails"

@@ -83,6 +83,14 @@ command_line() {
     done
 }
 
+@test "timers(3) names the page of each other header, and each of them names timers(3)" {
+    for page in tools/install/timers_*.3; do
+        echo "$page"
+        grep "^.BR $(basename "$page" .3) (3)" tools/install/timers.3
+        grep '^.BR timers (3)' "$page"
+    done
+}
+
 # Each path that a page links to is a file or folder here, or of a neighbour that is not there.
 @test "links lead somewhere" {
     lost='' gone='^$'

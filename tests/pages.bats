@@ -160,6 +160,28 @@ statuses_of() {
     [ "$rows" -gt 5 ]
 }
 
+# Each rule of the paragraph has an example that breaks it. `timers check` names where.
+@test "the help has each rule of a line, and a line that breaks one is bad" {
+    said=$(timers --help | sed -n '/^Fields are separated/,/^$/p' | paste -sd ' ')
+    while IFS='|' read -r rule line; do
+        echo "$rule"
+        [[ $said == *"$rule"* ]]
+        run -"$BAD" timers check < <(printf '%b' "$line")
+    done << 'EOT'
+separated by exactly one space|tick  1\n
+Every line ends with LF, the last one included|tick 1
+no CR|tick 1\r\n
+no tab|tick\t1\n
+no comment|tick 1 # one\n
+no empty line|tick 1\n\n
+no space at either end of a line| tick 1\n
+Words are in lower case|Tick 1\n
+A number is decimal, 0 to 1152921504606846975|stop 0 1 1152921504606846976\n
+no sign|stop 0 1 +1\n
+no leading zero|stop 0 1 01\n
+EOT
+}
+
 # completed WORD..: what bash offers for the last one
 completed() {
     # shellcheck disable=SC2016

@@ -292,6 +292,16 @@ clock_row() {
     done
 }
 
+# Of addresses: some 12 MB are the script, its answer and the timers. The pictures have 24 MB.
+@test "a script of 900,000 bytes is played in 64 MB, and show holds no more than a line's picture" {
+    awk 'BEGIN { for (i = 1; i <= 50000; i++) print "start 0 " i " 1 1" }' > input
+    (ulimit -v 65536 && "$TIMERS" play --capacity 50000) < input > output
+    [ "$(tail -n 1 output)" = "end 0 50000" ]
+    head -n 3000 input > lines   # which are read some 700 at a time
+    (ulimit -v 12288 && "$TIMERS" show --capacity 3000) < lines > output
+    [ "$(tail -n 1 output)" = "end 0 3000" ]
+}
+
 @test "each option of show that is read is used" {
     shows() { gives 0 "show $1" 'start 0 1 11 7\n' "started 0 1 1 11\n  now 0\n$2\nend 0 1\n"; }
     shows "" '  wheel 0 slot 11: 1'
@@ -525,6 +535,7 @@ help_of() {
     }
     statuses "" '{DONE} if it was\. It is {FAILED} after an error, [^.]*, and {REFUSED} if the arguments are refused\.'
     statuses serve '{DONE} if the input came to its end [^.]*\. It is {FAILED} after an error, [^.]*\. It is {REFUSED} if the arguments'
+    statuses serve '{SKIPPED} at the end\.'
     statuses threads '{DONE} if each client finished\. It is {FAILED} after an error, [^.]*\. It is {REFUSED} if the arguments'
     statuses check "$(printf %s '{DONE} if no line is bad, [^.]*\. It is {BAD} if a line is bad\. ' \
         'It is {FAILED} after an error before [^.]*, and {CHECK_FAILED} after any other error, [^.]*\. ' \

@@ -63,6 +63,14 @@ EOT
     diff <(git ls-files -- ':!ports' | sort) <(tar -tzf build/deb/*.orig.tar.gz | sed -n 's|^[^/]*/\(.*[^/]\)$|\1|p' | sort)
 }
 
+# field PACKAGE NAME: of its control file
+field() { dpkg-deb -f build/deb/"$1"_*.deb "$2"; }
+@test "the library is installed for several processors side by side, and headers are beside one of just their version" {
+    needs_debian
+    for package in libtimers1 libtimers-dev; do [ "$(field "$package" Multi-Arch)" = same ]; done
+    [ "$(field libtimers-dev Depends)" = "libtimers1 (= $(field libtimers-dev Version))" ]
+}
+
 @test "the pages that timers(3) names are in libtimers-dev, and the examples, which a compiler reads" {
     needs_debian
     dpkg-deb -x build/deb/libtimers-dev_*.deb "$work/dev"

@@ -1,4 +1,5 @@
-/* Timeouts through the wrap of lwIP's clock, which has 32 bits: each runs once, and at its time.
+/* Timeouts through the wrap of lwIP's clock, which has 32 bits: each runs once, and at its time. One whose time passes while
+ * it is started runs at once.
  *
  *     wrap
  *
@@ -12,11 +13,16 @@
 
 enum { MOST = 100, WRAPS = 5, LONGEST = 0x3fffffff };
 
-static uint64_t clock_ms;
+static uint64_t clock_ms, passes_at_a_look;
 static uint64_t due[MOST];
 static int runs, cycles;
 
-u32_t sys_now(void) { return (u32_t)clock_ms; }
+u32_t sys_now(void)
+{
+	u32_t now = (u32_t)clock_ms;
+	clock_ms += passes_at_a_look;
+	return now;
+}
 int lose_packet(struct pbuf *p) { (void)p; return 0; }
 
 static void refuse(const char *what, uint64_t wanted)
@@ -82,6 +88,27 @@ static void together(uint64_t from)
 		refuse("a timeout is left", 0);
 }
 
+static void count_run(void *unused)
+{
+	(void)unused;
+	runs++;
+}
+
+/* lwIP computes the time of a timeout before the timers look at the clock: it may have passed by then. */
+static void passed(uint64_t clock, u32_t length)
+{
+	int before = runs;
+	clock_ms = clock;
+	passes_at_a_look = (uint64_t)length + 2;
+	sys_timeout(length, count_run, NULL);
+	passes_at_a_look = 0;
+	if (sys_timeouts_sleeptime() != 0)
+		refuse("a wait for a time that has passed", 0);
+	sys_check_timeouts();
+	if (runs != before + 1)
+		refuse("no timeout for a time that has passed", clock);
+}
+
 static void count_cycle(void) { cycles++; }
 
 /* A cyclic timer, for a minute around the wrap. */
@@ -113,7 +140,10 @@ int main(void)
 	wrap += UINT64_C(1) << 32;
 	alone(wrap - 1, LONGEST);
 	together(wrap + (UINT64_C(1) << 32) - 5000);
-	cyclic(wrap + ((uint64_t)(WRAPS + 2) << 32));
+	wrap += (uint64_t)(WRAPS + 2) << 32;
+	cyclic(wrap);
+	passed(wrap + 60000, 0);
+	passed(2 * wrap - 2, 1);
 	printf("%d timeouts, %d cycles, %d wraps\n", runs, cycles, (int)(clock_ms >> 32));
 	return 0;
 }

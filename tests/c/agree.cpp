@@ -276,6 +276,14 @@ static void stop_by_scope()
 		timers.start(3ms, nullptr);                                     /* perhaps at its place */
 	}
 	HOLDS(timers.size() == 1 && timers.next() == at(4));
+
+	Timers others;                                            /* a move takes the owner along */
+	timer here(timers), there(others);
+	there.start(6ms, &number);
+	here = std::move(there);
+	HOLDS(here.look() && here.look()->deadline == at(6));
+	here.start(8ms, nullptr);
+	HOLDS(others.size() == 1 && others.next() == at(8) && timers.size() == 1 && here.stop() && others.size() == 0);
 }
 
 /* All timers of a tick are taken in one call, however many there are, in the order of their starts. */

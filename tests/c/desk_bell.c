@@ -218,6 +218,7 @@ static void edges_of_turns(void)
 	CHECK(timers_desk_turn(&desk, 8, bells, 1) == TIMERS_DESK_OK && timers_line_receive(&lines[0], &word));
 	CHECK(word.deadline == 28 && timers_desk_patience(&desk, 8, TIMERS_DESK_IDLE) == 20);
 	CHECK(timers_desk_patience(&desk, 8, TIMERS_DESK_NO_MEMORY) == 10);
+	CHECK(timers_desk_patience(&desk, 27, TIMERS_DESK_IDLE) == 1 && timers_desk_patience(&desk, 28, TIMERS_DESK_IDLE) == 0);
 	CHECK(timers_desk_patience(&desk, 40, TIMERS_DESK_IDLE) == 0);
 
 	/* Two timers expire in a turn that takes no request: words are moved. */

@@ -15,7 +15,7 @@
 
 #include <timers.h>
 
-uint64_t counted;
+uint64_t counted, resized;
 void __sanitizer_cov_trace_pc(void);
 void __sanitizer_cov_trace_pc(void) { counted++; }
 
@@ -199,6 +199,7 @@ static void cost_reads(struct timers_handle handle)
 	COST(each, failed += !timers_each(&t, &cursor, NULL, &out));
 	COST(version, failed += timers_version() != TIMERS_VERSION_NUMBER);
 	COST(set_allocator, REFUSED(OPEN, timers_set_allocator(malloc, realloc, free)));
+	COST(reserve, OK(timers_reserve(&t, 1)));   /* there is as much room already */
 	COST(message, failed += timers_message(TIMERS_DUE) == NULL);
 	/* made by tools/facts: costs of reads */
 	COST(has_due, sum += timers_has_due(&t));

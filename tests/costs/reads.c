@@ -1,12 +1,13 @@
-/* Standard input of the program: the first BEFORE bytes as they come, and then a line at each read. How many blocks of code
- * the program ran for each of these lines goes to standard error. */
+/* Standard input of the program: the first BEFORE bytes as they come, and then a line at each read. How often the program read
+ * these bytes, and made a block of memory grow meanwhile, goes to standard error; then how many blocks of code it ran for each of
+ * the lines. */
 /* SPDX-License-Identifier: MIT OR Apache-2.0 */
 #include <inttypes.h>
 #include <stdio.h>
 #include <stdlib.h>
 #include <unistd.h>
 
-uint64_t counted;
+uint64_t counted, resized;
 void __sanitizer_cov_trace_pc(void);
 void __sanitizer_cov_trace_pc(void) { counted++; }
 
@@ -39,7 +40,7 @@ static ssize_t read_line(int from, char *to, size_t room)
 
 ssize_t counted_read(int from, void *to, size_t room)
 {
-	static size_t done;
+	static size_t done, reads;
 	static int lines;
 	const size_t left = left_before() - done;
 	ssize_t length;
@@ -47,10 +48,13 @@ ssize_t counted_read(int from, void *to, size_t room)
 	if (left > 0) {
 		length = read(from, to, room < left ? room : left);
 		done += length > 0 ? (size_t)length : 0;
+		reads++;
 		return length;
 	}
 	if (lines++ > 0)
 		fprintf(stderr, "cost %" PRIu64 "\n", counted);
+	else
+		fprintf(stderr, "before %zu %" PRIu64 "\n", reads, resized);
 	length = read_line(from, to, room);
 	counted = 0;
 	return length;

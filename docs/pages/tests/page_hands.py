@@ -300,13 +300,15 @@ def compared(reader):
 
 def links(reader):
     """The address has the state: another reader sees the same."""
-    reader.open(link="#scheme=6&slots=4&first=7&script=start+0+1+9+1;tick+3&step=99&follow=1")
+    reader.open(link="#scheme=6&slots=4&first=7&clients=2&capacity=5&script=start+0+1+9+1;tick+3&step=99&follow=1")
     reader.as_shown("a link", ["start 0 1 9 1", "tick 3"])
-    reader.expect("its options", reader.script()[1], ["--scheme", "hashed", "--slots", "4", "--first-tick", "7"])
+    options = ["--scheme", "hashed", "--slots", "4", "--first-tick", "7", "--clients", "2", "--capacity", "5"]
+    reader.expect("its options", reader.script()[1], options)
     reader.tab.run("$('scheme').value = '7'; changeScheme()")
     reader.type("#deadline", "300")
     before = reader.current()
     reader.wait("location.hash.includes('300') || location.hash.includes('290')", True)
+    reader.wait("location.hash.includes('&first=7&clients=2&capacity=5&')", True)
     reader.open(link=reader.tab.value("location.hash"), keep=True)
     reader.expect("the same by its link", reader.current()["buckets"], before["buckets"])
     reader.open(link="#lesson=shown_clock&step=3", keep=True)

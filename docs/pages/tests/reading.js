@@ -29,6 +29,9 @@
       top: document.querySelector("#wheels").getBoundingClientRect().top,
       followed: document.querySelector("#serial").value,
       news: text(document.querySelector("#news")),
+      // The wheel and the digit that the table marks, of now and of the deadline.
+      marked: [...document.querySelectorAll("#digits td.level")].map((node) => [
+        text(node.closest("table").tHead.rows[0].cells[node.cellIndex]), text(node)]),
       because: [...document.querySelectorAll(".because")].map(text).join(" "),
       line: here ? Number(text(here.querySelector(".number"))) : 0,
       answers: here ? [...here.querySelectorAll(".answer")].map(answer) : [],
@@ -223,6 +226,11 @@
       if ([...node.children].some(({ localName }) => localName !== "li")) found.push(`${node.id || node.className} has not only li`);
     for (const node of document.querySelectorAll("[role=slider]"))
       if (["valuemin", "valuemax", "valuenow"].some((name) => !node.hasAttribute(`aria-${name}`))) found.push("a slider without its value");
+    for (const node of document.querySelectorAll("#wheels [role=slider]")) {
+      const said = [node.ariaValueNow, node.ariaValueText.replace("slot ", "")];
+      const shown = text(node.closest(".wheel").querySelector(".digit"));
+      if (said.some((value) => value !== shown)) found.push(`a hand at ${shown} is said to be at ${said}`);
+    }
     for (const node of document.querySelectorAll("[aria-labelledby]"))
       if (!document.getElementById(node.getAttribute("aria-labelledby"))) found.push("a label that isn't there");
     let level = 1;
