@@ -50,6 +50,9 @@ pub mod SmoothWeights
 pub mod SmoothHeights
 pub mod BankNext
 pub mod BankCounts
+pub mod MergeLemmas
+pub mod BinLemmas
+pub mod SortLemmas
 pub mod OrderedLists
 pub mod PaceLemmas
 pub mod SmoothTotals

@@ -26,3 +26,4 @@ pub mod SmoothWheel
 pub mod Tiers
 pub mod TieredWheel
 pub mod SmoothAhead
+pub mod Merges
