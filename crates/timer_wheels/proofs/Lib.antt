@@ -50,6 +50,7 @@ pub mod SmoothWeights
 pub mod SmoothHeights
 pub mod BankNext
 pub mod BankCounts
+pub mod Postponed
 pub mod MergeLemmas
 pub mod BinLemmas
 pub mod SortLemmas
