@@ -51,6 +51,11 @@ pub mod SmoothHeights
 pub mod BankNext
 pub mod BankCounts
 pub mod Postponed
+pub mod FiledLemmas
+pub mod LazyTicks
+pub mod FilingLemmas
+pub mod BitLemmas
+pub mod FilesLemmas
 pub mod MergeLemmas
 pub mod BinLemmas
 pub mod SortLemmas

@@ -1,5 +1,5 @@
 -- A restart in place: the node under a key is set to one of a later deadline, and no link changes.
-use Rattle.std.proofs.Common.{◌≡◌, ◌≢◌, ◌<◌, ◌≤◌, ◌+◌, ℕ, [], ◌∷◌, ◌++◌, length, refl, sym, ◌∙◌, ap, subst, inl, inr, arith, length-set, get_or-set_same, get_or-set_other, map, slice_set, Some}
+use Rattle.std.proofs.Common.{◌≡◌, ◌≢◌, ◌<◌, ◌≤◌, ◌+◌, ℕ, List, [], ◌∷◌, ◌++◌, length, refl, sym, ◌∙◌, ap, subst, inl, inr, arith, length-set, get_or-set_same, get_or-set_other, map, slice_set, Some}
 use Rattle.std.specs.List.{AllByRecursion}
 use Rattle.std.proofs.lemmas.Bool.{cases_eq}
 use Rattle.timer_base.proofs.HeldLaws.{start_when_later}
@@ -9,6 +9,7 @@ use Rattle.timer_links.proofs.Rows.{StandsIn, stands_in}
 use Rattle.timer_links.specs.Lists.{without_key, AreApart, SetsNode}
 use Rattle.timer_wheels.specs.Types.{LAST, Handle, Timer, Node, list_at, KeyedLists, Row, Rows}
 use Rattle.timer_wheels.specs.BucketLists.{row_timer, row_timers, rows_below, wheel_state, AreDue, AreBuckets, EachRow}
+use Rattle.timer_wheels.specs.Occupied.{filled, AreMarked}
 use Rattle.timer_wheels.proofs.RowLemmas.{IsInserted, IsNotAmong-below, rows_below-inserted, all-append, all-front, all-rest, set_twice}
 use Rattle.timer_wheels.proofs.BucketLemmas.{AreBelow-pending, pending_in-newest, all-inserted, distinct-inserted}
 use Rattle.timer_wheels.proofs.Handles.{held_node, removed_state}
@@ -120,3 +121,24 @@ module _ {n last_tick now last : ℕ} {lists : KeyedLists} (b : AreBuckets n las
 
   pub was_at : was.timer.deadline ≡ t.deadline
   was_at = was_deadline
+
+  -- each list has rows where it had
+  some_in_middle : (front rest : Rows) (x : Row) → filled (front ++ x ∷ rest) ≡ 1
+  some_in_middle [] rest x = refl
+  some_in_middle (y ∷ ys) rest x = refl
+
+  postponed_filled : (s : ℕ) → filled (list_at s new) ≡ filled (list_at s lists)
+  postponed_filled s = elim (cases_eq s there.l) [
+    | inl q ↦
+        ap (λ (l : ℕ). filled (list_at l new)) q
+        ∙ (ap (λ (y : KeyedLists). filled (list_at there.l y)) new_is
+        ∙ (ap filled (get_or-set_same lists there.l (there.front ++ (handle.place, node) ∷ there.rest) [] there.in_range)
+        ∙ (some_in_middle there.front there.rest (handle.place, node)
+        ∙ (sym (some_in_middle there.front there.rest (handle.place, was))
+        ∙ (ap filled (sym there.at) ∙ ap (λ (l : ℕ). filled (list_at l lists)) (sym q))))))
+    | inr x ↦ ap filled (ap (list_at s) new_is
+        ∙ get_or-set_other lists there.l s (there.front ++ (handle.place, node) ∷ there.rest) [] x)
+  ]
+
+  pub postponed_marked : (m : ℕ) (words : List ℕ) → AreMarked m words lists → AreMarked m words new
+  postponed_marked m words t = ((λ s k. t.0 s k ∙ sym (postponed_filled s)), t.1)

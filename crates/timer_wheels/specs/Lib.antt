@@ -27,3 +27,7 @@ pub mod Tiers
 pub mod TieredWheel
 pub mod SmoothAhead
 pub mod Merges
+pub mod Filed
+pub mod Filing
+pub mod Files
+pub mod LazyWheel
