@@ -64,7 +64,7 @@ module _ {N : Type 0} {kept : Ghosts N} {t : Table} {b : Buckets N kept} {words 
   in_table : (s : ℕ) (row : Row) → Known s row → s < slots (radices t)
   in_table s row q = ahead_in_range (radices t) b.tick s is_table q.digits q.filed.ahead
 
-  spare_none : (s : ℕ) → slots (radices t) ≤ s → s < b.slots → list_at s b.links.lists ≡ []
+  pub spare_none : (s : ℕ) → slots (radices t) ≤ s → s < b.slots → list_at s b.links.lists ≡ []
   spare_none s k m = no_row (Known s) (list_at s b.links.lists) (λ row q. (let r : s < slots (radices t) = in_table s row q in omega arith))
       (known_files s m)
 
@@ -110,7 +110,7 @@ module _ {N : Type 0} {kept : Ghosts N} {t : Table} {b : Buckets N kept} {words 
 
   -- The first visit.
 
-  none_where : (s : ℕ) → s < slots (radices t) → bit_of words s ≡ 0 → list_at s b.links.lists ≡ []
+  pub none_where : (s : ℕ) → s < slots (radices t) → bit_of words s ≡ 0 → list_at s b.links.lists ≡ []
   none_where s k z = no_rows_there (list_at s b.links.lists) (sym (h.marked.0 s k) ∙ z)
 
   pub none_at_all : ((s : ℕ) → s < MOST_BUCKETS → bit_of words s ≡ 0) → (s : ℕ) → s < b.slots → list_at s b.links.lists ≡ []

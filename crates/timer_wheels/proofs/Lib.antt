@@ -56,6 +56,7 @@ pub mod LazyTicks
 pub mod FilingLemmas
 pub mod BitLemmas
 pub mod FilesLemmas
+pub mod LazyDeadlines
 pub mod MergeLemmas
 pub mod BinLemmas
 pub mod SortLemmas

@@ -1,5 +1,5 @@
 -- The invariant of the buckets of a lazy hierarchy and of their bits.
-use Rattle.std.specs.Prelude.{◌≡◌, ◌<◌, ◌≤◌, ◌+◌, ℕ, List, Option}
+use Rattle.std.specs.Prelude.{◌≡◌, ◌<◌, ◌≤◌, ◌+◌, ℕ, List, Option, Some, None}
 use Rattle.std.proofs.Props.{props}
 use Rattle.timer_wheels.specs.Types.{Ghosts, KeyedLists, Table}
 use Rattle.timer_wheels.specs.BucketLaws.{EachRow-prop}
@@ -32,3 +32,8 @@ AreFiles-prop table b words = hlevel (props, RowsAreFiled-prop table b, AreMarke
 -- no bucket with a timer is visited before this tick
 abbrev pub AreVisitedFrom : List ℕ → ℕ → ℕ → ℕ → KeyedLists → Type 0
 AreVisitedFrom table visit now n lists = EachRow (λ s row. visit ≤ list_visit table s now) n lists
+
+-- there is a deadline, and it is not after this tick
+abbrev pub IsBy : ℕ → Option ℕ → Type 0
+IsBy tick None = ⊥
+IsBy tick (Some deadline) = deadline ≤ tick

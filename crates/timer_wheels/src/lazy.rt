@@ -27,7 +27,6 @@ ghost use Rattle.timer_base.specs.WheelState.{empty_wheel, after_reserve, held_c
 ghost use Rattle.timer_wheels.specs.HeldPlaces.{IsFirstHeld};
 ghost use Rattle.timer_wheels.specs.Tables.{radices, last_of_table, layout_of_table};
 
-use crate::deadlines::first_deadline_by_walk;
 use crate::iteration::held_from;
 use crate::lazy::files::Files;
 use crate::table::{Table, last_tick_of};
@@ -190,14 +189,15 @@ impl<N: Kept> Wheel for LazyWheel<N> {
         self.files.advance(most)
     }
 
-    /// The first deadline itself, for which it walks all timers. `next_visit` is earlier, and needs no walk.
+    /// The first deadline itself, for which it walks timers. `next_visit` is earlier, and needs no walk.
     fn quiet_until(&self) -> Option<u64> {
         self.next_deadline()
     }
 
-    /// Found by a walk along all timers.
+    /// Found by a walk along the buckets in the order of their visits, up to one that isn't visited before a deadline that
+    /// was found.
     fn next_deadline(&self) -> Option<u64> {
-        first_deadline_by_walk(&self.files.buckets)
+        self.files.next_deadline()
     }
 
     fn expire(&mut self) -> Option<Timer> {

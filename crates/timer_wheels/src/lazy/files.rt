@@ -2,26 +2,28 @@
 //!
 //! A start files a timer in the bucket of its deadline. A push back leaves it there, so a bucket may be visited before the
 //! deadlines of its timers, and never after one.
-ghost use Rattle.std.specs.Prelude.{◌≡◌, ◌<◌, ◌≤◌, ◌≢◌, ◌+◌, ◌-◌, ℕ, [], length, IfOk, IfSome, IfNone, OnOk, OnErr, Some};
+ghost use Rattle.std.specs.Prelude.{◌≡◌, ◌<◌, ◌≤◌, ◌≢◌, ◌+◌, ◌-◌, ℕ, [], length, IfOk, IfSome, IfNone, IsTrue, OnOk, OnErr, Some};
 ghost use Rattle.timer_base.specs.Layout.{OneWheel};
+ghost use Rattle.timer_base.specs.WakeUps.{next_deadline};
 ghost use Rattle.timer_base.specs.WheelState.{Advances, IsPassing, after_reserve, empty_wheel, held_at, held_count, first_due, old_timer, after_held_start, after_removal, after_replacement, after_tick, after_expiry, after_clear};
 ghost use Rattle.timer_base.specs.declared.limits.TheConstants.{LAST};
 ghost use Rattle.timer_links.specs.Lists.{list_at};
 ghost use Rattle.timer_wheels.specs.Bank.{LeavesBits};
 ghost use Rattle.timer_wheels.specs.Buckets.{state_of, IsListOf};
 ghost use Rattle.timer_wheels.specs.Digits.{bucket, slots};
-ghost use Rattle.timer_wheels.specs.Files.{AreFiles, AreFiles-prop, AreVisitedFrom};
+ghost use Rattle.timer_wheels.specs.Files.{AreFiles, AreFiles-prop, AreVisitedFrom, IsBy};
 ghost use Rattle.timer_wheels.specs.Occupied.{bit_of};
 ghost use Rattle.timer_wheels.specs.SmoothWheel.{PassesSomeTicks};
 ghost use Rattle.timer_wheels.specs.Tables.{radices, slots_of_table, last_of_table};
 ghost use Rattle.timer_wheels.specs.declared.table.TheConstants.{MOST_BUCKETS};
 
 use crate::buckets::Buckets;
+use crate::deadlines::least_in;
 use crate::lazy::filing::{SPARE_LISTS, empty_bucket};
 use crate::occupied::Occupied;
 use crate::table::{Table, bucket_of, buckets_of, emptied_at, last_tick_of, visit_of};
 use std::alloc::Global;
-use timer_base::{Handle, OutOfMemory, Timer};
+use timer_base::{Handle, OutOfMemory, Timer, earlier};
 use timer_links::Kept;
 
 /// The buckets of a table, and which of them have a timer.
@@ -232,6 +234,32 @@ impl<N: Kept> Files<N> {
         }
     }
 
+    /// The first pending deadline. Does not allocate.
+    ///
+    /// Found by a walk along the buckets in the order of their visits, up to one that isn't visited before a deadline that
+    /// was found.
+    pub fn next_deadline(&self) -> Option<u64>
+        ensures { result ≡ next_deadline (state_of self.now.buckets).pending }
+    {
+        let count = buckets_of(self.table);
+        let mut least = None;
+        let mut list = 0;
+        while list < count {
+            let clear = self.occupied.clear_from(list);
+            if clear != 0 {
+                list = count.min(list + clear);
+            } else {
+                let visit = visit_of(self.table, list, self.buckets.tick);
+                if is_by(least, visit) {
+                    return least;
+                }
+                least = earlier(least, least_in(&self.buckets.links, list));
+                list += 1;
+            }
+        }
+        least
+    }
+
     /// Sets the clock to a later tick, if nothing is due and no bucket with a timer is visited up to it.
     pub fn skip_to(&mut self, tick: u64)
         requires nothing_due { (state_of self.old.buckets).due ≡ [] }
@@ -349,5 +377,16 @@ fn leave(occupied: &mut Occupied, slots: usize, emptied: Option<usize>)
     };
     if list < slots {
         occupied.remove(list);
+    }
+}
+
+/// Whether there is a deadline, and it is not after this tick.
+#[inline(always)]
+fn is_by(deadline: Option<u64>, tick: u64) -> bool
+    ensures { IsTrue result → IsBy tick deadline }
+{
+    match deadline {
+        Some(deadline) => deadline <= tick,
+        None => false,
     }
 }
