@@ -1,7 +1,9 @@
 -- The invariant of the buckets of a lazy hierarchy and of their bits.
 use Rattle.std.specs.Prelude.{◌≡◌, ◌<◌, ◌≤◌, ◌+◌, ℕ, List, Option, Some, None}
 use Rattle.std.proofs.Props.{props}
-use Rattle.timer_wheels.specs.Types.{Ghosts, KeyedLists, Table}
+use Rattle.timer_base.specs.WheelState.{held_at}
+use Rattle.timer_links.specs.Lists.{SetsNode}
+use Rattle.timer_wheels.specs.Types.{Handle, Timer, WheelState, Ghosts, KeyedLists, Table}
 use Rattle.timer_wheels.specs.BucketLaws.{EachRow-prop}
 use Rattle.timer_wheels.specs.BucketLists.{EachRow}
 use Rattle.timer_wheels.specs.Digits.{slots, last_of}
@@ -28,6 +30,11 @@ RowsAreFiled-prop table b = EachRow-prop (IsFiled (radices table) b.tick) (IsFil
 
 pub AreFiles-prop : {N : Type 0} {kept : Ghosts N} (table : Table) (b : Buckets N kept) (words : List ℕ) → IsProp (AreFiles table b words)
 AreFiles-prop table b words = hlevel (props, RowsAreFiled-prop table b, AreMarked-prop (slots (radices table)) words b.links.lists)
+
+-- if a restart pushes a pending timer back, its node alone changes, where it stands: no link does
+abbrev pub StaysInPlace : Handle → Timer → WheelState → KeyedLists → KeyedLists → Type 0
+StaysInPlace handle timer w old new = (t : Timer) → held_at handle w ≡ Some t → w.now < t.deadline → t.deadline ≤ timer.deadline
+    → SetsNode handle.place (record { timer = timer; rounds = 0 }) old new
 
 -- no bucket with a timer is visited before this tick
 abbrev pub AreVisitedFrom : List ℕ → ℕ → ℕ → ℕ → KeyedLists → Type 0

@@ -22,6 +22,10 @@ lazy-well_formed wheel =
 abbrev pub lazy_table : {N : Type 0} {kept : Ghosts N} → LazyWheel N kept → Table
 lazy_table wheel = wheel.files.table
 
+-- its lists: the buckets, lists that are empty, and the due timers
+abbrev pub lazy_lists : {N : Type 0} {kept : Ghosts N} → LazyWheel N kept → KeyedLists
+lazy_lists wheel = wheel.files.buckets.links.lists
+
 -- each pending timer stands in a bucket that is visited by its deadline, and the last list has what is due
 pub record ShowsFiled (table : List ℕ) (w : WheelState) (lists : KeyedLists) : Type 0 where
   pub filed : EachRow (IsFiled table w.now) (slots table + 35) lists

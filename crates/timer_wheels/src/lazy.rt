@@ -21,9 +21,10 @@
 //!
 //!     files      the buckets, their bits, and every change of them
 //!     filing     one bucket is emptied
-ghost use Rattle.std.specs.Prelude.{◌≡◌, ◌+◌, ◌-◌, ◌<◌, ◌≤◌, [], IfOk, IfErr, IfSome, OnOk, OnErr};
+ghost use Rattle.std.specs.Prelude.{◌≡◌, ◌<◌, ◌≤◌, IfOk, IfErr, IfSome, OnOk, OnErr};
 ghost use Rattle.timer_base.specs.WakeUps.{IsQuietUntil, next_deadline};
-ghost use Rattle.timer_base.specs.WheelState.{empty_wheel, after_reserve, held_count};
+ghost use Rattle.timer_base.specs.WheelState.{empty_wheel, held_at, old_timer, after_reserve, after_replacement};
+ghost use Rattle.timer_base.specs.declared.limits.TheConstants.{LAST};
 ghost use Rattle.timer_wheels.specs.HeldPlaces.{IsFirstHeld};
 ghost use Rattle.timer_wheels.specs.Tables.{radices, last_of_table, layout_of_table};
 
@@ -126,7 +127,8 @@ impl<N: Kept> LazyWheel<N> {
 }
 
 impl<N: Kept> Wheel for LazyWheel<N> {
-    ghost use Rattle.timer_wheels.specs.LazyWheel.{lazy_state, lazy-well_formed};
+    ghost use Rattle.timer_wheels.specs.Files.{StaysInPlace};
+    ghost use Rattle.timer_wheels.specs.LazyWheel.{lazy_state, lazy_lists, lazy-well_formed};
 
     ghost state = { λ wheel. lazy_state wheel };
 
@@ -175,9 +177,20 @@ impl<N: Kept> Wheel for LazyWheel<N> {
         self.files.stop(handle)
     }
 
-    /// If the new deadline is not before the old one, no link changes.
+    /// If the timer is pending, and the new deadline is not before the old one, no link changes.
     #[inline(always)]
-    fn restart(&mut self, handle: Handle, timer: Timer) -> Option<(Handle, Timer)> {
+    fn restart(&mut self, handle: Handle, timer: Timer) -> Option<(Handle, Timer)>
+        requires not_past { (lazy_state self.old).now ≤ timer.deadline }
+        requires deadline { timer.deadline ≤ (lazy_state self.old).last_tick }
+        requires fresh { (lazy_state self.old).last_serial < timer.serial }
+        requires serial { timer.serial ≤ LAST }
+        requires keeps { N.keeps (record { timer = timer; rounds = 0 }) }
+        ensures old { old_timer result ≡ held_at handle (lazy_state self.old) }
+        ensures named { IfSome result (λ r. r.0.serial ≡ timer.serial) }
+        ensures place { IfSome result (λ r. r.0.place ≡ handle.place) }
+        ensures restarted { lazy_state self.new ≡ after_replacement result handle timer (lazy_state self.old) }
+        ensures in_place { StaysInPlace handle timer (lazy_state self.old) (lazy_lists self.old) (lazy_lists self.new) }
+    {
         self.files.restart(handle, timer)
     }
 

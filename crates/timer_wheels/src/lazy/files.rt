@@ -2,16 +2,16 @@
 //!
 //! A start files a timer in the bucket of its deadline. A push back leaves it there, so a bucket may be visited before the
 //! deadlines of its timers, and never after one.
-ghost use Rattle.std.specs.Prelude.{◌≡◌, ◌<◌, ◌≤◌, ◌≢◌, ◌+◌, ◌-◌, ℕ, [], length, IfOk, IfSome, IfNone, IsTrue, OnOk, OnErr, Some};
+ghost use Rattle.std.specs.Prelude.{◌≡◌, ◌⊎◌, ◌<◌, ◌≤◌, ◌≢◌, ◌+◌, ◌-◌, ℕ, [], length, IfOk, IfSome, IfNone, IsTrue, OnOk, OnErr, Some};
 ghost use Rattle.timer_base.specs.Layout.{OneWheel};
 ghost use Rattle.timer_base.specs.WakeUps.{next_deadline};
 ghost use Rattle.timer_base.specs.WheelState.{Advances, IsPassing, after_reserve, empty_wheel, held_at, held_count, first_due, old_timer, after_held_start, after_removal, after_replacement, after_tick, after_expiry, after_clear};
 ghost use Rattle.timer_base.specs.declared.limits.TheConstants.{LAST};
-ghost use Rattle.timer_links.specs.Lists.{list_at};
+ghost use Rattle.timer_links.specs.Lists.{list_at, SetsNode};
 ghost use Rattle.timer_wheels.specs.Bank.{LeavesBits};
 ghost use Rattle.timer_wheels.specs.Buckets.{state_of, IsListOf};
 ghost use Rattle.timer_wheels.specs.Digits.{bucket, slots};
-ghost use Rattle.timer_wheels.specs.Files.{AreFiles, AreFiles-prop, AreVisitedFrom, IsBy};
+ghost use Rattle.timer_wheels.specs.Files.{AreFiles, AreFiles-prop, StaysInPlace, AreVisitedFrom, IsBy};
 ghost use Rattle.timer_wheels.specs.Occupied.{bit_of};
 ghost use Rattle.timer_wheels.specs.SmoothWheel.{PassesSomeTicks};
 ghost use Rattle.timer_wheels.specs.Tables.{radices, slots_of_table, last_of_table};
@@ -122,7 +122,11 @@ impl<N: Kept> Files<N> {
         ensures ahead { IfSome result (λ t. (self.old.buckets.tick < t.deadline) × (t.deadline ≤ timer.deadline)) }
         ensures restarted { IfSome result (λ t. state_of self.new.buckets
             ≡ after_held_start handle.place timer (after_removal handle (state_of self.old.buckets))) }
+        ensures lists { IfSome result (λ t. SetsNode handle.place (record { timer = timer; rounds = 0 })
+            self.old.buckets.links.lists self.new.buckets.links.lists) }
         ensures none { IfNone result (self.new.buckets ≡ self.old.buckets) }
+        ensures refused { IfNone result ((t : Timer) → held_at handle (state_of self.old.buckets) ≡ Some t
+            → (t.deadline ≤ self.old.buckets.tick) ⊎ (timer.deadline < t.deadline)) }
         ensures table { self.new.table ≡ self.old.table }
     {
         self.buckets.links.lemma_keys_unique();
@@ -144,8 +148,11 @@ impl<N: Kept> Files<N> {
         requires keeps { N.keeps (record { timer = timer; rounds = 0 }) }
         ensures old { old_timer result ≡ held_at handle (state_of self.old.buckets) }
         ensures named { IfSome result (λ r. r.0.serial ≡ timer.serial) }
+        ensures place { IfSome result (λ r. r.0.place ≡ handle.place) }
         ensures restarted { state_of self.new.buckets
             ≡ after_replacement result handle timer (state_of self.old.buckets) }
+        ensures in_place { StaysInPlace handle timer (state_of self.old.buckets) self.old.buckets.links.lists
+            self.new.buckets.links.lists }
         ensures table { self.new.table ≡ self.old.table }
     {
         match self.postpone(handle, timer) {
