@@ -1,23 +1,20 @@
 -- Lemmas for `Bank::stop`: a row leaves its list.
-use Rattle.std.proofs.Common.{◌≡◌, ◌<◌, ◌≤◌, ◌+◌, ℕ, List, [], ◌∷◌, ◌++◌, sym, ◌∙◌, ap, inl, inr, subst, arith, slice_set, get_or-set_other, Bool, map, filter, not, ◌==◌, Option, Some}
+use Rattle.std.proofs.Common.{◌≡◌, ◌<◌, ◌≤◌, ◌+◌, ℕ, List, [], ◌∷◌, sym, ap, inl, inr, subst, arith, Bool, map, filter, not, ◌==◌, Option, Some}
 use Rattle.std.specs.List.{AllByRecursion}
-use Rattle.std.proofs.lemmas.Bool.{cases_lt}
 use Rattle.timer_base.proofs.Basics.{either}
 use Rattle.timer_base.specs.Order.{AreRising}
 use Rattle.timer_base.proofs.OrderLaws.{All-filter, AreRising-weaken}
 use Rattle.timer_base.specs.WheelState.{IsPending, held_at}
-use Rattle.timer_links.specs.Lists.{without_key, list_if_alone, AreApart, IsAloneIn}
+use Rattle.timer_links.specs.Lists.{without_key, AreApart, IsAloneIn}
 use Rattle.timer_wheels.specs.Types.{LAST, Handle, Timer, Ghosts, list_at, Row, Rows, Table}
 use Rattle.timer_wheels.specs.Bank.{IsBank, LeavesBits}
 use Rattle.timer_wheels.specs.BucketLists.{row_timer, row_timers, AreBuckets, EachRow}
 use Rattle.timer_wheels.specs.Buckets.{state_of}
 use Rattle.timer_wheels.specs.Digits.{IsTable, HasDigits}
-use Rattle.timer_wheels.specs.Occupied.{AreMarked, Clears}
+use Rattle.timer_wheels.specs.Occupied.{AreMarked}
 use Rattle.timer_wheels.specs.Smooth.{slot_in, smooth_list, next_list, moved_to, mark, IsByLaw}
 use Rattle.timer_wheels.specs.Tables.{radices}
 use Rattle.timer_wheels.specs.declared.buckets.Buckets.{Buckets}
-use Rattle.timer_wheels.proofs.Handles.{held_node}
-use Rattle.timer_wheels.proofs.OccupiedLemmas.{marked_same}
 use Rattle.timer_wheels.proofs.OrderedLists.{ordered-without_key}
 use Rattle.timer_wheels.proofs.RowLemmas.{all-list_at, list_at-without_key}
 use Rattle.timer_wheels.proofs.BankLemmas.{to_relation, to_law, lists_in_range}

@@ -1,5 +1,5 @@
 -- Lemmas for the files of a lazy hierarchy: where rows are, the first visit, and ticks that visit no bucket.
-use Rattle.std.proofs.Common.{◌≡◌, ◌≢◌, ◌<◌, ◌≤◌, ◌+◌, ◌-◌, ℕ, List, [], ◌∷◌, ◌++◌, length, refl, sym, ◌∙◌, ap, subst, inl, inr, arith, Some, None, Option, IfSome, IfNone}
+use Rattle.std.proofs.Common.{◌≡◌, ◌<◌, ◌≤◌, ◌+◌, ◌-◌, ℕ, List, [], ◌∷◌, ◌++◌, length, refl, sym, ◌∙◌, ap, subst, inl, inr, arith, Some, None, Option, IfSome, IfNone}
 use Rattle.std.specs.List.{AllByRecursion}
 use Rattle.std.proofs.lemmas.Bool.{cases_lt}
 use Rattle.timer_base.proofs.OrderLaws.{All-in_order, All-weaken}
@@ -12,11 +12,11 @@ use Rattle.timer_wheels.specs.Types.{Handle, Timer, WheelState, Ghosts, Node, li
 use Rattle.timer_wheels.specs.BucketLists.{row_timer, entry_of, entries_of, rows_below, pending_in, AreBuckets, EachRow}
 use Rattle.timer_wheels.specs.Buckets.{state_of, IsSameFrame}
 use Rattle.timer_wheels.specs.Digits.{IsTable, HasDigits, slots, bucket, emptied}
-use Rattle.timer_wheels.specs.Filed.{IsAhead, IsFiled}
+use Rattle.timer_wheels.specs.Filed.{IsFiled}
 use Rattle.timer_wheels.specs.Files.{AreFiles, AreVisitedFrom}
 use Rattle.timer_wheels.specs.Filing.{EmptiesBucket}
 use Rattle.timer_wheels.specs.Leap.{list_visit}
-use Rattle.timer_wheels.specs.Occupied.{bit_of, filled, AreMarked, IsFirstSet}
+use Rattle.timer_wheels.specs.Occupied.{bit_of, filled, IsFirstSet}
 use Rattle.timer_wheels.specs.Tables.{radices}
 use Rattle.timer_wheels.specs.declared.buckets.Buckets.{Buckets}
 use Rattle.timer_wheels.specs.declared.table.TheConstants.{MOST_BUCKETS}

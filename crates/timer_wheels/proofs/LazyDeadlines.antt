@@ -1,16 +1,16 @@
 -- Lemmas for `next_deadline` of a lazy wheel: a walk along its buckets in the order of their visits.
-use Rattle.std.proofs.Common.{◌≡◌, ◌<◌, ◌≤◌, ◌+◌, ◌-◌, ℕ, suc, zero, List, [], ◌∷◌, length, refl, sym, ◌∙◌, ap, subst, inl, inr, arith, Some, None, Option}
+use Rattle.std.proofs.Common.{◌≡◌, ◌<◌, ◌≤◌, ◌+◌, ◌-◌, ℕ, suc, zero, List, length, sym, ◌∙◌, ap, subst, inl, inr, arith, Some, None, Option}
 use Rattle.std.specs.List.{AllByRecursion}
 use Rattle.std.proofs.lemmas.Bool.{cases_lt}
 use Rattle.timer_base.specs.PlainState.{earliest}
 use Rattle.timer_base.proofs.OrderLaws.{All-weaken}
 use Rattle.timer_base.specs.WakeUps.{next_deadline}
-use Rattle.timer_wheels.specs.Types.{Timer, Ghosts, list_at, KeyedLists, Row, Rows, Table}
-use Rattle.timer_wheels.specs.BucketLists.{row_timer, row_timers, rows_below, AreBuckets}
+use Rattle.timer_wheels.specs.Types.{Ghosts, list_at, KeyedLists, Rows, Table}
+use Rattle.timer_wheels.specs.BucketLists.{row_timer, row_timers, rows_below}
 use Rattle.timer_wheels.specs.Buckets.{state_of}
 use Rattle.timer_wheels.specs.Digits.{slots}
 use Rattle.timer_wheels.specs.Files.{AreFiles, IsBy}
-use Rattle.timer_wheels.specs.FirstDeadline.{HasDeadline, IsLeast, IsLeastDeadline}
+use Rattle.timer_wheels.specs.FirstDeadline.{HasDeadline, IsLeastDeadline}
 use Rattle.timer_wheels.specs.Leap.{list_visit}
 use Rattle.timer_wheels.specs.Occupied.{bit_of}
 use Rattle.timer_wheels.specs.Tables.{radices}

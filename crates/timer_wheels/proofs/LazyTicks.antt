@@ -4,12 +4,12 @@ use Rattle.std.specs.List.{AllByRecursion}
 use Rattle.std.specs.List.Sorted.{IsPermutation}
 use Rattle.std.proofs.lemmas.Bool.{cases_eq, cases_lt, eq-eqb, ne_eqb, eqb-true}
 use Rattle.std.proofs.lemmas.List.Elements.{filter-append, All-from_recursion, recursion_from_All}
-use Rattle.std.proofs.lemmas.List.Sorted.{IsPermutation-map, All-permutation}
+use Rattle.std.proofs.lemmas.List.Sorted.{All-permutation}
 use Rattle.timer_base.proofs.Basics.{is_not_due, is_due, not_due_before, either}
 use Rattle.timer_base.proofs.OneOrder.{ordered_is_in_order, AreDistinct-permuted}
-use Rattle.timer_base.specs.Order.{AreRising, AreDistinct, IsNotAmong, IsOrdered, in_order}
-use Rattle.timer_base.proofs.OrderLaws.{map-in_order, in_order-same, AllAt, All-filter, All-weaken, filter_same, IsOrdered-in_order}
-use Rattle.timer_base.specs.Pending.{Entry, timer_of, is_due_at, entries_due, entries_left}
+use Rattle.timer_base.specs.Order.{AreRising, IsNotAmong, IsOrdered, in_order}
+use Rattle.timer_base.proofs.OrderLaws.{map-in_order, in_order-same, All-filter, All-weaken, filter_same, IsOrdered-in_order}
+use Rattle.timer_base.specs.Pending.{timer_of, is_due_at, entries_due, entries_left}
 use Rattle.timer_base.specs.WheelState.{IsPending, after_tick}
 use Rattle.timer_wheels.specs.Types.{list_at, KeyedLists, Row, Rows}
 use Rattle.timer_wheels.specs.Digits.{IsTable, HasDigits, slots, last_of, bucket, emptied, BucketAtTick}
@@ -19,12 +19,12 @@ use Rattle.timer_wheels.specs.Leap.{list_visit}
 use Rattle.timer_wheels.specs.Merges.{AreSorted, serial_of}
 use Rattle.timer_wheels.proofs.DigitLaws.{bucket_at_tick, digits_down, emptied_in_range}
 use Rattle.timer_wheels.proofs.AllLemmas.{all-both, all-map, filter_none, filter_rest}
-use Rattle.timer_wheels.specs.BucketLaws.{wheel_state-well_formed, timers_of-entries}
+use Rattle.timer_wheels.specs.BucketLaws.{wheel_state-well_formed}
 use Rattle.timer_wheels.specs.BucketLists.{row_timer, row_timers, entry_of, entries_of, rows_below, pending_in, ArePending, AreBuckets, EachRow, wheel_state}
 use Rattle.timer_wheels.specs.Migration.{target, migrated, due_rows, left_rows, MayMigrate}
 use Rattle.timer_wheels.proofs.FiledLemmas.{is_filed, ahead_in_range, ahead_until, visited_later, goes_elsewhere}
 use Rattle.timer_wheels.proofs.RowLemmas.{all-append, all-front, all-rest, all-rows_below, all-list_at, IsAround, around, append-nil, rows_below-fewer, rows_below-same}
-use Rattle.timer_wheels.proofs.BucketLemmas.{filter-pending_in, AreDistinct-part, no_rows, due_past, each-same}
+use Rattle.timer_wheels.proofs.BucketLemmas.{filter-pending_in, AreDistinct-part, due_past}
 use Rattle.timer_wheels.proofs.MigrationLemmas.{target_due, target_left, migrate_rows-length, to_list, list_at-migrate_rows, Distinct, in_order-pulled, distinct-pulled, GoesDown, AreMigrated, migrate_rows_keeps}
 
 -- the invariant of a lazy hierarchy before a tick, of whose n lists the first are its buckets

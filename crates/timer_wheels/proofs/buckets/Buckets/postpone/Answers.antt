@@ -1,4 +1,4 @@
-use Rattle.std.proofs.Common.{◌<◌, sym, ◌∙◌, ap, arith}
+use Rattle.std.proofs.Common.{sym, ◌∙◌, ap, arith}
 use Rattle.timer_base.proofs.HeldLaws.{with_room-held_start}
 use Rattle.timer_base.specs.WheelState.{with_room, after_removal}
 use Rattle.timer_wheels.specs.Buckets.{roomless_state}

@@ -1,4 +1,4 @@
-use Rattle.std.proofs.Common.{◌≡◌, ◌≢◌, ◌<◌, ◌+◌, ◌++◌, ◌∷◌, [], ℕ, length, refl, sym, ◌∙◌, ap, subst, arith}
+use Rattle.std.proofs.Common.{◌≡◌, ◌<◌, ◌+◌, ◌++◌, ◌∷◌, [], ℕ, length, refl, sym, ◌∙◌, ap, subst, arith}
 use Rattle.timer_wheels.specs.Types.{Rows}
 use Rattle.timer_links.specs.Lists.{list_at}
 use Rattle.timer_wheels.specs.Digits.{slots}
@@ -6,7 +6,7 @@ use Rattle.timer_wheels.specs.Merges.{serial_of}
 use Rattle.timer_wheels.specs.Occupied.{filled}
 use Rattle.timer_wheels.specs.Tables.{radices}
 use Rattle.timer_wheels.proofs.FilingLemmas.{AreSortedTo, sorted_none, sorted_more, front_serial}
-use Rattle.timer_wheels.proofs.MigrationLoop.{IsEmptying, first_row, front_deadline_is, no_front, next_due, next_left, due_target, left_target, goes_elsewhere, next_timer, gone_to, gone_past, shorter, ended_none, emptying_begun}
+use Rattle.timer_wheels.proofs.MigrationLoop.{first_row, front_deadline_is, no_front, next_due, next_left, due_target, left_target, goes_elsewhere, next_timer, gone_to, gone_past, shorter, ended_none, emptying_begun}
 use Rattle.timer_wheels.proofs.OccupiedLemmas.{marked_due, marked_left, marked_all}
 use Rattle.timer_wheels.proofs.lazy.filing.refile.Goals as goal
 

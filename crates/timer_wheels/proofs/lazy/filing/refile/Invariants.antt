@@ -1,4 +1,4 @@
-use Rattle.std.proofs.Common.{◌≡◌, ◌<◌, [], length, ℕ, IsTrue}
+use Rattle.std.proofs.Common.{◌≡◌, ◌<◌, length, ℕ, IsTrue}
 use Rattle.timer_wheels.specs.Digits.{slots}
 use Rattle.timer_wheels.specs.Tables.{radices}
 use Rattle.timer_wheels.specs.Occupied.{bit_of, AreMarkedBut}

@@ -1,7 +1,5 @@
-use Rattle.std.proofs.Common.{◌≡◌, ◌<◌, ◌≤◌, ◌+◌, ℕ, sym, subst, arith, min}
-use Rattle.timer_wheels.specs.Digits.{slots}
+use Rattle.std.proofs.Common.{◌≡◌, ◌+◌, ℕ, subst, arith, min}
 use Rattle.timer_wheels.specs.Files.{IsBy}
-use Rattle.timer_wheels.specs.Tables.{radices}
 use Rattle.timer_wheels.proofs.LazyDeadlines.{least_past, least_one_more, least_of_all, least_by_visit}
 use Rattle.timer_wheels.proofs.lazy.files.Files.next_deadline.Goals as goal
 

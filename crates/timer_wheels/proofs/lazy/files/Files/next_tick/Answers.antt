@@ -1,11 +1,8 @@
-use Rattle.std.proofs.Common.{◌≡◌, ◌≤◌, ◌+◌, ℕ, sym, ◌∙◌, ap, subst, arith}
+use Rattle.std.proofs.Common.{◌+◌, ℕ, sym, ap, subst, arith}
 use Rattle.std.specs.List.{AllByRecursion}
 use Rattle.timer_base.specs.WheelState.{with_room}
-use Rattle.timer_links.specs.Lists.{list_at, KeyedLists}
-use Rattle.timer_wheels.specs.Digits.{emptied, slots, last_of}
-use Rattle.timer_wheels.specs.Filing.{EmptiesBucket}
+use Rattle.timer_links.specs.Lists.{list_at}
 use Rattle.timer_wheels.specs.Migration.{MayMigrate}
-use Rattle.timer_wheels.specs.Occupied.{AreMarked}
 use Rattle.timer_wheels.specs.Tables.{radices}
 use Rattle.timer_wheels.proofs.FilesLemmas.{before, ticked}
 use Rattle.timer_wheels.proofs.LazyTicks.{all_may_migrate, none_from}

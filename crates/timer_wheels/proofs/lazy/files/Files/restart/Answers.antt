@@ -1,4 +1,4 @@
-use Rattle.std.proofs.Common.{inl, inr, arith, ◌≤◌, ◌<◌}
+use Rattle.std.proofs.Common.{inl, inr, arith}
 use Rattle.timer_wheels.proofs.lazy.files.Files.restart.Goals as goal
 
 pub returns-in-Some-clause-in_place : goal.returns-in-Some-clause-in_place

@@ -1,4 +1,4 @@
-use Rattle.std.proofs.Common.{◌<◌, ◌∙◌, refl}
+use Rattle.std.proofs.Common.{◌∙◌, refl}
 use Rattle.timer_wheels.specs.Buckets.{row_at}
 use Rattle.timer_wheels.specs.Digits.{slots}
 use Rattle.timer_wheels.specs.Filed.{IsFiled}

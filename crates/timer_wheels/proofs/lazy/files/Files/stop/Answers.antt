@@ -1,4 +1,4 @@
-use Rattle.std.proofs.Common.{◌≡◌, ◌<◌, ℕ, sym, ◌∙◌, ap, map, Some}
+use Rattle.std.proofs.Common.{◌≡◌, ◌<◌, sym, ◌∙◌, ap, Some}
 use Rattle.timer_base.specs.WheelState.{held_at}
 use Rattle.timer_wheels.specs.Buckets.{state_of, taken_timer}
 use Rattle.timer_wheels.specs.Digits.{slots}
