@@ -1,30 +1,26 @@
 -- Lemmas for `Bank::stop`: a row leaves its list.
-use Rattle.std.proofs.Common.{◌≡◌, ◌<◌, ◌≤◌, ◌+◌, ℕ, List, [], ◌∷◌, ◌++◌, sym, ◌∙◌, ap, inl, inr, subst, arith, slice_set, get_or-set_other, Bool, map, filter, not, ◌==◌, Option, Some}
+use Rattle.std.proofs.Common.{◌≡◌, ◌<◌, ◌≤◌, ◌+◌, ℕ, List, [], ◌∷◌, sym, ap, inl, inr, subst, arith, Bool, map, filter, not, ◌==◌, Option, Some}
 use Rattle.std.specs.List.{AllByRecursion}
-use Rattle.std.proofs.lemmas.Bool.{cases_lt}
 use Rattle.timer_base.proofs.Basics.{either}
 use Rattle.timer_base.specs.Order.{AreRising}
 use Rattle.timer_base.proofs.OrderLaws.{All-filter, AreRising-weaken}
 use Rattle.timer_base.specs.WheelState.{IsPending, held_at}
-use Rattle.timer_links.specs.Lists.{without_key, list_if_alone, AreApart, IsAloneIn}
+use Rattle.timer_links.specs.Lists.{without_key, AreApart, IsAloneIn}
 use Rattle.timer_wheels.specs.Types.{LAST, Handle, Timer, Ghosts, list_at, Row, Rows, Table}
 use Rattle.timer_wheels.specs.Bank.{IsBank, LeavesBits}
 use Rattle.timer_wheels.specs.BucketLists.{row_timer, row_timers, AreBuckets, EachRow}
 use Rattle.timer_wheels.specs.Buckets.{state_of}
 use Rattle.timer_wheels.specs.Digits.{IsTable, HasDigits}
-use Rattle.timer_wheels.specs.Occupied.{AreMarked, Clears}
+use Rattle.timer_wheels.specs.Occupied.{AreMarked}
 use Rattle.timer_wheels.specs.Smooth.{slot_in, smooth_list, next_list, moved_to, mark, IsByLaw}
 use Rattle.timer_wheels.specs.Tables.{radices}
 use Rattle.timer_wheels.specs.declared.buckets.Buckets.{Buckets}
-use Rattle.timer_wheels.proofs.Handles.{held_node}
-use Rattle.timer_wheels.proofs.OccupiedLemmas.{marked_same}
 use Rattle.timer_wheels.proofs.OrderedLists.{ordered-without_key}
 use Rattle.timer_wheels.proofs.RowLemmas.{all-list_at, list_at-without_key}
 use Rattle.timer_wheels.proofs.BankLemmas.{to_relation, to_law, lists_in_range}
 use Rattle.timer_wheels.proofs.SmoothPlaces.{weaker, places_left, front_gone}
 use Rattle.timer_wheels.proofs.TableLaws.{of_table}
-use Rattle.timer_wheels.proofs.WheelUpdates.{taken_out}
-use Rattle.timer_links.proofs.Rows.{stands_in}
+use Rattle.timer_wheels.proofs.BitLemmas.{left_marked}
 
 -- a mark only rises as rows leave
 filter_rises : (p : Row → Bool) (low : ℕ) (rows : Rows) → AllByRecursion (λ u. (row_timer u).serial ≤ LAST) rows → AreRising low (row_timers rows)
@@ -36,18 +32,6 @@ filter_rises p low (x ∷ xs) a r = elim (either (p x)) [
       let r0 : AreRising 0 (row_timers (x ∷ xs)) = AreRising-weaken low 0 (row_timers (x ∷ xs)) (omega arith) r in
       rw k (omega (arith, (front_gone x xs a.0 r0).0, filter_rises p (row_timer x).serial xs a.1 r.1))
 ]
-
-to_clears : (n l : ℕ) (front rest : Rows) (words words2 : List ℕ) → l < n → LeavesBits n (list_if_alone l front rest) words words2
-    → Clears (list_if_alone l front rest) words words2
-to_clears n l [] [] words words2 h c = c.0 h
-to_clears n l [] (x ∷ xs) words words2 h c = c
-to_clears n l (x ∷ xs) rest words words2 h c = c
-
-not_cleared : (n l : ℕ) (front rest : Rows) (words words2 : List ℕ) → n ≤ l → LeavesBits n (list_if_alone l front rest) words words2
-    → words2 ≡ words
-not_cleared n l [] [] words words2 h c = c.1 h
-not_cleared n l [] (x ∷ xs) words words2 h c = c
-not_cleared n l (x ∷ xs) rest words words2 h c = c
 
 module _ {N : Type 0} {kept : Ghosts N} (t : Table) (b : Buckets N kept) (words : List ℕ) (h : IsBank t b words) (handle : Handle) where
   pub stopped_placed : (last2 : ℕ) → AreBuckets b.slots b.last_tick b.tick last2 (map (without_key handle.place) b.links.lists)
@@ -82,22 +66,5 @@ module _ {N : Type 0} {kept : Ghosts N} (t : Table) (b : Buckets N kept) (words 
   module _ (apart : AreApart b.links.lists) (timer : Timer) (e : held_at handle (state_of b) ≡ Some timer) (emptied : Option ℕ)
       (alone : IsAloneIn handle.place b.links.lists emptied) (words2 : List ℕ) (leaves : LeavesBits b.slots emptied words words2) where
     pub stopped_marked : AreMarked b.slots words2 (map (without_key handle.place) b.links.lists)
-    stopped_marked =
-        let there = stands_in handle.place (held_node b.sound apart handle timer e).node b.links.lists (held_node b.sound apart handle timer e).at in
-        let rest_is : map (without_key handle.place) b.links.lists ≡ slice_set b.links.lists there.l (there.front ++ there.rest) =
-        (apart there.l there.front (handle.place, (held_node b.sound apart handle timer e).node) there.rest there.in_range there.at).1 in
-        let emptied_is : emptied ≡ list_if_alone there.l there.front there.rest =
-        alone there.l there.front (held_node b.sound apart handle timer e).node there.rest there.in_range there.at in
-        let bits : LeavesBits b.slots (list_if_alone there.l there.front there.rest) words words2 =
-        subst (λ (o : Option ℕ). LeavesBits b.slots o words words2) emptied_is leaves in
-        elim (cases_lt there.l b.slots) [
-          | inl l ↦ subst (AreMarked b.slots words2) (sym rest_is) (taken_out b.slots words words2 there.l b.links.lists l there.in_range h.marked
-              handle.place (held_node b.sound apart handle timer e).node there.front there.rest there.at
-              (to_clears b.slots there.l there.front there.rest words words2 l bits))
-          | inr l ↦
-              let same : words2 ≡ words = not_cleared b.slots there.l there.front there.rest words words2 l bits in
-              subst (λ (x : List ℕ). AreMarked b.slots x (map (without_key handle.place) b.links.lists)) (sym same)
-              (marked_same b.slots words b.links.lists (map (without_key handle.place) b.links.lists)
-              (λ s k. ap (list_at s) rest_is ∙ get_or-set_other b.links.lists there.l s (there.front ++ there.rest) []
-              (λ (q : s ≡ there.l). omega arith)) h.marked)
-        ]
+    stopped_marked = left_marked b.sound handle apart timer e emptied alone b.slots (omega arith) (λ l front row rest k at m. m) words words2 h.marked
+        leaves

@@ -383,7 +383,7 @@ module _ {table : List ℕ} {last_tick a last_serial : ℕ} {lists : KeyedLists}
   goes_down row (inr g) f = omega (arith, g.to, target_left table (a + 1) row f, l_in_range, not_below_m)
 
   keeps : AreMigrated table (a + 1) rows_l base
-  keeps = migrate_rows_keeps table (a + 1) rows_l base base-length (all_leaving (GoesDown table (a + 1)) goes_down)
+  keeps = migrate_rows_keeps table (a + 1) rows_l base (omega (arith, base-length)) (all_leaving (GoesDown table (a + 1)) goes_down)
       (subst (λ (rows : Rows). Distinct (rows_l ++ rows)) (sym base_rows)
       (distinct-pulled around_l.front rows_l around_l.rest distinct_around))
 

@@ -50,6 +50,16 @@ pub mod SmoothWeights
 pub mod SmoothHeights
 pub mod BankNext
 pub mod BankCounts
+pub mod Postponed
+pub mod FiledLemmas
+pub mod LazyTicks
+pub mod FilingLemmas
+pub mod BitLemmas
+pub mod FilesLemmas
+pub mod LazyDeadlines
+pub mod MergeLemmas
+pub mod BinLemmas
+pub mod SortLemmas
 pub mod OrderedLists
 pub mod PaceLemmas
 pub mod SmoothTotals

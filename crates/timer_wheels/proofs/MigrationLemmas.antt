@@ -1,5 +1,5 @@
 -- Where the rows of an emptied bucket go: each list after `migrated`, and the order of what is pending then.
-use Rattle.std.proofs.Common.{◌≡◌, ◌<◌, ◌+◌, ℕ, ◌==◌, List, [], ◌∷◌, ◌++◌, length, refl, sym, ◌∙◌, ap, subst, inl, inr, arith, append_assoc, length-set, get_or-set_same, get_or-set_other, true, false, filter, not}
+use Rattle.std.proofs.Common.{◌≡◌, ◌<◌, ℕ, ◌==◌, List, [], ◌∷◌, ◌++◌, length, refl, sym, ◌∙◌, ap, subst, inl, inr, arith, append_assoc, length-set, get_or-set_same, get_or-set_other, true, false, filter, not}
 use Rattle.std.specs.List.{AllByRecursion}
 use Rattle.std.proofs.lemmas.Bool.{cases_eq, eq-eqb, ne_eqb}
 use Rattle.timer_base.proofs.Basics.{either}
@@ -141,7 +141,7 @@ kept_left : (tick : ℕ) (x : Row) (xs rows : Rows) → is_due_at tick (row_time
 kept_left tick x xs rows k = rw k refl
 
 migrate_rows_left : (table : List ℕ) (tick : ℕ) (x : Row) (xs : Rows) (lists : KeyedLists) (l : ℕ)
-    → l ≡ bucket table tick (row_timer x).deadline → l < slots table → length lists ≡ slots table + 1 → is_due_at tick (row_timer x) ≡ false
+    → l ≡ bucket table tick (row_timer x).deadline → l < slots table → slots table < length lists → is_due_at tick (row_timer x) ≡ false
     → Distinct ((x ∷ xs) ++ rows_below (slots table) lists)
     → (Distinct (xs ++ rows_below (slots table) (with_row l x lists)) → AreMigrated table tick xs (with_row l x lists))
     → AreMigrated table tick (x ∷ xs) lists
@@ -175,15 +175,15 @@ migrate_rows_left table tick x xs lists l le b len k d ih =
     }
 
 pub migrate_rows_keeps : (table : List ℕ) (tick : ℕ) (rows : Rows) (lists : KeyedLists)
-    → length lists ≡ slots table + 1 → AllByRecursion (GoesDown table tick) rows → Distinct (rows ++ rows_below (slots table) lists)
+    → slots table < length lists → AllByRecursion (GoesDown table tick) rows → Distinct (rows ++ rows_below (slots table) lists)
     → AreMigrated table tick rows lists
 migrate_rows_keeps table tick [] lists len g d = record { distinct = d; pending = refl }
 migrate_rows_keeps table tick (x ∷ xs) lists len g d = elim (either (is_due_at tick (row_timer x))) [
   | inl k ↦ migrate_rows_due table tick x xs lists k d
       (λ d2. migrate_rows_keeps table tick xs (with_row (slots table) x lists)
-      (length-set lists (slots table) (list_at (slots table) lists ++ x ∷ []) ∙ len) g.1 d2)
+      (omega (arith, length-set lists (slots table) (list_at (slots table) lists ++ x ∷ []))) g.1 d2)
   | inr k ↦
       let l : ℕ = bucket table tick (row_timer x).deadline in
       migrate_rows_left table tick x xs lists l refl (g.0 k) len k d
-      (λ d2. migrate_rows_keeps table tick xs (with_row l x lists) (length-set lists l (list_at l lists ++ x ∷ []) ∙ len) g.1 d2)
+      (λ d2. migrate_rows_keeps table tick xs (with_row l x lists) (omega (arith, length-set lists l (list_at l lists ++ x ∷ []))) g.1 d2)
 ]

@@ -9,8 +9,9 @@ use Rattle.timer_base.specs.Pending.{is_due_at}
 use Rattle.timer_links.specs.declared.kept.Node.{Node}
 use Rattle.timer_links.specs.Lists.{list_at, with_row, row_count, front_moved, first_row_moved, appended, node_at, first_key, AreApart, IsNext, KeyedLists, Row, Rows}
 use Rattle.timer_wheels.specs.Digits.{slots, bucket}
+use Rattle.timer_wheels.specs.Types.{Timer}
 use Rattle.timer_wheels.specs.BucketLists.{row_timer}
-use Rattle.timer_wheels.specs.Migration.{target, migrate_rows, migrated, left_rows, first_deadline, second_deadline, MayMigrate, IsOfTick}
+use Rattle.timer_wheels.specs.Migration.{target, migrate_rows, migrated, left_rows, first_deadline, second_deadline, timer_in_front, timer_behind, MayMigrate, IsOfTick}
 use Rattle.timer_wheels.proofs.MigrationLemmas.{target_due, target_left}
 use Rattle.timer_wheels.proofs.RowLemmas.{append-nil, set_twice, set_swapped}
 use Rattle.timer_wheels.proofs.WalkLemmas.{IsNextRow, begun, next_row, found, walked}
@@ -60,6 +61,17 @@ module _ (table : List ℕ) (l tick : ℕ) (lists : KeyedLists) (row : Row) (res
   length_same : length after ≡ length lists
   length_same = length-set (slice_set lists l rest) to (list_at to (slice_set lists l rest) ++ row ∷ []) ∙ length-set lists l rest
 
+pub emptying_begun : (table : List ℕ) (l tick : ℕ) (lists : KeyedLists) → l < length lists
+    → AllByRecursion (MayMigrate table tick l) (list_at l lists) → IsEmptying table l tick 0 lists lists
+emptying_begun table l tick lists h a = record {
+  in_range = h;
+  leads = refl;
+  has_lists = refl;
+  rows = a;
+  moves_are = omega arith;
+  few = omega arith;
+}
+
 due_more : (tick : ℕ) (row : Row) (rest : Rows) → is_due_at tick (row_timer row) ≡ true
     → length (left_rows tick (row ∷ rest)) ≡ length (left_rows tick rest)
 due_more tick row rest k = rw k refl
@@ -92,6 +104,15 @@ first_in table l tick d lists (row ∷ rest) at a e = record {
 pub first_row : {table : List ℕ} {l tick moves d : ℕ} {old lists : KeyedLists}
     → IsEmptying table l tick moves old lists → Some d ≡ first_deadline (list_at l lists) → IsFirstRow table l tick d lists
 first_row {table} {l} {tick} {moves} {d} {old} {lists} s e = first_in table l tick d lists (list_at l lists) refl s.rows (sym e)
+
+-- a first timer has its deadline
+pub front_deadline_is : (rows : Rows) (o : Option Timer) (t : Timer) → o ≡ timer_in_front rows → o ≡ Some t → Some t.deadline ≡ first_deadline rows
+front_deadline_is [] o t e q = absurd (none_some t (sym e ∙ q))
+front_deadline_is (x ∷ xs) o t e q = ap (λ (u : Timer). Some u.deadline) (sym (some_same (row_timer x) t (sym e ∙ q)))
+
+pub no_front : (rows : Rows) → None ≡ timer_in_front rows → None ≡ first_deadline rows
+no_front [] e = refl
+no_front (x ∷ xs) e = absurd (none_some (row_timer x) e)
 
 none_first : (rows : Rows) → first_deadline rows ≡ None → rows ≡ []
 none_first [] e = refl
@@ -173,6 +194,26 @@ module _ {table : List ℕ} {l tick moves d : ℕ} {old lists : KeyedLists} (new
       → o ≡ second_deadline (list_at l lists) → o ≡ first_deadline (list_at l new)
   ahead_after to o q p h = h ∙ (ap second_deadline f.at ∙ ap first_deadline (sym (rest_at to q p)))
 
+  pub next_timer : (to : ℕ) (o : Option Timer) → to ≡ target table tick f.row → new ≡ front_moved l to lists
+      → o ≡ timer_behind (list_at l lists) → o ≡ timer_in_front (list_at l new)
+  next_timer to o q p h = h ∙ (ap timer_behind f.at ∙ ap timer_in_front (sym (rest_at to q p)))
+
+  -- the list that it goes to, and the others
+  pub gone_to : (to : ℕ) → to ≡ target table tick f.row → new ≡ front_moved l to lists → to < length lists
+      → list_at to new ≡ list_at to lists ++ f.row ∷ []
+  gone_to to q e h =
+      let apart : to ≢ l = λ (x : to ≡ l). f.first.elsewhere (sym q ∙ x) in
+      ap (list_at to) (e ∙ ap (first_row_moved l to lists) f.at)
+      ∙ (get_or-set_same (slice_set lists l f.rest) to (list_at to (slice_set lists l f.rest) ++ f.row ∷ []) []
+      (rw (length-set lists l f.rest) h)
+      ∙ ap (λ (y : Rows). y ++ f.row ∷ []) (get_or-set_other lists l to f.rest [] apart))
+
+  pub gone_past : (to s : ℕ) → new ≡ front_moved l to lists → s ≢ l → s ≢ to → list_at s new ≡ list_at s lists
+  gone_past to s e n m =
+      ap (list_at s) (e ∙ ap (first_row_moved l to lists) f.at)
+      ∙ (get_or-set_other (slice_set lists l f.rest) to s (list_at to (slice_set lists l f.rest) ++ f.row ∷ []) [] m
+      ∙ get_or-set_other lists l s f.rest [] n)
+
   -- fewer are left
   pub shorter : (to : ℕ) → to ≡ target table tick f.row → new ≡ front_moved l to lists
       → length (list_at l new) < length (list_at l lists)
@@ -241,12 +282,21 @@ no_deadline : (rows : Rows) → first_key rows ≡ None → None ≡ first_deadl
 no_deadline [] e = refl
 no_deadline (x ∷ xs) e = absurd (some_none x.0 e)
 
+none_in_front : (rows : Rows) → first_key rows ≡ None → None ≡ timer_in_front rows
+none_in_front [] e = refl
+none_in_front (x ∷ xs) e = absurd (some_none x.0 e)
+
 module _ (l first : ℕ) (lists : KeyedLists) (b : l < length lists) (e : Some first ≡ first_key (list_at l lists)) where
   first_is : IsNextRow l 0 lists first [] (list_at l lists)
   first_is = next_row l 0 lists (Some first) first [] (begun l lists (Some first) e) refl
 
   pub front_of : AreApart lists → IsAt first lists (first_deadline (list_at l lists))
   front_of a = record { node = first_is.node; found = found l 0 lists b a first [] first_is; is = ap first_deadline first_is.rows }
+
+  pub front_timer_is : AreApart lists → (node : Node) → Some node ≡ node_at first lists
+      → Some node.timer ≡ timer_in_front (list_at l lists)
+  front_timer_is a node e = ap (λ (n : Node). Some n.timer) (some_same node first_is.node (e ∙ found l 0 lists b a first [] first_is))
+      ∙ sym (ap timer_in_front first_is.rows)
 
   module _ (next : Option ℕ) (n : IsNext first lists next) where
     next_is : next ≡ first_key first_is.rest
@@ -257,6 +307,16 @@ module _ (l first : ℕ) (lists : KeyedLists) (b : l < length lists) (e : Some f
         let past : Rows = (first, first_is.node) ∷ [] in
         let w = next_row l 1 lists next key past (walked l 0 lists first [] first_is next next_is) q in
         record { node = w.node; found = found l 1 lists b a key past w; is = ap second_deadline w.rows }
+
+    pub second_timer_is : (key : ℕ) → AreApart lists → next ≡ Some key → (node : Node) → Some node ≡ node_at key lists
+        → Some node.timer ≡ timer_behind (list_at l lists)
+    second_timer_is key a q node e =
+        let past : Rows = (first, first_is.node) ∷ [] in
+        let w = next_row l 1 lists next key past (walked l 0 lists first [] first_is next next_is) q in
+        ap (λ (n : Node). Some n.timer) (some_same node w.node (e ∙ found l 1 lists b a key past w)) ∙ sym (ap timer_behind w.rows)
+
+    pub no_second_timer : next ≡ None → None ≡ timer_behind (list_at l lists)
+    no_second_timer q = none_in_front first_is.rest (sym next_is ∙ q) ∙ sym (ap timer_behind first_is.rows)
 
     -- or no row is behind the first one
     pub no_second : next ≡ None → None ≡ second_deadline (list_at l lists)

@@ -1,13 +1,12 @@
 -- The buckets of wheels that never leave a restarted timer where it stands: each keeps its rows in order of starting.
 use Rattle.std.proofs.Common.{◌≡◌, ◌<◌, ◌+◌, ◌==◌, ℕ, [], ◌∷◌, ◌++◌, length, sym, inl, inr, subst, arith, map, not, get_or-set_other}
 use Rattle.std.proofs.lemmas.Bool.{cases_lt}
-use Rattle.std.specs.List.{AllByRecursion}
 use Rattle.timer_base.specs.Order.{AreRising}
 use Rattle.timer_base.specs.WheelState.{IsPending}
 use Rattle.timer_links.specs.Lists.{with_row, without_key}
 use Rattle.timer_wheels.specs.Types.{list_at, KeyedLists, Row, Rows}
 use Rattle.timer_wheels.specs.Buckets.{IsListOf}
-use Rattle.timer_wheels.specs.BucketLists.{row_timer, row_timers, rows_below, AreInOrder, AreBuckets}
+use Rattle.timer_wheels.specs.BucketLists.{row_timer, row_timers, AreInOrder, AreBuckets}
 use Rattle.timer_wheels.proofs.BucketLemmas.{AreRising-part, AreBelow-pending, in_order-with_row}
 use Rattle.timer_wheels.proofs.RowLemmas.{all-list_at, list_at-without_key}
 

@@ -2,7 +2,7 @@
 -- stood, with fewer rounds, and stretches of ticks in which nothing is due compose.
 use Rattle.std.proofs.Common.{◌≡◌, ◌<◌, ◌≤◌, ◌+◌, ◌-◌, ◌*◌, ◌/◌, ◌%◌, ℕ, List, [], length, refl, sym, ◌∙◌, ap, inl, inr, arith, map, min}
 use Rattle.std.specs.List.{AllByRecursion}
-use Rattle.std.proofs.lemmas.Bool.{cases_eq, cases_lt}
+use Rattle.std.proofs.lemmas.Bool.{cases_lt}
 use Rattle.std.proofs.Math.Nat.{mul-add, add-mul-mod_self_right}
 use Rattle.timer_base.specs.Order.{in_order}
 use Rattle.timer_base.proofs.OrderLaws.{All-in_order, All-weaken}

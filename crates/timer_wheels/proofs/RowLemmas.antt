@@ -76,6 +76,15 @@ rows_below-none (suc n) (x ∷ xs) h =
     let a : x ≡ [] = h 0 (omega arith) in
     rw (a, rows_below-none n xs (λ s b. h (suc s) (omega arith))) refl
 
+-- empty lists at the end change nothing
+pub rows_below-fewer : (m n : ℕ) (lists : KeyedLists) → m ≤ n → ((s : ℕ) → m ≤ s → s < n → list_at s lists ≡ [])
+    → rows_below n lists ≡ rows_below m lists
+rows_below-fewer zero n lists h e = rows_below-none n lists (λ s k. e s (omega arith) k)
+rows_below-fewer (suc m) zero lists h e = absurd (omega arith)
+rows_below-fewer (suc m) (suc n) [] h e = refl
+rows_below-fewer (suc m) (suc n) (x ∷ xs) h e =
+    ap (λ (y : Rows). x ++ y) (rows_below-fewer m n xs (omega arith) (λ s k l. e (suc s) (omega arith) (omega arith)))
+
 -- A row is inserted.
 
 -- the new rows are the old ones with one more inserted
@@ -173,6 +182,15 @@ rows_below-more zero (x ∷ xs) h = append-nil x
 rows_below-more (suc n) [] h = absurd (omega arith)
 rows_below-more (suc n) (x ∷ xs) h = ap (λ (y : Rows). x ++ y) (rows_below-more n xs (omega arith))
     ∙ sym (append_assoc x (rows_below n xs) (list_at n xs))
+
+-- the same lists have the same rows
+pub rows_below-same : (n : ℕ) (old new : KeyedLists) → n ≤ length old → n ≤ length new
+    → ((s : ℕ) → s < n → list_at s new ≡ list_at s old) → rows_below n new ≡ rows_below n old
+rows_below-same zero old new h k e = refl
+rows_below-same (suc n) old new h k e =
+    rows_below-more n new (omega arith)
+    ∙ (ap (λ (y : Rows). y ++ list_at n new) (rows_below-same n old new (omega arith) (omega arith) (λ s l. e s (omega arith)))
+    ∙ (ap (λ (y : Rows). rows_below n old ++ y) (e n (omega arith)) ∙ sym (rows_below-more n old (omega arith))))
 
 -- the timers copied from one more list
 pub timers_below-more : (n : ℕ) (lists : KeyedLists) (old new : List Timer) → n < length lists

@@ -1,6 +1,7 @@
 -- The two changes that every call but a tick composes: a row is removed, and a row is pushed to the back of a list.
 use Rattle.std.proofs.Common.{◌≡◌, ◌<◌, ◌≤◌, ◌+◌, ◌==◌, ℕ, [], ◌∷◌, ◌++◌, length, refl, sym, ◌∙◌, ap, subst, inl, inr, arith, length-set, get_or-set_same, get_or-set_other, Option, Some, None, map, not, slice_set}
 use Rattle.std.specs.List.{AllByRecursion}
+use Rattle.std.proofs.lemmas.Bool.{cases_lt}
 use Rattle.std.proofs.lemmas.List.{length-map}
 use Rattle.timer_base.proofs.HeldLaws.{start_when_later, start_when_now}
 use Rattle.timer_base.specs.Order.{AreBelow, AreRising}
@@ -11,7 +12,7 @@ use Rattle.timer_wheels.specs.Types.{LAST, Node, list_at, KeyedLists, Row, Rows}
 use Rattle.timer_wheels.specs.Buckets.{IsListOf}
 use Rattle.timer_wheels.specs.BucketLists.{row_timer, row_timers, rows_below, wheel_state, AreDue, AreBuckets}
 use Rattle.timer_wheels.proofs.AllLemmas.{all-map}
-use Rattle.timer_wheels.proofs.RowLemmas.{IsInserted, IsNotAmong-below, rows_below-with_row, all-append, entries-append, timers-append, rows_below-above, rows_below-none, rows_below-without_key, list_at-without_key}
+use Rattle.timer_wheels.proofs.RowLemmas.{IsInserted, IsNotAmong-below, rows_below-with_row, all-append, all-rest, entries-append, timers-append, rows_below-above, rows_below-none, rows_below-without_key, list_at-without_key}
 use Rattle.timer_wheels.proofs.BucketLemmas.{AreDistinct-part, AreRising-part, AreBelow-pending, pending_in-newest, all-inserted, distinct-inserted}
 
 module _ {n last_tick now last : ℕ} {lists : KeyedLists} (b : AreBuckets n last_tick now last lists) where
@@ -33,12 +34,12 @@ module _ {n last_tick now last : ℕ} {lists : KeyedLists} (b : AreBuckets n las
       }
 
   -- what is due, with a later last serial
-  older : (serial : ℕ) → last < serial → AreDue now serial (list_at n lists)
+  pub older : (serial : ℕ) → last < serial → AreDue now serial (list_at n lists)
   older serial fresh = All-weaken (λ row. IsDue now last (row_timer row)) (λ row. IsDue now serial (row_timer row)) (list_at n lists)
       (λ row d. record { deadline = d.deadline; serial = let s : (row_timer row).serial ≤ last = d.serial in omega arith }) b.due
 
   -- what is pending, with a later last serial
-  older_pending : (serial : ℕ) → last < serial
+  pub older_pending : (serial : ℕ) → last < serial
       → AllByRecursion (λ row. IsPending last_tick now serial (row_timer row)) (rows_below n lists)
   older_pending serial fresh = All-weaken (λ row. IsPending last_tick now last (row_timer row))
       (λ row. IsPending last_tick now serial (row_timer row)) (rows_below n lists) (λ row p. record {
@@ -199,3 +200,18 @@ emptied n last_tick now lists range first len e = record {
   due = rw (e n) tt;
   due_in_order = rw (e n) tt;
 }
+
+-- a row whose deadline is later than now stands in a bucket
+pub standing_pending : {n last_tick now last : ℕ} {lists : KeyedLists} → AreBuckets n last_tick now last lists → (l : ℕ)
+    (front : Rows) (row : Row) (rest : Rows) → l < length lists → list_at l lists ≡ front ++ row ∷ rest
+    → now < (row_timer row).deadline → l < n
+standing_pending {n} {last_tick} {now} {last} {lists} b l front row rest h at later = elim (cases_lt l n) [
+  | inl k ↦ k
+  | inr k ↦
+      let len : length lists ≡ n + 1 = b.has_lists in
+      let q : l ≡ n = omega arith in
+      let d = (all-rest (λ row. IsDue now last (row_timer row)) front (row ∷ rest) (subst (AreDue now last)
+      (ap (λ (y : ℕ). list_at y lists) (sym q) ∙ at) b.due)).0 in
+      let past : (row_timer row).deadline ≡ now = d.deadline in
+      absurd (omega arith)
+]

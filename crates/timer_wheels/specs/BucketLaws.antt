@@ -1,6 +1,6 @@
 -- Lemmas about the state that lists represent: it is well formed, and what says so is a proposition. They are in
 -- specs/ since ghost items and definitions of this crate cite them.
-use Rattle.std.proofs.Common.{◌∙◌, ap, arith, ◌≡◌, ◌+◌, ℕ, List, [], ◌∷◌, map, refl}
+use Rattle.std.proofs.Common.{◌∙◌, ap, ◌≡◌, ℕ, List, [], ◌∷◌, map, refl}
 use Rattle.std.proofs.Props.{props}
 use Rattle.std.specs.Coded.{Π_prop}
 use Rattle.std.specs.List.{AllByRecursion, AllByRecursion-prop}

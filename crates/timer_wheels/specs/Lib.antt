@@ -26,3 +26,8 @@ pub mod SmoothWheel
 pub mod Tiers
 pub mod TieredWheel
 pub mod SmoothAhead
+pub mod Merges
+pub mod Filed
+pub mod Filing
+pub mod Files
+pub mod LazyWheel

@@ -4,6 +4,7 @@ use Rattle.std.specs.Prelude.{◌≡◌, ◌≢◌, ℕ, ◌≤◌, not, if◌th
 use Rattle.timer_base.specs.Pending.{is_due_at}
 use Rattle.timer_links.specs.Lists.{list_at, with_row, KeyedLists, Row, Rows}
 use Rattle.timer_wheels.specs.Digits.{bucket, slots, last_of}
+use Rattle.timer_wheels.specs.Types.{Timer}
 use Rattle.timer_wheels.specs.BucketLists.{row_timer}
 
 -- the list that a row moves to at this tick: that of the due timers at its deadline, else its bucket
@@ -37,6 +38,16 @@ IsOfTick tick row = (row_timer row).deadline ≡ tick
 abbrev pub first_deadline : Rows → Option ℕ
 first_deadline [] = None
 first_deadline (row ∷ rows) = Some (row_timer row).deadline
+
+-- the timer of the first row
+abbrev pub timer_in_front : Rows → Option Timer
+timer_in_front [] = None
+timer_in_front (row ∷ rows) = Some (row_timer row)
+
+-- the timer of the second row
+abbrev pub timer_behind : Rows → Option Timer
+timer_behind [] = None
+timer_behind (row ∷ rest) = timer_in_front rest
 
 -- the deadline of the second row
 abbrev pub second_deadline : Rows → Option ℕ

@@ -1,0 +1,35 @@
+use Rattle.std.proofs.Common.{◌∙◌, refl}
+use Rattle.timer_wheels.specs.Buckets.{row_at}
+use Rattle.timer_wheels.specs.Digits.{slots}
+use Rattle.timer_wheels.specs.Filed.{IsFiled}
+use Rattle.timer_wheels.specs.Tables.{radices}
+use Rattle.timer_wheels.proofs.BitLemmas.{come_marked}
+use Rattle.timer_wheels.proofs.BucketLemmas.{each_come}
+use Rattle.timer_wheels.proofs.FilesLemmas.{newly_filed, less_slots}
+use Rattle.timer_wheels.proofs.WheelUpdates.{in_word}
+use Rattle.timer_wheels.proofs.lazy.files.Files.start.Goals as goal
+
+pub enter-requires : goal.enter-requires
+enter-requires g c = λ later. in_word c.args.self.now.table c.list_of-list.result (c.list_of-list.ensures.in_table later)
+
+pub invariant_of-self-2 : goal.invariant_of-self-2
+invariant_of-self-2 g c =
+    let w = c.args.self.now in
+    let b = w.buckets in
+    let to = c.list_of-list in
+    let list = to.result in
+    let timer = c.args.timer in
+    let row = row_at c.in_ok-handle.handle.place timer 0 in
+    let f = c.start.ensures.frame in
+    let e = c.in_ok-handle.ensures.lists in
+    record {
+      files = record {
+        has_slots = f.slots ∙ w.files.has_slots;
+        clock = f.last_tick ∙ w.files.clock;
+        filed = rw (f.tick, f.slots, e) (each_come (IsFiled (radices w.table) b.tick) b.slots b.tick timer.deadline list row b.links.lists
+            b.sound.has_lists to.ensures.list
+            (newly_filed w.files list row c.requires.deadline c.requires.fresh refl to.ensures.bucket) w.files.filed);
+        marked = rw e (come_marked (slots (radices w.table)) b.slots b.tick b.links.lists w.occupied c.enter.new.occupied row
+            list timer.deadline (less_slots w.files) w.files.marked b.sound.has_lists to.ensures.list to.ensures.in_table c.enter.ensures.pending c.enter.ensures.due);
+      };
+    }
