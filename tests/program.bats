@@ -190,7 +190,7 @@ clock_row() {
         local status=0 left
         printf 'close\n' > input
         left=$({ "$TIMERS" "$@" > output 2> errors; echo "$?"; cat; } < input)
-        [ "$left" = "$(put_names <<< '{REFUSED}')"$'\nclose' ] && [ ! -s output ] && grep -q '^error: ' errors && return
+        [ "$left" = "$(put_names <<< '{REFUSED}')"$'\nclose' ] && [ ! -s output ] && grep -qE '^(error|timers): ' errors && return
         echo "timers $*: $left"
         return 1
     }
@@ -477,12 +477,119 @@ shown() { gives 0 "show $1" "$2" "$(printf '%s\\n' "${@:3}")"; }
 
 @test "each subcommand reports a bad line in its way" {
     local reason='count: {OutOfTicks}'
-    gives "{FAILED}" "serve" 'close\ntick 0\nclose\n' 'closed 0\n' 'bad line 2\n'
+    gives "{FAILED}" "serve" 'close\ntick 0\nclose\n' 'closed 0\n' 'timers: standard input:2: bad line\n'
+    gives "{FAILED}" "show --to 0" 'tick 1\ntick 0\n' '' 'timers: standard input:2: bad line\n'
+    gives "{FAILED}" "play" 'close\ntick 0\nclose\n' '' 'bad line 2\n'
     gives "{SKIPPED}" "serve --keep-going" 'close\ntick 0\nclose\n' \
         'closed 0\nclose refused {Closed}\nend 0 0\n' "bad line 2, column 6: $reason\n"
     gives "{SKIPPED}" "serve --wakeups --keep-going" 'close\ntick 0\nclose\n' \
         'closed 0\nwakeup never\nclose refused {Closed}\nwakeup never\nend 0 0\n' "bad line 2, column 6: $reason\n"
     gives "{BAD}" "check" 'close\ntick 0\nclose\n' "line 2, column 6: $reason\n"
+}
+
+# over STATUS ARGUMENTS OUTPUT [ERRORS]: a call that reads nothing of standard input has this status and writes these texts
+over() {
+    local left
+    printf 'close\n' > input
+    # shellcheck disable=SC2086  # words
+    left=$({ "$TIMERS" $2 > output 2> errors; echo "$?"; cat; } < input)
+    [ "$left" = "$(put_names <<< "$1")"$'\nclose' ] && named output "$3" && named errors "${4:-}" && return
+    echo "timers $2: $left"
+    return 1
+}
+
+@test "a FILE is read in place of standard input" {
+    local text='started 0 1 1 3\nexpired 3 0 1 7\nend 3 0\n' call
+    printf 'start 0 1 3 7\ntick 3\n' > trace
+    cp trace play
+    for call in trace "play trace" "play --scheme hashed trace" "play trace --scheme plain" "--scheme plain trace" \
+        "trace --slots=8" "-- trace" ./play "play play" "serve trace" "serve --keep-going trace" "show --from 4 trace"; do
+        over 0 "$call" "$text"
+    done
+    over 0 "serve --wakeups trace" 'started 0 1 1 3\nwakeup 3\nexpired 3 0 1 7\nwakeup never\nend 3 0\n'
+    over 0 "check trace" ''
+    over 0 "--first-tick 2 trace" 'started 0 1 1 5\nexpired 5 0 1 7\nend 5 0\n'
+    : > empty
+    for call in empty "play empty" "serve empty" "show empty"; do over 0 "$call" 'end 0 0\n'; done
+    over 0 "check empty" ''
+}
+
+@test "a FILE is played as its text on standard input is, and - is standard input" {
+    local script call
+    for script in "$EXAMPLES"/*.stdout; do
+        cp "${script%.stdout}" trace
+        for call in play serve show check "play --scheme clock"; do
+            "$TIMERS" $call < trace > wanted
+            "$TIMERS" $call trace < /dev/null > output && cmp output wanted
+            "$TIMERS" $call - < trace > output && cmp output wanted
+        done
+        "$TIMERS" play < trace > wanted
+        "$TIMERS" trace < /dev/null > output && cmp output wanted
+        "$TIMERS" - < trace > output && cmp output wanted
+    done
+    gives 0 "--slots 8 -" 'close\n' 'closed 0\nend 0 0\n'
+    gives "{FAILED}" "-" 'close\nx\n' '' 'bad line 2\n'
+}
+
+@test "a FILE that can't be opened is refused, with its name and the reason" {
+    local call
+    mkdir folder
+    echo x > trace
+    for call in "" "play " "serve " "serve --keep-going " "show " "check " "--slots 8 "; do
+        over "{REFUSED}" "${call}trac" '' 'timers: trac: No such file or directory\n'
+        over "{REFUSED}" "${call}folder" '' 'timers: folder: Is a directory\n'
+        over "{REFUSED}" "${call}trace/x" '' 'timers: trace/x: Not a directory\n'
+    done
+    over "{REFUSED}" "$(printf 'x%.0s' {1..300})" '' "timers: $(printf 'x%.0s' {1..300}): File name too long\n"
+    over "{REFUSED}" "$(printf 'x%.0s' {1..5000})" '' "timers: $(printf 'x%.0s' {1..5000}): File name too long\n"
+    chmod a-r trace
+    if [ ! -r trace ]; then over "{REFUSED}" trace '' 'timers: trace: Permission denied\n'; fi
+}
+
+@test "the error of a FILE names it, the line and what is wrong there" {
+    local call
+    printf 'close\nstrat 0 1 3 7\nclose\n' > trace
+    for call in "" "play "; do over "{FAILED}" "${call}trace" '' "timers: trace:2: {UnknownWord} 'strat'\n"; done
+    over "{FAILED}" "serve trace" 'closed 0\n' "timers: trace:2: {UnknownWord} 'strat'\n"
+    over "{FAILED}" "show --from 1 trace" 'closed 0\n' "timers: trace:2: {UnknownWord} 'strat'\n"
+    over "{BAD}" "check trace" 'line 2, column 3: {UnknownWord}\n'
+    over "{SKIPPED}" "serve --keep-going trace" 'closed 0\nclose refused {Closed}\nend 0 0\n' 'bad line 2, column 3: {UnknownWord}\n'
+    wrong() {
+        printf '%b' "$1" > trace
+        over "{FAILED}" trace '' "timers: trace:$2\n"
+    }
+    wrong 'start 0 1 05 7\n' "1: interval: {LeadingZero} '05'"
+    wrong 'start 0 1 5\n' '1: action: {MissingField}'
+    wrong 'start 0 1 5 7 9\n' '1: {TooManyFields}'
+    wrong 'start 0 1 x7 7\n' "1: interval: {NotANumber} 'x7'"
+    wrong 'clos\n' "1: {UnknownWord} 'clos'"
+    wrong 'close' '1: {NoLineEnd}'
+    wrong 'close\n\n' '2: {EmptyLine}'
+    wrong 'close\r\n' '1: {CarriageReturn}'
+    wrong 'x\033[2J\n' '1: {UnknownWord}'
+    wrong "$(printf 'x%.0s' {1..3000})\n" '1: {UnknownWord}'
+    wrong "$(printf 'tick 1\\n%.0s' {1..2000})tick 0\ntick 1\n" "2001: count: {OutOfTicks} '0'"
+}
+
+@test "an error of a FILE that is in no line names the file, or else the program alone" {
+    { yes close || true; } | head -c $(($("$BATS_TEST_DIRNAME/../tools/facts" MAX_SCRIPT) + 1)) > long
+    over "{FAILED}" long '' 'timers: long: {TooLong}\n'
+    over "{CHECK_FAILED}" "check long" '' 'timers: long: {TooLong}\n'
+    gives "{CHECK_FAILED}" "check" "$(cat long)\n" '' 'timers: standard input: {TooLong}\n'
+    [ -w /dev/full ] || skip "no /dev/full"
+    : > empty
+    for call in empty "serve empty" "show empty"; do
+        run -1 --separate-stderr bash -c "'$TIMERS' $call > /dev/full"
+        # shellcheck disable=SC2154
+        [ "$stderr" = "timers: write failed" ]
+    done
+}
+
+@test "a pipe can be a FILE, and is read once" {
+    run -0 bash -c "'$TIMERS' <(printf 'close\n')"
+    [ "$output" = $'closed 0\nend 0 0' ]
+    run -1 bash -c "'$TIMERS' <(printf 'close\nx\n')"
+    [[ $output =~ ^"timers: "[^:]*":2: bad line"$ ]]
 }
 
 @test "check names the first byte with which no line begins" {
