@@ -566,7 +566,8 @@ over() {
     wrong 'close' '1: {NoLineEnd}'
     wrong 'close\n\n' '2: {EmptyLine}'
     wrong 'close\r\n' '1: {CarriageReturn}'
-    wrong 'x\033[2J\n' '1: {UnknownWord}'
+    wrong 'x\033[2J\n' "1: {UnknownWord} 'x'"
+    wrong 'x\377y\n' '1: {UnknownWord}'
     wrong "$(printf 'x%.0s' {1..3000})\n" '1: {UnknownWord}'
     wrong "$(printf 'tick 1\\n%.0s' {1..2000})tick 0\ntick 1\n" "2001: count: {OutOfTicks} '0'"
 }
@@ -582,6 +583,22 @@ over() {
         run -1 --separate-stderr bash -c "'$TIMERS' $call > /dev/full"
         # shellcheck disable=SC2154
         [ "$stderr" = "timers: write failed" ]
+    done
+}
+
+@test "at a terminal the program says what it waits for, before it reads" {
+    command -v python3 > /dev/null || skip "no python3"
+    for call in "" play serve check; do
+        run -0 python3 -B - "$TIMERS" $call << 'EOT'
+import os, pty, subprocess, sys
+ours, theirs = pty.openpty()
+ran = subprocess.Popen(sys.argv[1:], stdin=theirs, stdout=subprocess.PIPE, stderr=subprocess.PIPE)
+note = ran.stderr.readline()
+os.write(ours, b"\4")
+out, more = ran.communicate()
+print(note.decode(), more.decode(), end="")
+EOT
+        [ "$output" = "timers: lines are read from the terminal; Ctrl-D ends them" ]
     done
 }
 

@@ -48,6 +48,7 @@ static uint32_t os_open(const byte *name, uint32_t flags, ...)
 }
 static uint32_t os_close(uint32_t fd) { return (uint32_t)close((int)fd); }
 static uint64_t os_lseek(uint32_t fd, uint64_t offset, uint32_t whence) { return (uint64_t)(int64_t)lseek((int)fd, (off_t)(int64_t)offset, (int)whence); }
+static uint32_t os_isatty(uint32_t fd) { return (uint32_t)isatty((int)fd); }
 static void os__exit(uint32_t status) { _exit((int)status); }
 static void os_abort(void) { abort(); }
 static byte *os_malloc(uint64_t n) { return n > SIZE_MAX / 2 ? NULL : (byte *)malloc((size_t)n); }

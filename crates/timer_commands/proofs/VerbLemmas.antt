@@ -10,7 +10,7 @@ use Rattle.timer_script.specs.Decorator.{Decoration, AddsNothing}
 use Rattle.timer_script.specs.Streams.{streams_state}
 use Rattle.timer_script.specs.Service.{server_with}
 use Rattle.timer_script.proofs.ServiceLemmas.{served_nothing}
-use Rattle.timer_commands.specs.declared.fault.Fault.TheVariants as faults
+use Rattle.timer_commands.specs.declared.fault.Fault.TheVariants as Faults
 use Rattle.timer_commands.specs.declared.verbs.Verb.{Verb}
 use Rattle.timer_commands.specs.declared.verbs.Verb.TheVariants as verbs
 use Rattle.timer_commands.specs.Indented.{AddsPictures}
@@ -19,7 +19,7 @@ use Rattle.timer_commands.specs.Subcommands.{Bytes, Channels, ServingEnds, HasDo
 
 unserved : {R S F : Type 0} (on_bad : OnBadLine) (A : Decoration) (before : FacilityState) (bytes : Bytes R S F)
     (channels : Channels R S F) → has_failed channels.streams.reader ≡ false → has_failed channels.streams.writer ≡ false
-    → ServingEnds on_bad A before bytes channels channels (Err (faults.Serve serves.OutOfMemory))
+    → ServingEnds on_bad A before bytes channels channels (Err (Faults.Serve serves.OutOfMemory))
 unserved on_bad A before bytes channels reading writing =
     served_nothing (server_with on_bad A before bytes.reports)
     (streams_state bytes.remaining bytes.contents channels.streams.reader channels.streams.writer) channels.faults

@@ -18,7 +18,7 @@ use Rattle.timer_commands.specs.declared.ending.Ending.{Ending}
 use Rattle.timer_commands.specs.declared.ending.Ending.TheVariants.{Done, Bad, Skipped}
 use Rattle.timer_commands.specs.declared.options.RunOptions.{RunOptions}
 use Rattle.timer_commands.specs.declared.fault.Fault.{Fault}
-use Rattle.timer_commands.specs.declared.fault.Fault.TheVariants as faults
+use Rattle.timer_commands.specs.declared.fault.Fault.TheVariants as Faults
 use Rattle.timer_commands.specs.declared.verbs.Verb.{Verb}
 use Rattle.timer_commands.specs.declared.verbs.Verb.TheVariants as verbs
 use Rattle.timer_commands.specs.Options.{config_of, scheme_last, scheme_layout, IsPlayable, RefusesOptions}
@@ -68,14 +68,14 @@ abbrev pub ServingEnds : {R S F : Type 0} → OnBadLine → Decoration → Facil
 ServingEnds on_bad Adds before bytes old new (Ok Done) = HasServedStreams on_bad Adds before bytes old new (Ok true)
 -- some line was bad, each was reported until the writer of reports failed, and the whole text of the others was written
 ServingEnds on_bad Adds before bytes old new (Ok Skipped) = HasServedStreams on_bad Adds before bytes old new (Ok false)
-ServingEnds on_bad Adds before bytes old new (Err (faults.Serve fault)) = HasServedStreams on_bad Adds before bytes old new (Err fault)
+ServingEnds on_bad Adds before bytes old new (Err (Faults.Serve fault)) = HasServedStreams on_bad Adds before bytes old new (Err fault)
 ServingEnds on_bad Adds before bytes old new result = ⊥
 
 -- a script was played, or lines were answered as they came, or answered and shown
 abbrev pub HasDone : {R S F : Type 0} → Verb → FacilityState → Bytes R S F → (old new : Channels R S F)
     → Result Ending Fault → Type 0
 HasDone verbs.Play before bytes old new (Ok Done) = HasPlayed before bytes old new (Ok tt)
-HasDone verbs.Play before bytes old new (Err (faults.Run fault)) = HasPlayed before bytes old new (Err fault)
+HasDone verbs.Play before bytes old new (Err (Faults.Run fault)) = HasPlayed before bytes old new (Err fault)
 HasDone verbs.Play before bytes old new result = ⊥
 HasDone (verbs.Serve on_bad false) before bytes old new result =
     ServingEnds on_bad AddsNothing before bytes old new result
@@ -85,13 +85,13 @@ HasDone (verbs.Show shows) before bytes old new result = ServingEnds Stop (AddsP
 
 -- out of memory, as a verb returns it
 abbrev pub no_memory_of : Verb → Fault
-no_memory_of verbs.Play = faults.Run runs.OutOfMemory
-no_memory_of (verbs.Serve on_bad wakeups) = faults.Serve serves.OutOfMemory
-no_memory_of (verbs.Show shows) = faults.Serve serves.OutOfMemory
+no_memory_of verbs.Play = Faults.Run runs.OutOfMemory
+no_memory_of (verbs.Serve on_bad wakeups) = Faults.Serve serves.OutOfMemory
+no_memory_of (verbs.Show shows) = Faults.Serve serves.OutOfMemory
 
 -- the options are refused, and the channels are untouched
 abbrev pub HasRefusedOptions : {R S F : Type 0} → RunOptions → (old new : Channels R S F) → Result Ending Fault → Type 0
-HasRefusedOptions options old new (Err (faults.Options fault)) = RefusesOptions fault options × (new ≡ old)
+HasRefusedOptions options old new (Err (Faults.Options fault)) = RefusesOptions fault options × (new ≡ old)
 HasRefusedOptions options old new result = ⊥
 
 -- that was done over the facility of the options, or these are refused
@@ -107,5 +107,5 @@ HasCheckedScript known old new (Ok Done) = HasChecked known old new (Ok 0)
 -- some line is bad, and the whole report was written
 HasCheckedScript known old new (Ok Bad) = (lines : ℕ) × (1 ≤ lines) × HasChecked known old new (Ok lines)
 -- by its input, its output or memory
-HasCheckedScript known old new (Err (faults.Check fault)) = HasChecked known old new (Err fault)
+HasCheckedScript known old new (Err (Faults.Check fault)) = HasChecked known old new (Err fault)
 HasCheckedScript known old new result = ⊥

@@ -70,13 +70,23 @@ HasRunFile {R} {O} subcommand name IsOpened bytes old new ending =
     (record { streams = record { reader = reader; writer = old.streams.writer }; faults = old.faults }) new ending)
     ⊎ ((ending ≡ Refused) × (new.streams ≡ old.streams) × HasLocated name Input bytes.reports old.faults new.faults)
 
--- what was done for a subcommand with this file, if one is named, where `-` is what the program is handed
+-- of this name of a file, if one is given, this is to be opened: none for `-`, which is what the program is handed
+abbrev pub IsToOpen : (file to-open : Option (List ℕ)) → Type 0
+IsToOpen file None = (file ≡ None) ⊎ (file ≡ Some (codes "-"))
+IsToOpen file (Some name) = (file ≡ Some name) × (name ≢ codes "-")
+
+-- what was done for a subcommand over the file that is to be opened, or over what the program is handed
+abbrev pub HasRunOver : {R O S F : Type 0} → Subcommand → Option (List ℕ) → (List ℕ → O → Type 0)
+    → Bytes (Source R O) S F → (old new : Channels (Source R O) S F) → Ending → Type 0
+HasRunOver subcommand None IsOpened bytes old new ending =
+    HasCalled subcommand (standard_name subcommand) bytes old new ending
+HasRunOver subcommand (Some name) IsOpened bytes old new ending = HasRunFile subcommand name IsOpened bytes old new ending
+
+-- what was done for a subcommand with this file, if one is named
 abbrev pub HasRunCall : {R O S F : Type 0} → Subcommand → Option (List ℕ) → (List ℕ → O → Type 0)
     → Bytes (Source R O) S F → (old new : Channels (Source R O) S F) → Ending → Type 0
 HasRunCall subcommand file IsOpened bytes old new ending =
-    (((file ≡ None) ⊎ (file ≡ Some (codes "-"))) × HasCalled subcommand (standard_name subcommand) bytes old new ending)
-    ⊎ ((name : List ℕ) × (file ≡ Some name) × (name ≢ codes "-")
-    × HasRunFile subcommand name IsOpened bytes old new ending)
+    (to-open : Option (List ℕ)) × IsToOpen file to-open × HasRunOver subcommand to-open IsOpened bytes old new ending
 
 -- What was done for arguments that were read as this. If they are read as no call, nothing but a text was written.
 abbrev pub HasRunRead : {R O S F : Type 0} → Result Call Error → (List ℕ → O → Type 0) → Bytes (Source R O) S F

@@ -1,5 +1,5 @@
 -- What is left to be read.
-use Rattle.std.specs.Prelude.{ℕ, List, [], Option, Some}
+use Rattle.std.specs.Prelude.{ℕ, List, Option, None}
 use Rattle.timer_program.specs.declared.files.Source.{Source}
 use Rattle.timer_program.specs.declared.files.Source.TheVariants.{Given, Opened, Nothing}
 
@@ -7,4 +7,4 @@ use Rattle.timer_program.specs.declared.files.Source.TheVariants.{Given, Opened,
 abbrev pub remaining_of : {R O : Type 0} → (R → Option (List ℕ)) → (O → Option (List ℕ)) → Source R O → Option (List ℕ)
 remaining_of given opened (Given reader) = given reader
 remaining_of given opened (Opened file) = opened file
-remaining_of given opened Nothing = Some []
+remaining_of given opened Nothing = None

@@ -4,7 +4,7 @@ use Rattle.timer_script.specs.declared.watched.Watched.{Watched}
 use Rattle.timer_script.specs.Watched.{has_failed}
 use Rattle.timer_commands.specs.declared.ending.Ending.{Ending}
 use Rattle.timer_commands.specs.declared.fault.Fault.{Fault}
-use Rattle.timer_commands.specs.declared.fault.Fault.TheVariants as faults
+use Rattle.timer_commands.specs.declared.fault.Fault.TheVariants as Faults
 use Rattle.timer_commands.specs.declared.fault.Spot.{Spot}
 use Rattle.timer_commands.specs.declared.fault.Spot.TheVariants.{Line, Input, Elsewhere}
 use Rattle.timer_commands.specs.Endings.{ending_of, spot_of}
@@ -28,7 +28,7 @@ HasLocated name spot reports errors errors' =
 
 -- the line of an error has the name of the input, if that has one: all but refused options
 abbrev pub is_in_call : Fault → Bool
-is_in_call (faults.Options fault) = false
+is_in_call (Faults.Options fault) = false
 is_in_call fault = true
 
 -- How a call ended with an error of the input with this name. The text of refused options, and of an error of an input
@@ -41,8 +41,7 @@ HasReported (Some name) fault reports errors errors' ending = (ending ≡ ending
 
 -- a reader is left alone, but where a bad line may have been read again
 abbrev pub IsKept : {R : Type 0} → Spot → (reader reader' : Watched R) → Type 0
-IsKept (Line line) reader reader' = Unit {0}
-IsKept spot reader reader' = reader' ≡ reader
+IsKept spot reader reader' = ((line : ℕ) × (spot ≡ Line line)) ⊎ (reader' ≡ reader)
 
 -- what was done, by how it ended, became the ending of the call: after an error its line was written
 abbrev pub HasEnded : {R S F : Type 0} → Option (List ℕ) → (F → Option (List ℕ)) → (done new : Channels R S F)

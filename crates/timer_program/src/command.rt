@@ -3,7 +3,7 @@ ghost use Rattle.std.specs.Prelude.{◌≡◌, ◌≢◌, false, option_map, cod
 ghost use Rattle.clap.specs.Values.{kind_of};
 ghost use Rattle.timer_commands.specs.declared.ending.Ending.{Ending};
 ghost use Rattle.timer_commands.specs.Endings.{status_of};
-ghost use Rattle.timer_program.specs.Command.{HasCalled, HasRunFile, HasRunCall, HasNotPlayed, HasRunProgram, standard_name};
+ghost use Rattle.timer_program.specs.Command.{HasCalled, HasRunFile, HasRunCall, HasRunRead, HasNotPlayed, HasRunProgram, IsToOpen, standard_name};
 ghost use Rattle.timer_program.specs.Files.{remaining_of};
 ghost use Rattle.timer_script.specs.Watched.{has_failed};
 
@@ -40,11 +40,35 @@ pub fn command<
         (record { streams = streams.old; faults = faults.old })
         (record { streams = streams.new; faults = faults.new }) ending }
 {
-    let ending = match read_arguments(rt.alloc(), arguments) {
+    let read = read_arguments(rt.alloc(), arguments);
+    run_read(rt, read, streams, faults).status()
+}
+
+/// Runs the call that the arguments were read as, or reports the error.
+fn run_read<
+    T: AllocGlobal + Threads + Opener<O>,
+    R: Read + Drop,
+    O: Read + Seek + Drop,
+    W: Write,
+    F: Write,
+>(
+    rt: &T,
+    read: Result<Call<'_>, Error>,
+    streams: &mut Streams<Source<R, O>, W>,
+    faults: &mut Watched<F>,
+) -> Ending
+    requires reader_good { has_failed streams.old.reader ≡ false }
+    requires writer_good { has_failed streams.old.writer ≡ false }
+    requires faults_good { has_failed faults.old ≡ false }
+    ensures { HasRunRead read T.is_opened
+        (record { remaining = remaining_of R.remaining O.remaining; contents = W.contents; reports = F.contents })
+        (record { streams = streams.old; faults = faults.old })
+        (record { streams = streams.new; faults = faults.new }) result }
+{
+    match read {
         Ok(call) => run_call(rt, call, streams, faults),
         Err(error) => end_unplayed(rt.alloc(), &error, &mut streams.writer, faults),
-    };
-    ending.status()
+    }
 }
 
 /// Runs a subcommand over the file that is named with it, or over what it is handed: if none is, or `-`.
@@ -64,15 +88,19 @@ fn run_call<
         (record { streams = streams.new; faults = faults.new }) result }
 {
     let subcommand = call.subcommand;
-    match call.file {
-        None | Some("-") => run_subcommand(
-            rt,
-            subcommand,
-            name_of_given(subcommand),
-            streams,
-            faults,
-        ),
+    match file_to_open(call.file) {
         Some(name) => run_over_file(rt, subcommand, name, streams, faults),
+        None => run_subcommand(rt, subcommand, name_of_given(subcommand), streams, faults),
+    }
+}
+
+/// The file that is to be opened: none if none is named, or `-`.
+fn file_to_open<'a>(file: Option<&'a str>) -> Option<&'a str>
+    ensures { IsToOpen (option_map (λ n. n.now) file) (option_map (λ n. n.now) result) }
+{
+    match file {
+        None | Some("-") => None,
+        Some(name) => Some(name),
     }
 }
 

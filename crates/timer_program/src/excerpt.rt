@@ -10,8 +10,8 @@ const PIECE: usize = 4096;
 /// The most bytes of a line that are kept. The error of a longer line is in its front.
 const MOST_KEPT: usize = 1024;
 
-/// The most bytes of a field that are shown.
-const MOST_SHOWN: usize = 40;
+/// The most bytes of a field that are shown, on either side of the error.
+const MOST_SHOWN: usize = 20;
 
 /// The front of the line with this number, counted from 1. None if the file can't be read a second time, as a pipe, or
 /// if memory runs out.
@@ -45,46 +45,62 @@ pub fn read_line_again<O: Read + Seek>(alloc: Global, file: &mut O, line: u64) -
 pub fn reason_of(alloc: Global, line: &[u8]) -> Option<Vec<u8>> {
     // Who wrote to the file in the meantime may have made the line good.
     let fault = fault_in_line(line)?;
-    let shown = field_at(line, fault);
     let mut reason = Vec::new(alloc);
-    let pushed = match fault.field {
-        Some(field) => push_all(&mut reason, &[field.words(), ": ", fault.reason.words()]),
-        None => push_all(&mut reason, &[fault.reason.words()]),
-    };
-    if pushed.is_err() || is_shown(shown) && push_quoted(&mut reason, shown).is_err() {
+    if push_reason(&mut reason, fault).is_err() || push_field(&mut reason, line, fault).is_err() {
         return None;
     }
     Some(reason)
 }
 
-/// Appends texts.
-fn push_all(reason: &mut Vec<u8>, texts: &[&str]) -> Result<(), AllocError> {
-    for text in texts {
-        reason.extend_from_slice(text.as_bytes())?;
+/// Appends the field and the reason.
+fn push_reason(text: &mut Vec<u8>, fault: LineFault) -> Result<(), AllocError> {
+    if let Some(field) = fault.field {
+        text.extend_from_slice(field.words().as_bytes())?;
+        text.extend_from_slice(b": ")?;
+    }
+    text.extend_from_slice(fault.reason.words().as_bytes())?;
+    Ok(())
+}
+
+/// Appends the bytes between spaces that are at fault, in quotes. None are if a field is missing, or there is one too many.
+fn push_field(text: &mut Vec<u8>, line: &[u8], fault: LineFault) -> Result<(), AllocError> {
+    let (before, after) = line.split_at(fault.column.saturating_sub(1).min(line.len()));
+    let front = behind_spaces(before);
+    let rest = before_space(after);
+    if rest.is_empty() && fault.reason != LineReason::UnknownWord {
+        return Ok(());
+    }
+    if is_shown(front) && is_shown(rest) && !(front.is_empty() && rest.is_empty()) {
+        text.extend_from_slice(b" '")?;
+        text.extend_from_slice(front)?;
+        text.extend_from_slice(rest)?;
+        text.extend_from_slice(b"'")?;
     }
     Ok(())
 }
 
-/// Appends what is at fault, in quotes.
-fn push_quoted(reason: &mut Vec<u8>, shown: &[u8]) -> Result<(), AllocError> {
-    reason.extend_from_slice(b" '")?;
-    reason.extend_from_slice(shown)?;
-    reason.extend_from_slice(b"'")?;
-    Ok(())
+/// What follows the last space, or byte below that.
+fn behind_spaces(bytes: &[u8]) -> &[u8] {
+    let mut found = bytes;
+    for i in 0..bytes.len() {
+        if bytes[i] <= b' ' {
+            found = &bytes[i + 1..];
+        }
+    }
+    found
 }
 
-/// The bytes between spaces that are at fault. None are if a field is missing, or there is one too many.
-fn field_at(line: &[u8], fault: LineFault) -> &[u8] {
-    let (front, rest) = line.split_at(fault.column.saturating_sub(1).min(line.len()));
-    let after = rest.iter().position(|b| *b <= b' ').unwrap_or(rest.len());
-    if after == 0 && fault.reason != LineReason::UnknownWord {
-        return &rest[..0];
+/// What is before the first space, or byte below that.
+fn before_space(bytes: &[u8]) -> &[u8] {
+    for i in 0..bytes.len() {
+        if bytes[i] <= b' ' {
+            return &bytes[..i];
+        }
     }
-    let start = front.iter().rposition(|b| *b <= b' ').map_or(0, |i| i + 1);
-    &line[start..front.len() + after]
+    bytes
 }
 
 /// Whether the bytes are a few letters, digits and signs, so that they can be shown at any terminal.
 fn is_shown(bytes: &[u8]) -> bool {
-    !bytes.is_empty() && bytes.len() <= MOST_SHOWN && bytes.iter().all(|b| b.is_ascii_graphic())
+    bytes.len() <= MOST_SHOWN && bytes.iter().all(|b| b.is_ascii_graphic())
 }

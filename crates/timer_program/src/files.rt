@@ -4,7 +4,7 @@ ghost use Rattle.timer_program.specs.Files.{remaining_of};
 
 use std::fs::File;
 use std::io;
-use std::io::{ErrorKind, Read};
+use std::io::{ErrorKind, IsTerminal, Read, Write};
 
 /// Opens files by name. `command` is generic over it, so its contract says which name was opened.
 pub trait Opener<O> {
@@ -25,6 +25,41 @@ impl Opener<File> for HostRuntime {
         // A directory can be opened. The first read of one fails, and this one takes no byte of another file.
         file.read(&mut [])?;
         Ok(file)
+    }
+}
+
+/// Standard input. Before the first read at a terminal, a note says what is awaited.
+#[derive(Drop)]
+pub struct Prompted<R, N> {
+    input: R,
+    notes: N,
+    /// Nothing was read yet.
+    is_first: bool,
+}
+
+impl<R, N> Prompted<R, N> {
+    /// An input of which nothing was read yet.
+    pub fn new(input: R, notes: N) -> Prompted<R, N> {
+        Prompted {
+            input,
+            notes,
+            is_first: true,
+        }
+    }
+}
+
+impl<R: Read + IsTerminal, N: Write> Read for Prompted<R, N> {
+    ghost remaining = { λ prompted. R.remaining prompted.input };
+
+    fn read(&mut self, buf: &mut [u8]) -> io::Result<usize> {
+        if self.is_first && self.input.is_terminal() {
+            let _ = writeln!(
+                self.notes,
+                "timers: lines are read from the terminal; Ctrl-D ends them"
+            );
+        }
+        self.is_first = false;
+        self.input.read(buf)
     }
 }
 

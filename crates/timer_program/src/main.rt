@@ -25,7 +25,7 @@ mod reports;
 
 use argv::{after_name, end_without_arguments};
 use command::command;
-use files::Source;
+use files::{Prompted, Source};
 use std::process::ExitCode;
 use std::{env, io};
 use timer_script::{Streams, Watched};
@@ -36,7 +36,10 @@ fn main(rt: HostRuntime) -> ExitCode {
         Ok(arguments) => command(
             &rt,
             after_name(&arguments),
-            &mut Streams::new(Source::Given(rt.stdin()), rt.stdout()),
+            &mut Streams::new(
+                Source::Given(Prompted::new(rt.stdin(), rt.stderr())),
+                rt.stdout(),
+            ),
             &mut faults,
         ),
         Err(error) => end_without_arguments(error.kind(), &mut faults).status(),

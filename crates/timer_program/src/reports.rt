@@ -95,16 +95,18 @@ fn report_fault<R: Read + Drop, O: Read + Seek + Drop, F: Write>(
     ensures reader { IsKept (spot_of fault) reader.old reader.new }
 {
     let ending = fault.ending();
-    match name {
-        Some(name) if is_named(fault) => {
-            match excerpt(alloc, fault.spot(), reader) {
-                Some(reason) => report_located(name, fault.spot(), &reason, faults),
-                None => report_located(name, fault.spot(), fault.words().as_bytes(), faults),
-            }
-            ending
-        }
-        _ => report(fault, ending, faults),
+    let Some(name) = name else {
+        return report(fault, ending, faults);
+    };
+    if !is_named(fault) {
+        return report(fault, ending, faults);
     }
+    let spot = fault.spot();
+    match excerpt(alloc, spot, reader) {
+        Some(reason) => report_located(name, spot, &reason, faults),
+        None => report_located(name, spot, fault.words().as_bytes(), faults),
+    }
+    ending
 }
 
 /// Whether the line of an error has the name of the input, if that has one. Refused options are not in the input.
