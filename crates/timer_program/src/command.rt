@@ -60,7 +60,7 @@ fn run_read<
     requires reader_good { has_failed streams.old.reader ≡ false }
     requires writer_good { has_failed streams.old.writer ≡ false }
     requires faults_good { has_failed faults.old ≡ false }
-    ensures { HasRunRead read T.is_opened
+    ensures { HasRunRead read.entry T.is_opened
         (record { remaining = remaining_of R.remaining O.remaining; contents = W.contents; reports = F.contents })
         (record { streams = streams.old; faults = faults.old })
         (record { streams = streams.new; faults = faults.new }) result }
@@ -82,7 +82,7 @@ fn run_call<
     requires reader_good { has_failed streams.old.reader ≡ false }
     requires writer_good { has_failed streams.old.writer ≡ false }
     requires faults_good { has_failed faults.old ≡ false }
-    ensures { HasRunCall call.subcommand (option_map (λ n. n.now) call.file) T.is_opened
+    ensures { HasRunCall call.entry.subcommand (option_map (λ n. n.now) call.entry.file) T.is_opened
         (record { remaining = remaining_of R.remaining O.remaining; contents = W.contents; reports = F.contents })
         (record { streams = streams.old; faults = faults.old })
         (record { streams = streams.new; faults = faults.new }) result }
@@ -96,7 +96,7 @@ fn run_call<
 
 /// The file that is to be opened: none if none is named, or `-`.
 fn file_to_open<'a>(file: Option<&'a str>) -> Option<&'a str>
-    ensures { IsToOpen (option_map (λ n. n.now) file) (option_map (λ n. n.now) result) }
+    ensures { IsToOpen (option_map (λ n. n.now) file.entry) (option_map (λ n. n.now) result) }
 {
     match file {
         None | Some("-") => None,
@@ -165,7 +165,7 @@ fn run_subcommand<
     requires reader_good { has_failed streams.old.reader ≡ false }
     requires writer_good { has_failed streams.old.writer ≡ false }
     requires faults_good { has_failed faults.old ≡ false }
-    ensures { HasCalled subcommand (option_map (λ n. n.now) name)
+    ensures { HasCalled subcommand (option_map (λ n. n.now) name.entry)
         (record { remaining = remaining_of R.remaining O.remaining; contents = W.contents; reports = F.contents })
         (record { streams = streams.old; faults = faults.old })
         (record { streams = streams.new; faults = faults.new }) result }

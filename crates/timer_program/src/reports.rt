@@ -73,7 +73,7 @@ pub fn end_call<R: Read + Drop, O: Read + Seek + Drop, W, F: Write>(
     streams: &mut Streams<Source<R, O>, W>,
     faults: &mut Watched<F>,
 ) -> Ending
-    ensures { HasEnded (option_map (λ n. n.now) name) F.contents
+    ensures { HasEnded (option_map (λ n. n.now) name.entry) F.contents
         (record { streams = streams.old; faults = faults.old })
         (record { streams = streams.new; faults = faults.new }) ended result }
 {
@@ -91,7 +91,7 @@ fn report_fault<R: Read + Drop, O: Read + Seek + Drop, F: Write>(
     reader: &mut Watched<Source<R, O>>,
     faults: &mut Watched<F>,
 ) -> Ending
-    ensures reported { HasReported (option_map (λ n. n.now) name) fault F.contents faults.old faults.new result }
+    ensures reported { HasReported (option_map (λ n. n.now) name.entry) fault F.contents faults.old faults.new result }
     ensures reader { IsKept (spot_of fault) reader.old reader.new }
 {
     let ending = fault.ending();
