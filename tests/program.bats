@@ -580,9 +580,8 @@ over() {
     [ -w /dev/full ] || skip "no /dev/full"
     : > empty
     for call in empty "serve empty" "show empty"; do
-        run -1 --separate-stderr bash -c "'$TIMERS' $call > /dev/full"
-        # shellcheck disable=SC2154
-        [ "$stderr" = "timers: write failed" ]
+        run -1 bash -c "'$TIMERS' $call 2>&1 > /dev/full"
+        [ "$output" = "timers: write failed" ]
     done
 }
 
@@ -596,7 +595,7 @@ ran = subprocess.Popen(sys.argv[1:], stdin=theirs, stdout=subprocess.PIPE, stder
 note = ran.stderr.readline()
 os.write(ours, b"\4")
 out, more = ran.communicate()
-print(note.decode(), more.decode(), end="")
+print((note + more).decode(), end="")
 EOT
         [ "$output" = "timers: lines are read from the terminal; Ctrl-D ends them" ]
     done
@@ -647,7 +646,7 @@ help_of() {
         help_of $1 --help
         tr '\n' ' ' < output | grep -qE "exit status is $(put_names <<< "$2")" || { echo "timers $1 --help: not $2"; return 1; }
     }
-    statuses "" '{DONE} if it was\. It is {FAILED} after an error, [^.]*, and {REFUSED} if the arguments are refused\.'
+    statuses "" '{DONE} if it was\. It is {FAILED} after an error, [^.]*, and {REFUSED} if the arguments are refused, or FILE'
     statuses serve '{DONE} if the input came to its end [^.]*\. It is {FAILED} after an error, [^.]*\. It is {REFUSED} if the arguments'
     statuses threads '{DONE} if each client finished\. It is {FAILED} after an error, [^.]*\. It is {REFUSED} if the arguments'
     statuses check "$(printf %s '{DONE} if no line is bad, [^.]*\. It is {BAD} if a line is bad\. ' \
@@ -662,11 +661,11 @@ help_of() {
             grep -qxF "Usage: timers $1$2" output
         done
     }
-    called play " [OPTIONS] < FILE"
-    called serve " [OPTIONS] < FILE"
-    called show " [OPTIONS] < FILE"
+    called play " [OPTIONS] [FILE]"
+    called serve " [OPTIONS] [FILE]"
+    called show " [OPTIONS] [FILE]"
     called threads " [OPTIONS]"
-    called check " < FILE"
+    called check " [FILE]"
 }
 
 @test "help and version are whole where they are asked for, and a full output is told" {
@@ -692,7 +691,7 @@ help_of() {
         [ "$status" -eq "$(put_names <<< "{FAILED}")" ] && named errors "{Write}\n"
     }
     for words in --help help; do whole "$words" "Plays a script" "$(last_of SCRIPTS)"; done
-    for words in "play --help" "help play"; do whole "$words" "Plays the script" "$(last_of SCHEMES)"; done
+    for words in "play --help" "help play"; do whole "$words" "Plays a script" "$(last_of SCHEMES)"; done
     for words in "serve --help" "help serve"; do whole "$words" "Answers each line" "$(last_of STREAMS)"; done
     whole "show --help" "Answers lines" "$(last_of PLACEMENTS)"
     whole "threads --help" "Runs clients" "$(last_of THREADS)"

@@ -9,4 +9,5 @@ static inline int page_isatty(int file) { (void)file; return 0; }
 #define isatty page_isatty
 #define open page_open
 #define close page_close
+#undef lseek
 #define lseek page_lseek
