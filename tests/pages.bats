@@ -49,7 +49,7 @@ other_option() {
     for length in 1 255 256 257 1023 1024 1025 4095 4096 4097 100000; do
         argument=$(head -c $length /dev/zero | tr '\0' x)
         run -"$REFUSED" timers play "$argument" < /dev/null
-        [[ $output == "error: unexpected argument '$argument' found"* ]]
+        [[ $output == "timers: $argument: "* ]]
     done
 }
 
@@ -207,7 +207,7 @@ offered() {
 
 @test "fish completes commands, options and values" {
     needs fish
-    [ "$(offered "timers s")" = "serve show" ]
+    [[ " $(offered "timers s") " == *" serve show "* ]]
     [ "$(offered "timers -")" = "--help --version" ]
     [ "$(offered "timers help th")" = threads ]
     [ "$(offered "timers threads --")" = "--clients --help --timers" ]
@@ -226,9 +226,10 @@ offered() {
             if [[ $1 == -C ]]; then state=$wanted; [[ $state == argument ]] && shift words; fi
         }
         _describe() { print -rl -- ${(P)2}; }
+        _files() { :; }
         wanted=$1; words=(timers $2); source tools/install/completions/_timers'
     run -0 zsh -f -c "$given" zsh command ""
-    [[ $output == *"play:Plays the script"* ]]
+    [[ $output == *"play:Plays a script"* ]]
     run -0 zsh -f -c "$given" zsh argument threads
     [[ $output == *"--timers=[The number of timers that each client starts, 1 to 10000"*"]:TIMERS:"* ]]
     [[ $output == *"--help[Print help"* ]]

@@ -190,7 +190,7 @@ clock_row() {
         local status=0 left
         printf 'close\n' > input
         left=$({ "$TIMERS" "$@" > output 2> errors; echo "$?"; cat; } < input)
-        [ "$left" = "$(put_names <<< '{REFUSED}')"$'\nclose' ] && [ ! -s output ] && grep -q '^error: ' errors && return
+        [ "$left" = "$(put_names <<< '{REFUSED}')"$'\nclose' ] && [ ! -s output ] && grep -qE '^(error|timers): ' errors && return
         echo "timers $*: $left"
         return 1
     }
@@ -487,12 +487,135 @@ shown() { gives 0 "show $1" "$2" "$(printf '%s\\n' "${@:3}")"; }
 
 @test "each subcommand reports a bad line in its way" {
     local reason='count: {OutOfTicks}'
-    gives "{FAILED}" "serve" 'close\ntick 0\nclose\n' 'closed 0\n' 'bad line 2\n'
+    gives "{FAILED}" "serve" 'close\ntick 0\nclose\n' 'closed 0\n' 'timers: standard input:2: bad line\n'
+    gives "{FAILED}" "show --to 0" 'tick 1\ntick 0\n' '' 'timers: standard input:2: bad line\n'
+    gives "{FAILED}" "play" 'close\ntick 0\nclose\n' '' 'bad line 2\n'
     gives "{SKIPPED}" "serve --keep-going" 'close\ntick 0\nclose\n' \
         'closed 0\nclose refused {Closed}\nend 0 0\n' "bad line 2, column 6: $reason\n"
     gives "{SKIPPED}" "serve --wakeups --keep-going" 'close\ntick 0\nclose\n' \
         'closed 0\nwakeup never\nclose refused {Closed}\nwakeup never\nend 0 0\n' "bad line 2, column 6: $reason\n"
     gives "{BAD}" "check" 'close\ntick 0\nclose\n' "line 2, column 6: $reason\n"
+}
+
+# over STATUS ARGUMENTS OUTPUT [ERRORS]: a call that reads nothing of standard input has this status and writes these texts
+over() {
+    local left
+    printf 'close\n' > input
+    # shellcheck disable=SC2086  # words
+    left=$({ "$TIMERS" $2 > output 2> errors; echo "$?"; cat; } < input)
+    [ "$left" = "$(put_names <<< "$1")"$'\nclose' ] && named output "$3" && named errors "${4:-}" && return
+    echo "timers $2: $left"
+    return 1
+}
+
+@test "a FILE is read in place of standard input" {
+    local text='started 0 1 1 3\nexpired 3 0 1 7\nend 3 0\n' call
+    printf 'start 0 1 3 7\ntick 3\n' > trace
+    cp trace play
+    for call in trace "play trace" "play --scheme hashed trace" "play trace --scheme plain" "--scheme plain trace" \
+        "trace --slots=8" "-- trace" ./play "play play" "serve trace" "serve --keep-going trace" "show --from 4 trace"; do
+        over 0 "$call" "$text"
+    done
+    over 0 "serve --wakeups trace" 'started 0 1 1 3\nwakeup 3\nexpired 3 0 1 7\nwakeup never\nend 3 0\n'
+    over 0 "check trace" ''
+    over 0 "--first-tick 2 trace" 'started 0 1 1 5\nexpired 5 0 1 7\nend 5 0\n'
+    : > empty
+    for call in empty "play empty" "serve empty" "show empty"; do over 0 "$call" 'end 0 0\n'; done
+    over 0 "check empty" ''
+}
+
+@test "a FILE is played as its text on standard input is, and - is standard input" {
+    local script call
+    for script in "$EXAMPLES"/*.stdout; do
+        cp "${script%.stdout}" trace
+        for call in play serve show check "play --scheme clock"; do
+            "$TIMERS" $call < trace > wanted
+            "$TIMERS" $call trace < /dev/null > output && cmp output wanted
+            "$TIMERS" $call - < trace > output && cmp output wanted
+        done
+        "$TIMERS" play < trace > wanted
+        "$TIMERS" trace < /dev/null > output && cmp output wanted
+        "$TIMERS" - < trace > output && cmp output wanted
+    done
+    gives 0 "--slots 8 -" 'close\n' 'closed 0\nend 0 0\n'
+    gives "{FAILED}" "-" 'close\nx\n' '' 'bad line 2\n'
+}
+
+@test "a FILE that can't be opened is refused, with its name and the reason" {
+    local call
+    mkdir folder
+    echo x > trace
+    for call in "" "play " "serve " "serve --keep-going " "show " "check " "--slots 8 "; do
+        over "{REFUSED}" "${call}trac" '' 'timers: trac: No such file or directory\n'
+        over "{REFUSED}" "${call}folder" '' 'timers: folder: Is a directory\n'
+        over "{REFUSED}" "${call}trace/x" '' 'timers: trace/x: Not a directory\n'
+    done
+    over "{REFUSED}" "$(printf 'x%.0s' {1..300})" '' "timers: $(printf 'x%.0s' {1..300}): File name too long\n"
+    over "{REFUSED}" "$(printf 'x%.0s' {1..5000})" '' "timers: $(printf 'x%.0s' {1..5000}): File name too long\n"
+    chmod a-r trace
+    if [ ! -r trace ]; then over "{REFUSED}" trace '' 'timers: trace: Permission denied\n'; fi
+}
+
+@test "the error of a FILE names it, the line and what is wrong there" {
+    local call
+    printf 'close\nstrat 0 1 3 7\nclose\n' > trace
+    for call in "" "play "; do over "{FAILED}" "${call}trace" '' "timers: trace:2: {UnknownWord} 'strat'\n"; done
+    over "{FAILED}" "serve trace" 'closed 0\n' "timers: trace:2: {UnknownWord} 'strat'\n"
+    over "{FAILED}" "show --from 1 trace" 'closed 0\n' "timers: trace:2: {UnknownWord} 'strat'\n"
+    over "{BAD}" "check trace" 'line 2, column 3: {UnknownWord}\n'
+    over "{SKIPPED}" "serve --keep-going trace" 'closed 0\nclose refused {Closed}\nend 0 0\n' 'bad line 2, column 3: {UnknownWord}\n'
+    wrong() {
+        printf '%b' "$1" > trace
+        over "{FAILED}" trace '' "timers: trace:$2\n"
+    }
+    wrong 'start 0 1 05 7\n' "1: interval: {LeadingZero} '05'"
+    wrong 'start 0 1 5\n' '1: action: {MissingField}'
+    wrong 'start 0 1 5 7 9\n' '1: {TooManyFields}'
+    wrong 'start 0 1 x7 7\n' "1: interval: {NotANumber} 'x7'"
+    wrong 'clos\n' "1: {UnknownWord} 'clos'"
+    wrong 'close' '1: {NoLineEnd}'
+    wrong 'close\n\n' '2: {EmptyLine}'
+    wrong 'close\r\n' '1: {CarriageReturn}'
+    wrong 'x\033[2J\n' "1: {UnknownWord} 'x'"
+    wrong 'x\377y\n' '1: {UnknownWord}'
+    wrong "$(printf 'x%.0s' {1..3000})\n" '1: {UnknownWord}'
+    wrong "$(printf 'tick 1\\n%.0s' {1..2000})tick 0\ntick 1\n" "2001: count: {OutOfTicks} '0'"
+}
+
+@test "an error of a FILE that is in no line names the file, or else the program alone" {
+    { yes close || true; } | head -c $(($("$BATS_TEST_DIRNAME/../tools/facts" MAX_SCRIPT) + 1)) > long
+    over "{FAILED}" long '' 'timers: long: {TooLong}\n'
+    over "{CHECK_FAILED}" "check long" '' 'timers: long: {TooLong}\n'
+    gives "{CHECK_FAILED}" "check" "$(cat long)\n" '' 'timers: standard input: {TooLong}\n'
+    [ -w /dev/full ] || skip "no /dev/full"
+    : > empty
+    for call in empty "serve empty" "show empty"; do
+        run -1 bash -c "'$TIMERS' $call 2>&1 > /dev/full"
+        [ "$output" = "timers: write failed" ]
+    done
+}
+
+@test "at a terminal the program says what it waits for, before it reads" {
+    command -v python3 > /dev/null || skip "no python3"
+    for call in "" play serve check; do
+        run -0 python3 -B - "$TIMERS" $call << 'EOT'
+import os, pty, subprocess, sys
+ours, theirs = pty.openpty()
+ran = subprocess.Popen(sys.argv[1:], stdin=theirs, stdout=subprocess.PIPE, stderr=subprocess.PIPE)
+note = ran.stderr.readline()
+os.write(ours, b"\4")
+out, more = ran.communicate()
+print((note + more).decode(), end="")
+EOT
+        [ "$output" = "timers: lines are read from the terminal; Ctrl-D ends them" ]
+    done
+}
+
+@test "a pipe can be a FILE, and is read once" {
+    run -0 bash -c "'$TIMERS' <(printf 'close\n')"
+    [ "$output" = $'closed 0\nend 0 0' ]
+    run -1 bash -c "'$TIMERS' <(printf 'close\nx\n')"
+    [[ $output =~ ^"timers: "[^:]*":2: bad line"$ ]]
 }
 
 @test "check names the first byte with which no line begins" {
@@ -533,7 +656,7 @@ help_of() {
         help_of $1 --help
         tr '\n' ' ' < output | grep -qE "exit status is $(put_names <<< "$2")" || { echo "timers $1 --help: not $2"; return 1; }
     }
-    statuses "" '{DONE} if it was\. It is {FAILED} after an error, [^.]*, and {REFUSED} if the arguments are refused\.'
+    statuses "" '{DONE} if it was\. It is {FAILED} after an error, [^.]*, and {REFUSED} if the arguments are refused, or FILE'
     statuses serve '{DONE} if the input came to its end [^.]*\. It is {FAILED} after an error, [^.]*\. It is {REFUSED} if the arguments'
     statuses serve '{SKIPPED} at the end\.'
     statuses threads '{DONE} if each client finished\. It is {FAILED} after an error, [^.]*\. It is {REFUSED} if the arguments'
@@ -549,11 +672,11 @@ help_of() {
             grep -qxF "Usage: timers $1$2" output
         done
     }
-    called play " [OPTIONS] < FILE"
-    called serve " [OPTIONS] < FILE"
-    called show " [OPTIONS] < FILE"
+    called play " [OPTIONS] [FILE]"
+    called serve " [OPTIONS] [FILE]"
+    called show " [OPTIONS] [FILE]"
     called threads " [OPTIONS]"
-    called check " < FILE"
+    called check " [FILE]"
 }
 
 @test "help and version are whole where they are asked for, and a full output is told" {
@@ -579,7 +702,7 @@ help_of() {
         [ "$status" -eq "$(put_names <<< "{FAILED}")" ] && named errors "{Write}\n"
     }
     for words in --help help; do whole "$words" "Plays a script" "$(last_of SCRIPTS)"; done
-    for words in "play --help" "help play"; do whole "$words" "Plays the script" "$(last_of SCHEMES)"; done
+    for words in "play --help" "help play"; do whole "$words" "Plays a script" "$(last_of SCHEMES)"; done
     for words in "serve --help" "help serve"; do whole "$words" "Answers each line" "$(last_of STREAMS)"; done
     whole "show --help" "Answers lines" "$(last_of PLACEMENTS)"
     whole "threads --help" "Runs clients" "$(last_of THREADS)"

@@ -112,6 +112,9 @@ class Cutter {
   }
 }
 
+// What the program reports of the bad line at which it ends.
+const BAD_LINE = /^timers: standard input:(\d+): bad line$/;
+
 class Play {
   // A script is a text of which each character is a byte. `pieces` are those of another play of the same script.
   constructor({name = "", title, options, script, isWhole = false}, pieces = null) {
@@ -138,7 +141,7 @@ class Play {
   // Runs the program with the options of this play.
   run(verb, input, more = [], options = this.options) {
     const made = ENGINE.run([verb, ...options, ...more], input);
-    if (made.status && !made.errors.startsWith("bad line ")) throw new Error(made.errors.split("\n")[0]);
+    if (made.status && !BAD_LINE.test(made.errors)) throw new Error(made.errors.split("\n")[0]);
     return made;
   }
 
@@ -165,7 +168,7 @@ class Play {
   cut() {
     const input = ENGINE.bytesOf(this.script);
     const {steps, errors} = this.answered(input);
-    this.bad = errors ? Number(errors.slice("bad line ".length)) - 1 : null;
+    this.bad = errors ? Number(BAD_LINE.exec(errors)[1]) - 1 : null;
     this.reason = errors ? this.whyBad(input) : "";
     const cutter = new Cutter(this.scheme);
     let now = this.scheme.firstTick;

@@ -254,10 +254,15 @@ static void one(struct facility *f, const struct event *e, struct text *out)
 		request(f, e, out);
 }
 
-static struct answer fault(struct answer answer, const char *what, uint64_t line)
+/* An error of standard input, and the line with this number if that is bad. `play` names neither program nor input. */
+static struct answer fault(struct answer answer, enum form form, const char *what, uint64_t line)
 {
-	answer.status = EXIT_FAILED;
-	if (line)
+	answer.status = form == CHECK ? EXIT_CHECK_FAILED : EXIT_FAILED;
+	if (form != PLAY && line)
+		add(&answer.faults, "timers: standard input:%" PRIu64 ": %s\n", line, what);
+	else if (form != PLAY)
+		add(&answer.faults, "timers: standard input: %s\n", what);
+	else if (line)
 		add(&answer.faults, "%s %" PRIu64 "\n", what, line);
 	else
 		add(&answer.faults, "%s\n", what);
@@ -306,7 +311,7 @@ static bool lines(struct facility *f, const char *script, size_t len, enum form 
 		if (!good && goes_on)
 			report(&answer->faults, "bad ", n, at, all < MAX_LINE ? all : MAX_LINE);
 		if (!good && form != CHECK && !goes_on) {
-			*answer = fault(*answer, "bad line", n);
+			*answer = fault(*answer, form, "bad line", n);
 			return false;
 		}
 		if (!good)
@@ -325,10 +330,9 @@ struct answer play(const char *script, size_t len, struct options options, enum 
 	f.pending = malloc((options.capacity + 1) * sizeof *f.pending);
 	if (!f.pending)
 		exit(3);
-	if ((form == PLAY || form == CHECK) && len > MAX_SCRIPT) {
-		answer = fault(answer, TOO_LONG, 0);
-		answer.status = form == CHECK ? EXIT_CHECK_FAILED : EXIT_FAILED;
-	} else if (lines(&f, script, len, form, &answer) && form != CHECK)
+	if ((form == PLAY || form == CHECK) && len > MAX_SCRIPT)
+		answer = fault(answer, form, TOO_LONG, 0);
+	else if (lines(&f, script, len, form, &answer) && form != CHECK)
 		add(&answer.output, "end %" PRIu64 " %zu\n", f.now, f.len);
 	if (form == PLAY && answer.status != 0)
 		answer.output.len = 0;

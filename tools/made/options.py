@@ -64,12 +64,13 @@ def synopsis():
     """A line for each command, with the options of `play` where they are taken. A man page shows it in 80 columns."""
     def form(name, *commands):
         options = [(option, fact.get("value")) for command in commands for option, fact in OPTIONS[command].items()]
-        words = " ".join(f"[--{option}\0{value}]" if value else f"[--{option}]" for option, value in options)
-        return wrapped(f"timers {name} {words}", 77, " " * 4, " " * (len(name) + 12))
+        words = [f"[--{option}\0{value}]" if value else f"[--{option}]" for option, value in options]
+        words += ["[FILE]"] * (name != "threads")
+        return wrapped(f"timers {name} {' '.join(words)}", 77, " " * 4, " " * (len(name) + 12))
 
-    yield "    timers"
+    yield from ("    timers", "    timers [OPTIONS] FILE")
     yield from (*form("play", "play"), *form("serve", "play", "serve"), *form("show", "play", "show"), *form("threads", "threads"))
-    yield from ("    timers check", "    timers help [COMMAND]", "    timers --help | --version")
+    yield from ("    timers check [FILE]", "    timers help [COMMAND]", "    timers --help | --version")
 
 
 LISTS = {

@@ -1,6 +1,7 @@
-/* What the program asks of its system, over POSIX: reading and writing, threads, and to ignore a signal. By hand. The
+/* What the program asks of its system, over POSIX: reading and writing, a file, threads, and to ignore a signal. By hand. The
  * module has the calls as glibc has them on x86-64; here each is one of C, so that sizes and types are those of the platform. */
 #include <errno.h>
+#include <fcntl.h>
 #include <pthread.h>
 #include <sched.h>
 #include <unistd.h>
@@ -27,6 +28,27 @@ static uint32_t rattle_errno(void) { return (uint32_t)errno; }
 static void rattle_set_errno(uint32_t error) { errno = (int)error; }
 static uint64_t os_read(uint32_t fd, byte *p, uint64_t n) { return (uint64_t)(int64_t)read((int)fd, p, n > SIZE_MAX / 2 ? SIZE_MAX / 2 : (size_t)n); }
 static uint64_t os_write(uint32_t fd, const byte *p, uint64_t n) { return (uint64_t)(int64_t)write((int)fd, p, n > SIZE_MAX / 2 ? SIZE_MAX / 2 : (size_t)n); }
+
+/* The module opens a file to read alone, with what are O_RDONLY, O_NOCTTY and O_CLOEXEC on x86-64. Other flags are those of
+ * calls that the program doesn't make. */
+#ifndef O_CLOEXEC
+#define O_CLOEXEC 0
+#endif
+#ifndef O_NOCTTY
+#define O_NOCTTY 0
+#endif
+#ifndef O_BINARY
+#define O_BINARY 0
+#endif
+static uint32_t os_open(const byte *name, uint32_t flags, ...)
+{
+	if (flags != 0x80100)
+		abort();
+	return (uint32_t)open((const char *)name, O_RDONLY | O_NOCTTY | O_CLOEXEC | O_BINARY);
+}
+static uint32_t os_close(uint32_t fd) { return (uint32_t)close((int)fd); }
+static uint64_t os_lseek(uint32_t fd, uint64_t offset, uint32_t whence) { return (uint64_t)(int64_t)lseek((int)fd, (off_t)(int64_t)offset, (int)whence); }
+static uint32_t os_isatty(uint32_t fd) { return (uint32_t)isatty((int)fd); }
 static void os__exit(uint32_t status) { _exit((int)status); }
 static void os_abort(void) { abort(); }
 static byte *os_malloc(uint64_t n) { return n > SIZE_MAX / 2 ? NULL : (byte *)malloc((size_t)n); }

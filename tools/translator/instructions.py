@@ -174,6 +174,8 @@ def call(line):
         if [line.next() for _ in range(6)] != ['sideeffect', '""', ',', '"~{memory}"', '(', ')'] or of != 'void':
             line.fail('unknown assembly')
         return dict(op='barrier')
+    if line.peek() == '(':
+        line.skip_parentheses()                         # the type of a function that takes further arguments, as `open`
     callee = line.value('ptr')
     if not isinstance(callee, (Local, Global)):
         line.fail('a call of what is neither a function nor a value')

@@ -36,7 +36,7 @@ TOKEN = re.compile(r'''\s*(?:
   | (?P<real>-?\d+\.\d+e[-+]\d+|0x[0-9A-F]{16}\b)
   | (?P<number>-?\d+(?![\w.]))
   | (?P<word>[A-Za-z_][\w.]*)
-  | (?P<mark>[(){}\[\]<>,=*:])
+  | (?P<mark>\.\.\.|[(){}\[\]<>,=*:])
 )''', re.X)
 
 # What promises something, or is about linking, or about how a call is made: read and dropped.

@@ -1,11 +1,8 @@
 -- What was done if nothing was read or written.
-use Rattle.std.proofs.Common.{◌≡◌, true, false, [], refl, arith}
+use Rattle.std.proofs.Common.{◌≡◌, true, false, [], refl, arith, Err}
 use Rattle.timer_facility.specs.State.{FacilityState}
 use Rattle.timer_script.specs.declared.cutter.OnBadLine.{OnBadLine}
-use Rattle.timer_script.specs.declared.streams.Streams.{Streams}
-use Rattle.timer_script.specs.declared.watched.Watched.{Watched}
 use Rattle.std.proofs.KnownBytes.{Consumes-nil}
-use Rattle.timer_script.specs.declared.fault.RunFault.TheVariants as runs
 use Rattle.timer_script.specs.declared.fault.ServeFault.TheVariants as serves
 use Rattle.timer_script.specs.declared.cutter.OnBadLine.TheVariants.{Stop}
 use Rattle.timer_script.specs.Watched.{inner_of, has_failed}
@@ -13,32 +10,29 @@ use Rattle.timer_script.specs.Decorator.{Decoration, AddsNothing}
 use Rattle.timer_script.specs.Streams.{streams_state}
 use Rattle.timer_script.specs.Service.{server_with}
 use Rattle.timer_script.proofs.ServiceLemmas.{served_nothing}
-use Rattle.timer_commands.specs.declared.ending.Ending.TheVariants.{Failed}
+use Rattle.timer_commands.specs.declared.fault.Fault.TheVariants as Faults
 use Rattle.timer_commands.specs.declared.verbs.Verb.{Verb}
 use Rattle.timer_commands.specs.declared.verbs.Verb.TheVariants as verbs
 use Rattle.timer_commands.specs.Indented.{AddsPictures}
 use Rattle.timer_commands.specs.Wakeups.{AddsWakeups}
-use Rattle.timer_commands.specs.Subcommands.{Bytes, ServingEnds, HasDone}
+use Rattle.timer_commands.specs.Subcommands.{Bytes, Channels, ServingEnds, HasDone, no_memory_of}
 
 unserved : {R S F : Type 0} (on_bad : OnBadLine) (A : Decoration) (before : FacilityState) (bytes : Bytes R S F)
-    (streams : Streams R S) (faults faults' : Watched F) → has_failed streams.reader ≡ false → has_failed streams.writer ≡ false
-    → ServingEnds on_bad A before bytes (record { streams = streams; faults = faults }) (record { streams = streams; faults = faults' }) Failed
-unserved on_bad A before bytes streams faults faults' reading writing = (
-  serves.OutOfMemory,
-  faults,
-  served_nothing (server_with on_bad A before bytes.reports)
-      (streams_state bytes.remaining bytes.contents streams.reader streams.writer) faults
-      (record { reading = reading; writing = writing }),
-)
+    (channels : Channels R S F) → has_failed channels.streams.reader ≡ false → has_failed channels.streams.writer ≡ false
+    → ServingEnds on_bad A before bytes channels channels (Err (Faults.Serve serves.OutOfMemory))
+unserved on_bad A before bytes channels reading writing =
+    served_nothing (server_with on_bad A before bytes.reports)
+    (streams_state bytes.remaining bytes.contents channels.streams.reader channels.streams.writer) channels.faults
+    (record { reading = reading; writing = writing })
 
-pub undone : {R S F : Type 0} (bytes : Bytes R S F) (streams : Streams R S) (faults faults' : Watched F)
-    → has_failed streams.reader ≡ false → has_failed streams.writer ≡ false → (verb : Verb) (before : FacilityState)
-    → HasDone verb before bytes (record { streams = streams; faults = faults }) (record { streams = streams; faults = faults' }) Failed
-undone bytes streams faults faults' reading writing verbs.Play before =
-    (runs.OutOfMemory, (([], Consumes-nil (bytes.remaining (inner_of streams.reader)), omega arith), reading, refl))
-undone bytes streams faults faults' reading writing (verbs.Serve on_bad true) before =
-    unserved on_bad AddsWakeups before bytes streams faults faults' reading writing
-undone bytes streams faults faults' reading writing (verbs.Serve on_bad false) before =
-    unserved on_bad AddsNothing before bytes streams faults faults' reading writing
-undone bytes streams faults faults' reading writing (verbs.Show shows) before =
-    unserved Stop (AddsPictures shows) before bytes streams faults faults' reading writing
+pub undone : {R S F : Type 0} (bytes : Bytes R S F) (channels : Channels R S F)
+    → has_failed channels.streams.reader ≡ false → has_failed channels.streams.writer ≡ false → (verb : Verb) (before : FacilityState)
+    → HasDone verb before bytes channels channels (Err (no_memory_of verb))
+undone bytes channels reading writing verbs.Play before =
+    (([], Consumes-nil (bytes.remaining (inner_of channels.streams.reader)), omega arith), reading, refl)
+undone bytes channels reading writing (verbs.Serve on_bad true) before =
+    unserved on_bad AddsWakeups before bytes channels reading writing
+undone bytes channels reading writing (verbs.Serve on_bad false) before =
+    unserved on_bad AddsNothing before bytes channels reading writing
+undone bytes channels reading writing (verbs.Show shows) before =
+    unserved Stop (AddsPictures shows) before bytes channels reading writing

@@ -20,9 +20,9 @@ pub enum Ending {
     Skipped,
     /// `check`: an error after it began to read, with its one line on standard error.
     CheckFailed,
-    /// The command line was refused: standard error says why. Nothing was read, and standard output is empty.
-    /// Standard error has one line for two reasons: `first tick above 8639999`, as with `clock`, and an argument that
-    /// isn't UTF-8. For the others it has several.
+    /// The command line was refused, or its file can't be opened: standard error says why. Nothing was read, and
+    /// standard output is empty. Standard error has one line for three reasons: a file that can't be opened, `first
+    /// tick above 8639999`, as with `clock`, and an argument that isn't UTF-8. For the others it has several.
     Refused,
 }
 

@@ -3,8 +3,8 @@
 //!
 //! `options` and `threads_options` have the options and their ranges. `schemes` makes the wheel that they
 //! name, and `verbs` has what is done over it: `play`, `serve` and `show`. The other subcommands are in
-//! `cmd_check` and `cmd_threads`. `ending` says how they end, and reports an error. `render` draws where the
-//! timers are that `shows` keeps. `laws` has what is known of the lines that `serve` and `show` add.
+//! `cmd_check` and `cmd_threads`. `ending` says how they end, and `fault` why one ended early, and where. `render`
+//! draws where the timers are that `shows` keeps. `laws` has what is known of the lines that `serve` and `show` add.
 //!
 //! The definitions of `options` are in `specs/Options.antt`, those of the subcommands in `Subcommands.antt`,
 //! of clients in threads in `Clients.antt`, and of the lines that `serve` and `show` add in `Wakeups.antt`,
@@ -14,6 +14,7 @@
 mod cmd_check;
 mod cmd_threads;
 mod ending;
+mod fault;
 pub mod laws;
 mod options;
 mod render;
@@ -25,6 +26,7 @@ mod verbs;
 pub use cmd_check::check_script;
 pub use cmd_threads::{end_clients, run_clients};
 pub use ending::{Ending, report};
+pub use fault::{Fault, Spot};
 pub use options::{OptionsFault, RunOptions, Scheme};
 pub use schemes::run_verb;
 pub use shows::Shows;

@@ -11,7 +11,8 @@ ghost use Rattle.timer_commands.specs.Options.{scheme_last, scheme_layout, confi
 ghost use Rattle.timer_commands.specs.Subcommands.{opened_by, HasDone, HasRunVerb};
 ghost use Rattle.timer_script.specs.Watched.{has_failed};
 
-use crate::ending::{Ending, report};
+use crate::ending::Ending;
+use crate::fault::Fault;
 use crate::options::{RunOptions, Scheme};
 use crate::render::Placement;
 use crate::verbs::{Verb, do_verb};
@@ -48,14 +49,14 @@ impl OfScheme for SmoothWheel {
 }
 
 /// Does what the verb says over a new wheel of the scheme that the options name. If the options are refused, the
-/// streams are untouched. Nothing is read before the wheel is made.
+/// streams are untouched. Nothing is read before the wheel is made. An error is returned, and not reported.
 pub fn run_verb<R: Read, S: Write, F: Write>(
     alloc: Global,
     verb: Verb,
     options: RunOptions,
     streams: &mut Streams<R, S>,
     faults: &mut Watched<F>,
-) -> Ending
+) -> Result<Ending, Fault>
     requires reader_good { has_failed streams.old.reader ≡ false }
     requires writer_good { has_failed streams.old.writer ≡ false }
     ensures { HasRunVerb verb options
@@ -65,7 +66,7 @@ pub fn run_verb<R: Read, S: Write, F: Write>(
 {
     match options.check() {
         Ok(checked) => over_scheme(alloc, verb, options, checked, streams, faults),
-        Err(fault) => report(fault, Ending::Refused, faults),
+        Err(fault) => Err(Fault::Options(fault)),
     }
 }
 
@@ -77,7 +78,7 @@ fn over_scheme<R: Read, S: Write, F: Write>(
     checked: Checked,
     streams: &mut Streams<R, S>,
     faults: &mut Watched<F>,
-) -> Ending
+) -> Result<Ending, Fault>
     requires playable { IsPlayable options }
     requires config { checked ≡ config_of options }
     requires reader_good { has_failed streams.old.reader ≡ false }
@@ -123,7 +124,7 @@ fn over_wheel<R: Read, S: Write, F: Write, W: Wheel + Placement + OfScheme + Dro
     made: Result<W, MakeFault>,
     streams: &mut Streams<R, S>,
     faults: &mut Watched<F>,
-) -> Ending
+) -> Result<Ending, Fault>
     requires wheel { IfOk made (λ wheel. W.is_wheel_of _options wheel) }
     requires state { IfOk made (λ wheel. W.state wheel
         ≡ empty_wheel (scheme_layout _options.scheme _options.slots) (scheme_last _options.scheme) _options.first_tick) }
@@ -145,6 +146,6 @@ fn over_wheel<R: Read, S: Write, F: Write, W: Wheel + Placement + OfScheme + Dro
             streams,
             faults,
         ),
-        Err(fault) => report(fault, Ending::Failed, faults),
+        Err(_) => Err(verb.out_of_memory()),
     }
 }

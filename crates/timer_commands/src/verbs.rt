@@ -3,16 +3,19 @@
 //! It is done over any wheel: `schemes` makes the wheel, and hands the facility over.
 ghost use Rattle.std.specs.Prelude.{◌≡◌, [], false};
 ghost use Rattle.timer_script.specs.Watched.{has_failed};
-ghost use Rattle.timer_commands.specs.Subcommands.{ServingEnds, HasDone};
+ghost use Rattle.timer_commands.specs.Subcommands.{ServingEnds, HasDone, no_memory_of};
 
-use crate::ending::{Ending, report};
+use crate::ending::Ending;
+use crate::fault::Fault;
 use crate::render::{Placement, push_shown, push_wakeup};
 use crate::shows::Shows;
 use std::alloc::Global;
 use std::io::{Read, Write};
 use timer_base::{OutOfMemory, Wheel};
 use timer_facility::Facility;
-use timer_script::{Decorator, OnBadLine, Streams, Undecorated, Watched, run, serve};
+use timer_script::{
+    Decorator, OnBadLine, RunFault, ServeFault, Streams, Undecorated, Watched, run, serve,
+};
 
 /// What is done with a facility.
 #[derive(Clone, Copy, Debug, PartialEq, Eq)]
@@ -23,6 +26,18 @@ pub enum Verb {
     Serve { on_bad: OnBadLine, wakeups: bool },
     /// Answers lines as they come, and shows after each where the timers are.
     Show(Shows),
+}
+
+impl Verb {
+    /// Out of memory, as it is returned by this verb.
+    pub fn out_of_memory(&self) -> Fault
+        ensures { result ≡ no_memory_of self.now }
+    {
+        match self {
+            Verb::Play => Fault::Run(RunFault::OutOfMemory),
+            Verb::Serve { .. } | Verb::Show(_) => Fault::Serve(ServeFault::OutOfMemory),
+        }
+    }
 }
 
 /// Shows where the timers are. At a tick that it covers, an answer is followed by the clock, the counts if they are
@@ -123,14 +138,14 @@ impl<W: Wheel + Drop> Decorator<W> for Wakeups {
     ghost is_lawful = { λ wakeups. after_is_lawful IsWakeup };
 }
 
-/// Does it. A bad line, or an error, is reported on `faults`, in one line.
+/// Does it. An error is returned, and not reported. `faults` gets the reports of `serve` alone.
 pub fn do_verb<R: Read, S: Write, F: Write, W: Wheel + Placement + Drop>(
     alloc: Global,
     verb: Verb,
     facility: Facility<W>,
     streams: &mut Streams<R, S>,
     faults: &mut Watched<F>,
-) -> Ending
+) -> Result<Ending, Fault>
     requires reader_good { has_failed streams.old.reader ≡ false }
     requires writer_good { has_failed streams.old.writer ≡ false }
     requires pending { facility.state.pending ≡ [] }
@@ -142,8 +157,8 @@ pub fn do_verb<R: Read, S: Write, F: Write, W: Wheel + Placement + Drop>(
 {
     match verb {
         Verb::Play => match run(alloc, &mut streams.reader, &mut streams.writer, facility) {
-            Ok(()) => Ending::Done,
-            Err(fault) => report(fault, Ending::Failed, faults),
+            Ok(()) => Ok(Ending::Done),
+            Err(fault) => Err(Fault::Run(fault)),
         },
         Verb::Serve { on_bad, wakeups } => {
             if wakeups {
@@ -166,7 +181,7 @@ pub fn do_verb<R: Read, S: Write, F: Write, W: Wheel + Placement + Drop>(
     }
 }
 
-/// Serves with this decorator. An error is reported in one line.
+/// Serves with this decorator.
 fn serve_with<R: Read, S: Write, F: Write, W: Wheel + Drop, D: Decorator<W>>(
     alloc: Global,
     facility: Facility<W>,
@@ -174,7 +189,7 @@ fn serve_with<R: Read, S: Write, F: Write, W: Wheel + Drop, D: Decorator<W>>(
     on_bad: OnBadLine,
     streams: &mut Streams<R, S>,
     faults: &mut Watched<F>,
-) -> Ending
+) -> Result<Ending, Fault>
     requires reader_good { has_failed streams.old.reader ≡ false }
     requires writer_good { has_failed streams.old.writer ≡ false }
     requires pending { facility.state.pending ≡ [] }
@@ -185,8 +200,8 @@ fn serve_with<R: Read, S: Write, F: Write, W: Wheel + Drop, D: Decorator<W>>(
         (record { streams = streams.new; faults = faults.new }) result }
 {
     match serve(alloc, streams, facility, decorator, on_bad, faults) {
-        Ok(true) => Ending::Done,
-        Ok(false) => Ending::Skipped,
-        Err(fault) => report(fault, Ending::Failed, faults),
+        Ok(true) => Ok(Ending::Done),
+        Ok(false) => Ok(Ending::Skipped),
+        Err(fault) => Err(Fault::Serve(fault)),
     }
 }

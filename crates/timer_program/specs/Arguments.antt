@@ -23,11 +23,17 @@ subcommand_name (Run (Show shows) options) = codes "show"
 subcommand_name (Threads options) = codes "threads"
 subcommand_name Check = codes "check"
 
--- the subcommand that the arguments after the program's name name: the first of them, or `play` if there is
--- none
-abbrev pub first_or_play : {S : Type 0} → (S → List ℕ) → List S → List ℕ
-first_or_play text [] = codes "play"
-first_or_play text (first ∷ rest) = text first
+-- a subcommand has this name
+abbrev pub IsSubcommandName : List ℕ → Type 0
+IsSubcommandName name = (name ≡ codes "play") ⊎ ((name ≡ codes "serve") ⊎ ((name ≡ codes "show")
+    ⊎ ((name ≡ codes "threads") ⊎ (name ≡ codes "check"))))
+
+-- the arguments after the program's name name a subcommand by this name: by the first of them, or `play` if that is no
+-- such name, or there is none
+abbrev pub IsNamedBy : {S : Type 0} → (S → List ℕ) → List S → List ℕ → Type 0
+IsNamedBy text [] name = name ≡ codes "play"
+IsNamedBy text (first ∷ rest) name = (IsSubcommandName (text first) × (name ≡ text first))
+    ⊎ ((¬ (IsSubcommandName (text first))) × (name ≡ codes "play"))
 
 -- help or the version is asked for
 abbrev pub IsShown : ErrorKind → Type 0

@@ -1,5 +1,5 @@
 -- How a call of the program ends, and what it did then to its input and its output.
-use Rattle.std.specs.Prelude.{◌≡◌, ◌≢◌, ℕ, ◌⊎◌, true, false, List, Option, Result, Ok, Err, IfOk, IfErr, Any}
+use Rattle.std.specs.Prelude.{◌≡◌, ◌≢◌, ℕ, ◌⊎◌, true, false, List, Option, None, Some, IfSome, option_map, Result, Ok, Err, IfOk, IfErr, Any, codes}
 use Rattle.std.specs.Io.KnownBytes.{Appends}
 use Rattle.clap.specs.Values.{kind_of}
 use Rattle.clap.specs.declared.error.Error.{Error}
@@ -9,11 +9,19 @@ use Rattle.timer_script.specs.declared.watched.Watched.{Watched}
 use Rattle.timer_script.specs.Watched.{inner_of, has_failed}
 use Rattle.timer_commands.specs.declared.ending.Ending.{Ending}
 use Rattle.timer_commands.specs.declared.ending.Ending.TheVariants.{Done, Failed, Refused}
+use Rattle.timer_script.specs.declared.streams.Streams.{Streams}
+use Rattle.timer_commands.specs.declared.fault.Fault.{Fault}
+use Rattle.timer_commands.specs.declared.fault.Spot.TheVariants.{Input}
+use Rattle.timer_commands.specs.declared.verbs.Verb.TheVariants as verbs
 use Rattle.timer_commands.specs.Subcommands.{Bytes, Channels, HasRunVerb, HasCheckedScript}
 use Rattle.timer_commands.specs.Clients.{HasRunClients}
+use Rattle.timer_program.specs.declared.arguments.Call.{Call}
 use Rattle.timer_program.specs.declared.arguments.Subcommand.{Subcommand}
 use Rattle.timer_program.specs.declared.arguments.Subcommand.TheVariants as calls
-use Rattle.timer_program.specs.Arguments.{first_or_play, subcommand_name, IsShown, AsksForText}
+use Rattle.timer_program.specs.declared.files.Source.{Source}
+use Rattle.timer_program.specs.declared.files.Source.TheVariants.{Opened}
+use Rattle.timer_program.specs.Arguments.{IsNamedBy, subcommand_name, IsShown, AsksForText}
+use Rattle.timer_program.specs.Reports.{HasLocated, HasEnded}
 
 -- no script was played, for an error of this kind: help or the version is asked for, the arguments are refused, or
 -- out of memory
@@ -29,27 +37,73 @@ HasNotPlayed kind contents writer writer' Failed =
 HasNotPlayed kind contents writer writer' Refused = (kind ≢ kinds.OutOfMemory) × ((¬ (IsShown kind)) × (writer' ≡ writer))
 HasNotPlayed kind contents writer writer' ending = ⊥
 
--- What was done for arguments that were read as this: a script was played, or lines were answered; or clients
--- ran and nothing was read; or a script was checked. If they are read as none of these, nothing but a text was
--- written.
-abbrev pub HasCalled : {R S F : Type 0} → Result Subcommand Error → Bytes R S F → (old new : Channels R S F)
+-- how the errors of a subcommand name what the program is handed
+abbrev pub standard_name : Subcommand → Option (List ℕ)
+standard_name (calls.Run verbs.Play options) = None
+standard_name (calls.Run verb options) = Some (codes "standard input")
+standard_name (calls.Threads options) = Some (codes "standard input")
+standard_name calls.Check = Some (codes "standard input")
+
+-- What was done for a subcommand over the streams: a script was played, or lines were answered; or clients ran and
+-- nothing was read; or a script was checked. `done` are the channels before an error was reported, and its line has
+-- this name of the input, if there is one.
+abbrev pub HasCalled : {R S F : Type 0} → Subcommand → Option (List ℕ) → Bytes R S F → (old new : Channels R S F)
     → Ending → Type 0
-HasCalled (Ok (calls.Run verb options)) bytes old new ending = HasRunVerb verb options bytes old new ending
-HasCalled (Ok (calls.Threads options)) bytes old new ending =
+HasCalled {R} {S} {F} (calls.Run verb options) name bytes old new ending =
+    (done : Channels R S F) × (result : Result Ending Fault) × HasRunVerb verb options bytes old done result
+    × HasEnded name bytes.reports done new result ending
+HasCalled (calls.Threads options) name bytes old new ending =
     (new.streams.reader ≡ old.streams.reader)
     × HasRunClients options bytes.contents bytes.reports old.streams.writer new.streams.writer old.faults new.faults ending
-HasCalled (Ok calls.Check) bytes old new ending = HasCheckedScript
-    (record { remaining = bytes.remaining; contents = bytes.contents }) old.streams new.streams ending
-HasCalled (Err error) bytes old new ending =
+HasCalled {R} {S} {F} calls.Check name bytes old new ending =
+    (done : Streams R S) × (result : Result Ending Fault) × HasCheckedScript
+    (record { remaining = bytes.remaining; contents = bytes.contents }) old.streams done result
+    × HasEnded name bytes.reports (record { streams = done; faults = old.faults }) new result ending
+
+-- What was done for a subcommand over the file of this name: it was opened, and read in place of what the program is
+-- handed. Or it was not, and the line says for which file and why; nothing else was read or written.
+abbrev pub HasRunFile : {R O S F : Type 0} → Subcommand → List ℕ → (List ℕ → O → Type 0) → Bytes (Source R O) S F
+    → (old new : Channels (Source R O) S F) → Ending → Type 0
+HasRunFile {R} {O} subcommand name IsOpened bytes old new ending =
+    ((file : O) × IsOpened name file × (reader : Watched (Source R O)) × (inner_of reader ≡ Opened file)
+    × (has_failed reader ≡ false) × HasCalled subcommand (Some name) bytes
+    (record { streams = record { reader = reader; writer = old.streams.writer }; faults = old.faults }) new ending)
+    ⊎ ((ending ≡ Refused) × (new.streams ≡ old.streams) × HasLocated name Input bytes.reports old.faults new.faults)
+
+-- of this name of a file, if one is given, this is to be opened: none for `-`, which is what the program is handed
+abbrev pub IsToOpen : (file to-open : Option (List ℕ)) → Type 0
+IsToOpen file None = (file ≡ None) ⊎ (file ≡ Some (codes "-"))
+IsToOpen file (Some name) = (file ≡ Some name) × (name ≢ codes "-")
+
+-- what was done for a subcommand over the file that is to be opened, or over what the program is handed
+abbrev pub HasRunOver : {R O S F : Type 0} → Subcommand → Option (List ℕ) → (List ℕ → O → Type 0)
+    → Bytes (Source R O) S F → (old new : Channels (Source R O) S F) → Ending → Type 0
+HasRunOver subcommand None IsOpened bytes old new ending =
+    HasCalled subcommand (standard_name subcommand) bytes old new ending
+HasRunOver subcommand (Some name) IsOpened bytes old new ending = HasRunFile subcommand name IsOpened bytes old new ending
+
+-- what was done for a subcommand with this file, if one is named
+abbrev pub HasRunCall : {R O S F : Type 0} → Subcommand → Option (List ℕ) → (List ℕ → O → Type 0)
+    → Bytes (Source R O) S F → (old new : Channels (Source R O) S F) → Ending → Type 0
+HasRunCall subcommand file IsOpened bytes old new ending =
+    (to-open : Option (List ℕ)) × IsToOpen file to-open × HasRunOver subcommand to-open IsOpened bytes old new ending
+
+-- What was done for arguments that were read as this. If they are read as no call, nothing but a text was written.
+abbrev pub HasRunRead : {R O S F : Type 0} → Result Call Error → (List ℕ → O → Type 0) → Bytes (Source R O) S F
+    → (old new : Channels (Source R O) S F) → Ending → Type 0
+HasRunRead (Ok call) IsOpened bytes old new ending =
+    HasRunCall call.subcommand (option_map (λ n. n.now) call.file) IsOpened bytes old new ending
+HasRunRead (Err error) IsOpened bytes old new ending =
     (new.streams.reader ≡ old.streams.reader)
     × HasNotPlayed (kind_of error) bytes.contents old.streams.writer new.streams.writer ending
 
--- the arguments were read as a call of the subcommand that they name, or as an error, which is help or the
--- version only if an argument asks for it; and that was done
-pub record HasRunProgram {A R S F : Type 0} (text : A → List ℕ) (arguments : List A) (bytes : Bytes R S F)
-    (old new : Channels R S F) (ending : Ending) : Type 0 where
-  pub read : Result Subcommand Error
-  pub called : IfOk read (λ subcommand. first_or_play text arguments ≡ subcommand_name subcommand)
+-- The arguments were read as a call of the subcommand that they name, with a file that is one of them, or as an error.
+-- That is help or the version only if an argument asks for it. And that was done.
+pub record HasRunProgram {A R O S F : Type 0} (text : A → List ℕ) (arguments : List A) (IsOpened : List ℕ → O → Type 0)
+    (bytes : Bytes (Source R O) S F) (old new : Channels (Source R O) S F) (ending : Ending) : Type 0 where
+  pub read : Result Call Error
+  pub called : IfOk read (λ call. IsNamedBy text arguments (subcommand_name call.subcommand))
+  pub file : IfOk read (λ call. IfSome call.file (λ name. Any (λ argument. text argument ≡ name.now) arguments))
   pub asked : IfErr read (λ error. IsShown (kind_of error)
       → Any (λ argument. AsksForText (text argument)) arguments)
-  pub done : HasCalled read bytes old new ending
+  pub done : HasRunRead read IsOpened bytes old new ending

@@ -1,2 +1,4 @@
 pub mod Arguments
+pub mod Files
+pub mod Reports
 pub mod Command

@@ -1,24 +1,27 @@
-//! The arguments of the program: a subcommand with its options, or a request for help.
+//! The arguments of the program: a subcommand with its options and its file, or a request for help.
 //!
-//!     timers                        the same as `timers play`
-//!     timers play [OPTIONS]         plays the script on standard input
-//!     timers serve [OPTIONS]        answers the lines of standard input as they come
-//!     timers show [OPTIONS]         does so, and shows after each line where the timers are
-//!     timers threads [OPTIONS]      runs clients in threads of their own
-//!     timers check                  reports each bad line of the script on standard input
-//!     timers help, timers --help    what the program is
-//!     timers --version              its name and version
+//!     timers                             the same as `timers play`
+//!     timers [OPTIONS] FILE              the same as `timers play [OPTIONS] FILE`
+//!     timers play [OPTIONS] [FILE]       plays the script in the file, or on standard input
+//!     timers serve [OPTIONS] [FILE]      answers the lines of the file or of standard input as they come
+//!     timers show [OPTIONS] [FILE]       does so, and shows after each line where the timers are
+//!     timers threads [OPTIONS]           runs clients in threads of their own
+//!     timers check [FILE]                reports each bad line of the script
+//!     timers help, timers --help         what the program is
+//!     timers --version                   its name and version
+//!
+//! The file `-` is standard input. Options without a subcommand need a file.
 //!
 //! `clap` reads the arguments, writes the help, and says why arguments are refused.
-ghost use Rattle.std.specs.Prelude.{◌≡◌, None, IfSome, IfOk, IfErr, IsTrue, Any, codes};
-ghost use Rattle.clap.specs.Words.{kind_of, found_of, one_text};
+ghost use Rattle.std.specs.Prelude.{◌≡◌, None, false, IfSome, IfOk, IfErr, IsTrue, Any, codes, option_map};
+ghost use Rattle.clap.specs.Words.{kind_of, found_of, one_text, first_value};
 ghost use Rattle.timer_commands.specs.Options.{name_of};
-ghost use Rattle.timer_program.specs.Arguments.{first_or_play, subcommand_name, IsShown, AsksForText, IsNumberOf, IsFlagGiven, reports, AreRunOptions, AreShowsOptions, HasOptions};
+ghost use Rattle.timer_program.specs.Arguments.{IsNamedBy, IsSubcommandName, subcommand_name, IsShown, AsksForText, IsNumberOf, IsFlagGiven, reports, AreRunOptions, AreShowsOptions, HasOptions};
 
 use crate::help::{
-    ABOUT, CHECK_ABOUT, CHECK_USAGE, CHECKS, NAME, PLACEMENTS, PLAY_ABOUT, PLAY_USAGE, SCHEMES,
-    SCRIPTS, SERVE_ABOUT, SERVE_USAGE, SHOW_ABOUT, SHOW_USAGE, STREAMS, THREADS, THREADS_ABOUT,
-    USAGE, VERSION,
+    ABOUT, CHECK_ABOUT, CHECK_USAGE, CHECKS, FILE, NAME, PLACEMENTS, PLAY_ABOUT, PLAY_USAGE,
+    SCHEMES, SCRIPTS, SERVE_ABOUT, SERVE_USAGE, SHOW_ABOUT, SHOW_USAGE, STREAMS, THREADS,
+    THREADS_ABOUT, USAGE, VERSION,
 };
 use clap::error::ErrorKind;
 use clap::{Arg, ArgAction, ArgMatches, Command, Error, value_parser};
@@ -36,6 +39,13 @@ pub enum Subcommand {
     Threads(ThreadsOptions),
     /// `check`: report each bad line of the script on standard input.
     Check,
+}
+
+/// A subcommand, and the name of the file that it is to read, if one is given.
+#[derive(Clone, Copy)]
+pub struct Call<'a> {
+    pub subcommand: Subcommand,
+    pub file: Option<&'a str>,
 }
 
 /// The names of the schemes.
@@ -94,6 +104,11 @@ fn choice<'a>(
         .help(help)
 }
 
+/// The file that a subcommand reads. It may be left out.
+fn file<'a>(alloc: Global) -> Arg<'a> {
+    Arg::new(alloc, "file").value_name("FILE").help(FILE)
+}
+
 /// A subcommand with the options of `play`.
 fn playing_command<'a>(
     alloc: Global,
@@ -113,6 +128,7 @@ fn playing_command<'a>(
         .override_usage(usage)
         .about(about)
         .after_long_help(after_help)
+        .arg(file(alloc))?
         // made by tools/facts: arguments of play
         .arg(choice(alloc, "scheme", "SCHEME", "hier", scheme))?
         .arg(number(alloc, "slots", "SLOTS", (1, 65536), "256", slots))?
@@ -185,11 +201,12 @@ fn threads_command<'a>(alloc: Global) -> Result<Command<'a>, AllocError> {
 }
 
 /// The subcommand `check`, which has no options.
-fn check_command<'a>(alloc: Global) -> Command<'a> {
+fn check_command<'a>(alloc: Global) -> Result<Command<'a>, AllocError> {
     Command::new(alloc, "check")
         .override_usage(CHECK_USAGE)
         .about(CHECK_ABOUT)
         .after_long_help(CHECKS)
+        .arg(file(alloc))
 }
 
 /// The subcommands, in the order of the help.
@@ -202,7 +219,7 @@ fn command_line<'a>(alloc: Global, name: &str) -> Result<Command<'a>, AllocError
         "serve" => serve_command(alloc),
         "show" => show_command(alloc),
         "threads" => threads_command(alloc),
-        _ => Ok(check_command(alloc)),
+        _ => check_command(alloc),
     }
 }
 
@@ -298,6 +315,7 @@ fn threads_options(options: &ArgMatches) -> Option<ThreadsOptions>
 /// The subcommand of this name, if each of its options has a value.
 fn subcommand_of(name: &str, options: &ArgMatches) -> Option<Subcommand>
     ensures name { IfSome result (λ subcommand. name.now ≡ subcommand_name subcommand) }
+    ensures known { IfSome result (λ _. IsSubcommandName name.now) }
     ensures options { IfSome result (λ subcommand. HasOptions (found_of options.now) subcommand) }
 {
     match name {
@@ -317,28 +335,97 @@ fn subcommand_of(name: &str, options: &ArgMatches) -> Option<Subcommand>
     }
 }
 
-/// The subcommand of some arguments, of which the first is this name.
-fn parsed<S: AsStr>(alloc: Global, name: &str, arguments: &[S]) -> Result<Subcommand, Error>
-    ensures { IfOk result (λ subcommand. name.now ≡ subcommand_name subcommand) }
+/// The file that is found, if there is one.
+fn file_of<'a>(options: &ArgMatches<'a>) -> Option<&'a str>
+    ensures { option_map (λ name. name.now) result ≡ first_value (found_of options.now) (codes "file") }
 {
-    let matches = program(alloc)?.try_get_matches_from(arguments)?;
+    options.get_str("file")
+}
+
+/// The argument with this text.
+fn argument_of<'a, S: AsStr>(arguments: &'a [S], text: &str) -> Option<&'a str>
+    ensures same { IfSome result (λ argument. argument.now ≡ text.now) }
+    ensures found { IfSome result (λ name. Any (λ argument. S.text argument ≡ name.now) arguments.now) }
+{
+    for argument in arguments {
+        if argument.as_str() == text {
+            return Some(argument.as_str());
+        }
+    }
+    None
+}
+
+/// The call of some words, of which the first is this name of a subcommand. The file is one of the arguments.
+fn parsed<'a, W: AsStr, S: AsStr>(
+    alloc: Global,
+    name: &str,
+    words: &[W],
+    arguments: &'a [S],
+) -> Result<Call<'a>, Error>
+    ensures name { IfOk result (λ call. name.now ≡ subcommand_name call.subcommand) }
+    ensures known { IfOk result (λ _. IsSubcommandName name.now) }
+    ensures file { IfOk result (λ call. IfSome call.file (λ name. Any (λ argument. S.text argument ≡ name.now) arguments.now)) }
+{
+    let matches = program(alloc)?.try_get_matches_from(words)?;
     if let Some((_, options)) = matches.subcommand()
         && let Some(subcommand) = subcommand_of(name, options)
     {
-        return Ok(subcommand);
+        let Some(file) = file_of(options) else {
+            return Ok(Call {
+                subcommand,
+                file: None,
+            });
+        };
+        if let Some(file) = argument_of(arguments, file) {
+            return Ok(Call {
+                subcommand,
+                file: Some(file),
+            });
+        }
     }
     // An option without a value is refused as any other mistake in the arguments.
-    Err(refusal(alloc)?)
+    Err(refusal(
+        alloc,
+        "a subcommand with a value for each of its options is required",
+    )?)
+}
+
+/// The call of arguments that begin with the name of no subcommand: of `play`, with a file.
+fn parsed_as_play<'a, S: AsStr>(alloc: Global, arguments: &'a [S]) -> Result<Call<'a>, Error>
+    ensures name { IfOk result (λ call. codes "play" ≡ subcommand_name call.subcommand) }
+    ensures file { IfOk result (λ call. IfSome call.file (λ name. Any (λ argument. S.text argument ≡ name.now) arguments.now)) }
+{
+    let mut words = Vec::new(alloc);
+    words.push("play")?;
+    for argument in arguments {
+        words.push(argument.as_str())?;
+    }
+    let call = parsed(alloc, "play", &words, arguments)?;
+    if call.file.is_none() {
+        return Err(refusal(
+            alloc,
+            "options without a subcommand need a FILE, or - for standard input",
+        )?);
+    }
+    Ok(call)
 }
 
 /// A refusal of arguments that name no subcommand with all that it needs.
-fn refusal(alloc: Global) -> Result<Error, AllocError>
+fn refusal(alloc: Global, reason: &str) -> Result<Error, AllocError>
     ensures { IfOk result (λ error. kind_of error ≡ ErrorKind.MissingSubcommand) }
 {
-    program(alloc)?.error(
-        ErrorKind::MissingSubcommand,
-        "a subcommand with a value for each of its options is required",
-    )
+    program(alloc)?.error(ErrorKind::MissingSubcommand, reason)
+}
+
+/// Whether a subcommand has this name.
+fn is_subcommand(name: &str) -> bool
+    ensures known { IsTrue result → IsSubcommandName name.now }
+    ensures other { result ≡ false → ¬ (IsSubcommandName name.now) }
+{
+    match name {
+        "play" | "serve" | "show" | "threads" | "check" => true,
+        _ => false,
+    }
 }
 
 /// Whether an argument asks for help or for the version.
@@ -367,23 +454,37 @@ fn any_of_text<S: AsStr>(arguments: &[S]) -> bool
     false
 }
 
-/// The subcommand of the arguments. No arguments are `play`.
+/// The call of the arguments: of the subcommand that the first of them names, and else of `play`.
 ///
 /// An error is a request for help or for the version, a refusal, or out of memory.
-pub fn read_arguments<S: AsStr>(alloc: Global, arguments: &[S]) -> Result<Subcommand, Error>
-    ensures call { IfOk result (λ subcommand.
-        first_or_play S.text arguments.now ≡ subcommand_name subcommand) }
+pub fn read_arguments<'a, S: AsStr>(alloc: Global, arguments: &'a [S]) -> Result<Call<'a>, Error>
+    ensures call { IfOk result (λ call. IsNamedBy S.text arguments.now (subcommand_name call.subcommand)) }
+    ensures file { IfOk result (λ call. IfSome call.file (λ name. Any (λ argument. S.text argument ≡ name.now) arguments.now)) }
     ensures text { IfErr result (λ error. IsShown (kind_of error)
         → Any (λ argument. AsksForText (S.text argument)) arguments.now) }
 {
-    let read = match arguments.first() {
-        Some(name) => parsed(alloc, name.as_str(), arguments),
-        None => parsed(alloc, "play", PLAY.as_slice()),
-    };
-    match read {
+    match called(alloc, arguments) {
         // However `clap` reads the arguments, a call whose arguments don't ask for a text doesn't end with
         // one.
-        Err(error) if !error.use_stderr() && !any_of_text(arguments) => Err(refusal(alloc)?),
+        Err(error) if !error.use_stderr() && !any_of_text(arguments) => {
+            Err(refusal(alloc, "a subcommand is required")?)
+        }
         read => read,
+    }
+}
+
+/// The same, but that any error may be a request for help or for the version.
+fn called<'a, S: AsStr>(alloc: Global, arguments: &'a [S]) -> Result<Call<'a>, Error>
+    ensures call { IfOk result (λ call. IsNamedBy S.text arguments.now (subcommand_name call.subcommand)) }
+    ensures file { IfOk result (λ call. IfSome call.file (λ name. Any (λ argument. S.text argument ≡ name.now) arguments.now)) }
+{
+    let Some(first) = arguments.first() else {
+        return parsed(alloc, "play", PLAY.as_slice(), arguments);
+    };
+    let name = first.as_str();
+    if is_subcommand(name) || is_of_text(name) {
+        parsed(alloc, name, arguments, arguments)
+    } else {
+        parsed_as_play(alloc, arguments)
     }
 }

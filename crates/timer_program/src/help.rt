@@ -9,21 +9,23 @@ pub static VERSION: &str = "1.0.0";
 pub static ABOUT: &str =
     "Plays a script of timers: clients start, restart and stop them, and ticks let them expire";
 
-/// How the program is called, in the help and below the refusal of an unknown argument. It opens no file, so a refused
-/// file name is followed by the way to read one.
-pub static USAGE: &str = "timers < FILE\n       timers COMMAND [OPTIONS] < FILE";
+/// How the program is called, in the help and below the refusal of an unknown argument.
+pub static USAGE: &str = "timers [OPTIONS] FILE\n       timers COMMAND [OPTIONS] [FILE]";
 
-pub static PLAY_USAGE: &str = "timers play [OPTIONS] < FILE";
+/// What the file of a subcommand is.
+pub static FILE: &str = "The file to read; without one, or with `-`, standard input is read";
 
-pub static SERVE_USAGE: &str = "timers serve [OPTIONS] < FILE";
+pub static PLAY_USAGE: &str = "timers play [OPTIONS] [FILE]";
 
-pub static SHOW_USAGE: &str = "timers show [OPTIONS] < FILE";
+pub static SERVE_USAGE: &str = "timers serve [OPTIONS] [FILE]";
 
-pub static PLAY_ABOUT: &str = "Plays the script on standard input and writes one line per result";
+pub static SHOW_USAGE: &str = "timers show [OPTIONS] [FILE]";
+
+pub static PLAY_ABOUT: &str = "Plays a script and writes one line per result";
 
 /// The text below the help of the program. tools/facts writes its list of lines.
 pub static SCRIPTS: &str = "\
-With no arguments, `timers` is `timers play`.
+With no arguments, `timers` is `timers play`, and `timers FILE` is `timers play FILE`.
 
 A script has one line for each event:
   start CLIENT NUMBER INTERVAL ACTION  starts a timer that expires after INTERVAL
@@ -52,7 +54,9 @@ For example:
 
 Nothing is written before the whole script has been played. The exit status is 0 if
 it was. It is 1 after an error, which is reported in one line on standard error, and 2
-if the arguments are refused. `timers serve` answers each line as it comes instead.
+if the arguments are refused, or FILE can't be opened. The error of a FILE names it:
+  timers: trace:2: unknown word 'strat'
+`timers serve` answers each line as it comes instead.
 `man timers` and docs/formats.md list every line of scripts and output.";
 
 /// The text below the help of `play`.
@@ -78,7 +82,7 @@ For example, with two clients, a stop and a close:
 all of it.";
 
 pub static SERVE_ABOUT: &str =
-    "Answers each line of standard input as soon as it is complete, until the input ends";
+    "Answers each line of its input as soon as it is complete, until the input ends";
 
 /// The text below the help of `serve`.
 pub static STREAMS: &str = "\
@@ -169,10 +173,9 @@ on standard error (`client C failed`, `desk failed`, `out of memory` or
 `write failed`). It is 2 if the arguments are refused. Nothing is read from standard
 input.";
 
-pub static CHECK_USAGE: &str = "timers check < FILE";
+pub static CHECK_USAGE: &str = "timers check [FILE]";
 
-pub static CHECK_ABOUT: &str =
-    "Reports every bad line of the script on standard input, and plays nothing";
+pub static CHECK_ABOUT: &str = "Reports every bad line of a script, and plays nothing";
 
 /// The text below the help of `check`.
 pub static CHECKS: &str = "\

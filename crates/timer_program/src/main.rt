@@ -4,9 +4,12 @@
 //! Scripts, their texts, and the runs from one to the other are in timer_script. Each subcommand, over its
 //! options, its input and its outputs, is in timer_commands. This crate reads what the user types:
 //!
-//!     arguments   subcommands and options, over `clap`
+//!     arguments   subcommands, options and the file, over `clap`
 //!     help        the texts of the help
 //!     argv        arguments that cannot be read
+//!     files       the file, or standard input
+//!     reports     the line of an error
+//!     excerpt     what is wrong with a line of a file
 //!     command     from the arguments to the exit status
 //!
 //! A module's definitions are in the file of its name in `specs/`.
@@ -15,10 +18,14 @@
 mod arguments;
 mod argv;
 mod command;
+mod excerpt;
+mod files;
 mod help;
+mod reports;
 
 use argv::{after_name, end_without_arguments};
 use command::command;
+use files::{Prompted, Source};
 use std::process::ExitCode;
 use std::{env, io};
 use timer_script::{Streams, Watched};
@@ -29,7 +36,10 @@ fn main(rt: HostRuntime) -> ExitCode {
         Ok(arguments) => command(
             &rt,
             after_name(&arguments),
-            &mut Streams::new(rt.stdin(), rt.stdout()),
+            &mut Streams::new(
+                Source::Given(Prompted::new(rt.stdin(), rt.stderr())),
+                rt.stdout(),
+            ),
             &mut faults,
         ),
         Err(error) => end_without_arguments(error.kind(), &mut faults).status(),

@@ -13,4 +13,4 @@ _timers() {
     fi
     mapfile -t COMPREPLY < <(compgen -W "$words" -- "$2")
 }
-complete -F _timers timers
+complete -o default -F _timers timers

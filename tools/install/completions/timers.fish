@@ -18,6 +18,7 @@ function __timers_values
 end
 
 complete -c timers -f
+complete -c timers -n 'not __fish_seen_subcommand_from help threads; and not __timers_values > /dev/null' -F
 complete -c timers -n __fish_use_subcommand -a '(__timers_commands)'
 complete -c timers -n '__fish_seen_subcommand_from help' -a '(__timers_commands)'
 complete -c timers -n 'not __timers_values > /dev/null' -a '(__timers_options)'

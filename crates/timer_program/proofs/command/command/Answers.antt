@@ -1,14 +1,15 @@
 use Rattle.timer_program.proofs.command.command.Goals as goal
 
--- the subcommand that the arguments were read as was run
+-- what the arguments were read as was done
 pub returns : goal.returns
 returns g c = (
-  c.run_subcommand.result,
+  c.run_read.result,
   c.status.ensures,
   record {
     read = c.read_arguments-read.result;
     called = c.read_arguments-read.ensures.call;
+    file = c.read_arguments-read.ensures.file;
     asked = c.read_arguments-read.ensures.text;
-    done = c.run_subcommand.ensures;
+    done = c.run_read.ensures;
   },
 )
