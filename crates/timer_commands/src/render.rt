@@ -26,7 +26,7 @@ ghost use Rattle.timer_script.specs.Decorator.{HasGrown};
 ghost use Rattle.timer_commands.specs.Indented.{HasGrownByIndented, HasGrownByPicture, HasGrownByBare, HasGrownByEnd};
 ghost use Rattle.std.specs.List.{filter};
 ghost use Rattle.timer_commands.specs.Shows.{is_kept};
-ghost use Rattle.timer_commands.specs.Pictures.{kept_rows, shows_rounds, node_text, rows_text, slot_name, hand_name, bucket_name, list_end, lines_below, has_row};
+ghost use Rattle.timer_commands.specs.Pictures.{kept_rows, shows_rounds, node_text, rows_text, slot_name, hand_name, bucket_name, list_end, lines_below, has_row, work_line};
 ghost use Rattle.timer_commands.specs.Wakeups.{wakeup_line};
 ghost use Rattle.timer_links.specs.Lists.{list_at};
 
@@ -331,6 +331,7 @@ fn push_work(
     moves: u64,
     visits: Option<u64>,
 ) -> Result<(), OutOfMemory>
+    ensures line { OnOk result (text.new.items ≡ text.old.items ++ work_line starts moves visits) }
     ensures indented { OnOk result (HasGrownByIndented text.old.items text.new.items) }
     ensures kept { HasGrown text.old.items text.new.items }
 {
