@@ -19,9 +19,9 @@ returns-clause-indented c =
 pub returns-clause-line : goal.returns-clause-line
 returns-clause-line c =
     let both = two_numbers _ _ _ (codes "  starts ") (decimal c.args.starts) (codes " moves ") (decimal c.args.moves)
-        c.in_ok-push_number.ensures.text c.in_ok-push_number-2.ensures.text in
+    c.in_ok-push_number.ensures.text c.in_ok-push_number-2.ensures.text in
     let front : c.match-visits.text.items ≡ c.args.text.now.items
-        ++ (((codes "  starts " ++ decimal c.args.starts) ++ (codes " moves " ++ decimal c.args.moves)) ++ visits_text c.args.visits) =
+    ++ (((codes "  starts " ++ decimal c.args.starts) ++ (codes " moves " ++ decimal c.args.moves)) ++ visits_text c.args.visits) =
     elim c.match-visits.branch [
       | in-Some+in_ok-push_number-3 w ↦ visited _ _ _ _ w.in-Some.visits c.args.visits (search rules) both
           (ap (λ v. v.items) w.text-is ∙ w.in_ok-push_number-3.ensures.text)
