@@ -11,7 +11,7 @@
 
 #include <timers_desk.h>
 
-enum { ROOM = 1 << 22, TIMERS = 5000, LATER = 50 };
+enum { ROOM = 1 << 22, TIMERS = 5000, LATER = 50, NOW = 4100 };
 
 /* The library's memory, from which nothing is given back. A block has its size in front of it. */
 static unsigned char *memory;
@@ -76,8 +76,8 @@ static void *read_all(void *unused)
 	sum += timers_next(t), sum += timers_next(&all->later);
 	sum += timers_counts(t, NULL), sum += timers_counts(&all->later, NULL);
 	/* by hand, with what some of them return */
-	wrong += timers_now(t) != 10 || !timers_has_due(t) || timers_len(t) >= TIMERS;
-	wrong += timers_wakeup(t) != 10 || timers_next(t) != 10;
+	wrong += timers_now(t) != NOW || !timers_has_due(t) || timers_len(t) >= TIMERS;
+	wrong += timers_wakeup(t) != NOW || timers_next(t) != NOW;
 	/* nothing is due, and all stand in one bucket of a high wheel: what comes first is found by a walk */
 	wrong += timers_has_due(&all->later) || timers_now(&all->later) != 0 || timers_len(&all->later) != LATER;
 	wrong += timers_wakeup(&all->later) != 5 * 4096 || timers_next(&all->later) != 5 * 4096 + 1;
@@ -94,6 +94,17 @@ static void *read_all(void *unused)
 	wrong += timers_find_next(&all->later) != 5 * 4096 + 1;
 #endif
 	return wrong ? &handles[0] : NULL;
+}
+
+/* One that is due, and others, of which some are to be moved at the next ticks. */
+static bool start_smooth(void)
+{
+	if (timers_new(t, TIMERS_SMOOTH, 0) != TIMERS_OK)
+		return false;
+	for (uint64_t i = 1; i < TIMERS; i++)
+		if (timers_start_at(t, 5000 + i % 1000 * i, i, &handles[i]) != TIMERS_OK)
+			return false;
+	return timers_advance_to(t, NOW) == TIMERS_OK && timers_start_at(t, 0, 0, &handles[0]) == TIMERS_OK;
 }
 
 /* Timers in one bucket of the third wheel, the last of which expires first. */
@@ -133,13 +144,7 @@ int main(void)
 	all = (struct all *)(void *)memory;
 	t = &all->timers;
 	used = 4096;
-	if (timers_new(t, TIMERS_WIDE, 0) != TIMERS_OK)
-		return 2;
-	for (size_t i = 0; i < TIMERS; i++)
-		if (timers_start(t, 10 + i % 1000 * i, i, &handles[i]) != TIMERS_OK)
-			return 2;
-	timers_advance_to(t, 100);
-	if (!start_later() || !open_desk() || mprotect(memory, ROOM, PROT_READ) != 0)
+	if (!start_smooth() || !start_later() || !open_desk() || mprotect(memory, ROOM, PROT_READ) != 0)
 		return 2;
 	for (int i = 0; i < 4; i++)
 		if (pthread_create(&threads[i], NULL, read_all, NULL) != 0)

@@ -10,7 +10,7 @@ use Rattle.timer_wheels.proofs.WalkLemmas.{IsGathering, next_row, found}
 use Rattle.timer_commands.specs.declared.render.Naming.{Naming}
 use Rattle.timer_commands.specs.declared.shows.Filter.{Filter}
 use Rattle.timer_commands.specs.Shows.{is_kept}
-use Rattle.timer_commands.specs.Pictures.{kept_rows, has_row, shows_rounds, rounds_text, node_text, rows_text, list_end, list_line, lines_below}
+use Rattle.timer_commands.specs.Pictures.{kept_rows, has_row, shows_rounds, rounds_text, node_text, rows_text, list_end, list_line, lines_below, visits_text}
 
 -- ---- text after text
 
@@ -42,6 +42,17 @@ node_alone naming node a b k f =
     let serial : List ℕ = codes " " ++ decimal node.timer.serial in
     word_number a b (codes " ") (decimal node.timer.serial) f ∙ ap (λ t. a ++ t) (sym (append-nil serial))
     ∙ ap (λ s. a ++ (serial ++ rounds_text s node.rounds)) (sym k)
+
+-- ---- what a wheel counted
+
+pub visited : (a b c front : List ℕ) (n : ℕ) (visits : Option ℕ) → visits ≡ Some n → b ≡ a ++ front
+    → c ≡ b ++ codes " visits " ++ decimal n → c ≡ a ++ (front ++ visits_text visits)
+visited a b c front n visits k f g =
+    then a b c front (codes " visits " ++ decimal n) f (word_number b c (codes " visits ") (decimal n) g)
+    ∙ ap (λ v. a ++ (front ++ visits_text v)) (sym k)
+
+pub unvisited : (a b front : List ℕ) (visits : Option ℕ) → visits ≡ None → b ≡ a ++ front → b ≡ a ++ (front ++ visits_text visits)
+unvisited a b front visits k f = f ∙ ap (λ t. a ++ t) (sym (append-nil front)) ∙ ap (λ v. a ++ (front ++ visits_text v)) (sym k)
 
 -- ---- one row more
 

@@ -1,5 +1,5 @@
 -- The lines in which `show` draws the lists of a wheel: one for each list with a timer that a filter keeps.
-use Rattle.std.specs.Prelude.{ℕ, zero, suc, ◌-◌, ◌/◌, ◌%◌, Bool, true, false, if◌then◌else◌, nat_lt, List, [], ◌∷◌, ◌++◌, codes, decimal}
+use Rattle.std.specs.Prelude.{ℕ, zero, suc, ◌-◌, ◌/◌, ◌%◌, Bool, true, false, if◌then◌else◌, nat_lt, List, [], ◌∷◌, ◌++◌, codes, decimal, Option, Some, None}
 use Rattle.std.specs.List.{filter, flat_map}
 use Rattle.timer_links.specs.declared.kept.Node.{Node}
 use Rattle.timer_links.specs.Lists.{list_at, KeyedLists, Rows}
@@ -34,6 +34,16 @@ rounds_text false rounds = []
 -- the serial of a timer, and its rounds if they are shown
 abbrev pub node_text : Naming → Node → List ℕ
 node_text naming node = (codes " " ++ decimal node.timer.serial) ++ rounds_text (shows_rounds naming) node.rounds
+
+-- how many buckets were visited, if the wheel counts these
+abbrev pub visits_text : Option ℕ → List ℕ
+visits_text None = []
+visits_text (Some visits) = codes " visits " ++ decimal visits
+
+-- the line of what a wheel counted
+abbrev pub work_line : ℕ → ℕ → Option ℕ → List ℕ
+work_line starts moves visits =
+    (((codes "  starts " ++ decimal starts) ++ (codes " moves " ++ decimal moves)) ++ visits_text visits) ++ codes "\n"
 
 -- the timers of some rows
 abbrev pub rows_text : Naming → Rows → List ℕ

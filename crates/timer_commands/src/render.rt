@@ -21,14 +21,16 @@
 //! such line.
 //!
 //! A filter says which timers are kept of each list. One without a timer that is kept has no line.
-ghost use Rattle.std.specs.Prelude.{◌≡◌, ◌<◌, ◌++◌, length, decimal, OnOk};
+ghost use Rattle.std.specs.Prelude.{◌≡◌, ◌<◌, ◌++◌, length, decimal, OnOk, Some, None};
 ghost use Rattle.timer_script.specs.Decorator.{HasGrown};
 ghost use Rattle.timer_commands.specs.Indented.{HasGrownByIndented, HasGrownByPicture, HasGrownByBare, HasGrownByEnd};
 ghost use Rattle.std.specs.List.{filter};
 ghost use Rattle.timer_commands.specs.Shows.{is_kept};
-ghost use Rattle.timer_commands.specs.Pictures.{kept_rows, shows_rounds, node_text, rows_text, slot_name, hand_name, bucket_name, list_end, lines_below, has_row};
+ghost use Rattle.timer_commands.specs.Pictures.{kept_rows, shows_rounds, node_text, rows_text, slot_name, hand_name, bucket_name, list_end, lines_below, has_row, work_line};
 ghost use Rattle.timer_commands.specs.Wakeups.{wakeup_line};
 ghost use Rattle.timer_links.specs.Lists.{list_at};
+ghost use Rattle.timer_wheels.specs.HierWheel.{counts_of};
+ghost use Rattle.timer_wheels.specs.SmoothWheel.{starts_of, moves_of};
 
 use crate::shows::Filter;
 use itoa::Buffer;
@@ -111,7 +113,12 @@ impl Placement for HierWheel {
         push_lists(text, self.links(), naming_of(self.table()), filter)
     }
 
-    fn push_counts(&self, text: &mut Vec<u8>) -> Result<(), OutOfMemory> {
+    fn push_counts(&self, text: &mut Vec<u8>) -> Result<(), OutOfMemory>
+        ensures line { OnOk result (text.new.items ≡ text.old.items
+            ++ work_line (counts_of self.now).starts (counts_of self.now).moves (Some (counts_of self.now).visits)) }
+        ensures indented { OnOk result (HasGrownByIndented text.old.items text.new.items) }
+        ensures kept { HasGrown text.old.items text.new.items }
+    {
         push_work(text, self.starts(), self.moves(), Some(self.visits()))
     }
 
@@ -142,7 +149,12 @@ impl Placement for SmoothWheel {
         push_lists(text, self.links(), Naming::Turns, filter)
     }
 
-    fn push_counts(&self, text: &mut Vec<u8>) -> Result<(), OutOfMemory> {
+    fn push_counts(&self, text: &mut Vec<u8>) -> Result<(), OutOfMemory>
+        ensures line { OnOk result (text.new.items
+            ≡ text.old.items ++ work_line (starts_of self.now) (moves_of self.now) None) }
+        ensures indented { OnOk result (HasGrownByIndented text.old.items text.new.items) }
+        ensures kept { HasGrown text.old.items text.new.items }
+    {
         push_work(text, self.starts(), self.moves(), None)
     }
 }
@@ -331,6 +343,7 @@ fn push_work(
     moves: u64,
     visits: Option<u64>,
 ) -> Result<(), OutOfMemory>
+    ensures line { OnOk result (text.new.items ≡ text.old.items ++ work_line starts moves visits) }
     ensures indented { OnOk result (HasGrownByIndented text.old.items text.new.items) }
     ensures kept { HasGrown text.old.items text.new.items }
 {

@@ -1,5 +1,7 @@
-use Rattle.std.proofs.Common.{refl, codes, ap, ◌∙◌}
+use Rattle.std.proofs.Common.{rules, ◌≡◌, ◌++◌, refl, codes, decimal, ap, ◌∙◌}
 use Rattle.timer_commands.proofs.IndentedLemmas.{HasGrownByFront, begun, numbered, bare_join, line_ended}
+use Rattle.timer_commands.specs.Pictures.{visits_text}
+use Rattle.timer_commands.proofs.PictureLemmas.{then, two_numbers, visited, unvisited}
 use Rattle.timer_commands.proofs.render.push_work.Goals as goal
 use Rattle.timer_commands.proofs.render.push_work.Goals.{in-Some+in_ok-push_number-3, in_default}
 
@@ -13,3 +15,16 @@ returns-clause-indented c =
       | in_default w ↦ rw (ap (λ v. v.items) w.text-is) moves
     ] in
     line_ended _ _ c.push.new.self.items front c.in_ok-push.ensures.items
+
+pub returns-clause-line : goal.returns-clause-line
+returns-clause-line c =
+    let both = two_numbers _ _ _ (codes "  starts ") (decimal c.args.starts) (codes " moves ") (decimal c.args.moves)
+    c.in_ok-push_number.ensures.text c.in_ok-push_number-2.ensures.text in
+    let front : c.match-visits.text.items ≡ c.args.text.now.items
+    ++ (((codes "  starts " ++ decimal c.args.starts) ++ (codes " moves " ++ decimal c.args.moves)) ++ visits_text c.args.visits) =
+    elim c.match-visits.branch [
+      | in-Some+in_ok-push_number-3 w ↦ visited _ _ _ _ w.in-Some.visits c.args.visits (search rules) both
+          (ap (λ v. v.items) w.text-is ∙ w.in_ok-push_number-3.ensures.text)
+      | in_default w ↦ unvisited _ _ _ c.args.visits (search rules) (ap (λ v. v.items) w.text-is ∙ both)
+    ] in
+    then _ _ _ _ (codes "\n") front c.in_ok-push.ensures.items
