@@ -105,7 +105,7 @@ impl PlainWheel {
 impl Wheel for PlainWheel {
     ghost state = { λ w. with_room w.room (plain_state w.now w.last_serial w.timers.items) };
 
-    ghost wake_up = { λ layout now pending. next_deadline pending };
+    ghost wakes = { λ layout now pending wake. wake ≡ next_deadline pending };
 
     ghost well_formed = { λ w. with_room-well_formed w.room (plain_state w.now w.last_serial w.timers.items)
         (plain_state-well_formed w.now w.last_serial w.timers.items w.now_in_range w.serial_in_range w.rising

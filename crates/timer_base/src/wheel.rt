@@ -32,9 +32,9 @@ pub trait Wheel {
     /// The abstract state of the wheel, however it keeps its timers.
     ghost state: { Self → WheelState };
 
-    /// The tick that `quiet_until` returns, from the layout of the slots, the present tick and the pending timers:
-    /// each wheel says which it is.
-    ghost wake_up: { Layout → ℕ → List Entry → Option ℕ };
+    /// What `quiet_until` returns, for the layout of the slots, the present tick and the pending timers: each wheel says
+    /// which tick it is, or which ticks it may be.
+    ghost wakes: { Layout → ℕ → List Entry → Option ℕ → Type 0 };
 
     /// The timers that it can give back whole: a start and a restart take no others. A wheel that keeps all of a timer
     /// leaves this out.
@@ -169,10 +169,10 @@ pub trait Wheel {
     ///
     /// It is after the present tick and at most the first pending deadline, so an owner sleeps until
     /// then, calls `advance`, and calls this again. A wheel may wake its owner before the first deadline
-    /// rather than search for it: `wake_up` is exactly when. Does not allocate.
+    /// rather than search for it: `wakes` says when. Does not allocate.
     fn quiet_until(&self) -> Option<u64>
         ensures quiet { IsQuietUntil result (state self.now).now (state self.now).pending }
-        ensures exact { result ≡ wake_up (state self.now).layout (state self.now).now (state self.now).pending };
+        ensures wakes { wakes (state self.now).layout (state self.now).now (state self.now).pending result };
 
     /// Returns the first pending deadline, or None exactly when nothing is pending.
     ///

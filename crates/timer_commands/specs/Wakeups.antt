@@ -14,6 +14,10 @@ wakeup_line (Some tick) = codes "wakeup " ++ decimal tick ++ codes "\n"
 abbrev pub IsWakeup : FacilityState → List ℕ → Type 0
 IsWakeup s text = (quiet : Option ℕ) × IsQuietUntil quiet s.now s.pending × (text ≡ wakeup_line quiet)
 
+-- the line of a wake-up of which this holds is added to a text
+abbrev pub AddsWakeOf : (Option ℕ → Type 0) → List ℕ → List ℕ → Type 0
+AddsWakeOf wakes old new = (wake : Option ℕ) × wakes wake × (new ≡ old ++ wakeup_line wake)
+
 -- after the answer to each line comes that of a wake-up
 abbrev pub AddsWakeups : Decoration
 AddsWakeups = AddsAfter IsWakeup

@@ -111,7 +111,7 @@ struct Wakeups;
 impl<W: Wheel + Drop> Decorator<W> for Wakeups {
     ghost use Rattle.std.specs.Prelude.{◌≡◌, ◌++◌, OnOk};
     ghost use Rattle.timer_script.specs.Decorator.{HasGrown, HasGrownAfter, after_is_lawful};
-    ghost use Rattle.timer_commands.specs.Wakeups.{AddsWakeups, IsWakeup, wakeup_line};
+    ghost use Rattle.timer_commands.specs.Wakeups.{AddsWakeups, AddsWakeOf, IsWakeup};
 
     ghost adds = { λ wakeups. AddsWakeups };
 
@@ -129,8 +129,8 @@ impl<W: Wheel + Drop> Decorator<W> for Wakeups {
         ensures added { OnOk result (HasGrownAfter AddsWakeups _serial facility.now.state text.old.items text.new.items) }
         ensures kept { HasGrown text.old.items text.new.items }
         // The tick is after the present one, and at most the first pending deadline.
-        ensures wakeup { OnOk result (text.new.items ≡ text.old.items
-            ++ wakeup_line (W.wake_up facility.now.state.layout facility.now.state.now facility.now.state.pending)) }
+        ensures wakeup { OnOk result (AddsWakeOf (W.wakes facility.now.state.layout facility.now.state.now
+            facility.now.state.pending) text.old.items text.new.items) }
     {
         push_wakeup(text, facility.quiet_until())
     }

@@ -291,11 +291,11 @@ impl<W: Wheel + Drop> Facility<W> {
     /// Returns a tick until which nothing is handed out, or None exactly if nothing is pending.
     ///
     /// It is after the present tick and at most the first pending deadline, so an owner sleeps until
-    /// then, calls `ticks`, and calls this again. It is exactly the wheel's `wake_up`. Timers that wait to
+    /// then, calls `ticks`, and calls this again. The wheel's `wakes` says which tick it is. Timers that wait to
     /// be handed out do not count. Does not allocate.
     pub fn quiet_until(&self) -> Option<u64>
         ensures quiet { IsQuietUntil result self.now.state.now self.now.state.pending }
-        ensures exact { result ≡ W.wake_up self.now.state.layout self.now.state.now self.now.state.pending }
+        ensures wakes { W.wakes self.now.state.layout self.now.state.now self.now.state.pending result }
     {
         self.wheel.quiet_until()
     }

@@ -86,10 +86,10 @@ impl<W: Wheel + Drop> Timers<W> {
     }
 
     /// A tick until which nothing expires, or None exactly if nothing is pending. It is after the
-    /// present tick and at most the first pending deadline, and exactly the wheel's `wake_up`.
+    /// present tick and at most the first pending deadline, and the wheel's `wakes` says which it is.
     pub fn quiet_until(&self) -> Option<u64>
         ensures quiet { IsQuietUntil result self.now.wheel.now self.now.wheel.pending }
-        ensures exact { result ≡ W.wake_up self.now.wheel.layout self.now.wheel.now self.now.wheel.pending }
+        ensures wakes { W.wakes self.now.wheel.layout self.now.wheel.now self.now.wheel.pending result }
     {
         self.wheel.quiet_until()
     }

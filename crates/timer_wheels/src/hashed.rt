@@ -149,7 +149,7 @@ impl Wheel for HashedWheel {
 
     ghost state = { λ wheel. hashed_state wheel };
 
-    ghost wake_up = { λ layout now pending. earliest_sweep (slots_in layout) now pending };
+    ghost wakes = { λ layout now pending wake. wake ≡ earliest_sweep (slots_in layout) now pending };
 
     ghost well_formed = { λ wheel. state_of-well_formed wheel.buckets };
 

@@ -344,7 +344,7 @@ impl<N: Kept> Wheel for HierWheel<N> {
 
     ghost state = { λ wheel. hier_state wheel };
 
-    ghost wake_up = { λ layout now pending. next_visit (radices_of layout) now pending };
+    ghost wakes = { λ layout now pending wake. wake ≡ next_visit (radices_of layout) now pending };
 
     ghost keeps = { λ timer. N.keeps (record { timer = timer; rounds = 0 }) };
 

@@ -22,7 +22,7 @@
 //!     files      the buckets, their bits, and every change of them
 //!     filing     one bucket is emptied
 ghost use Rattle.std.specs.Prelude.{◌≡◌, ◌<◌, ◌≤◌, IfOk, IfErr, IfSome, OnOk, OnErr};
-ghost use Rattle.timer_base.specs.WakeUps.{IsQuietUntil, next_deadline};
+ghost use Rattle.timer_base.specs.WakeUps.{IsQuietUntil};
 ghost use Rattle.timer_base.specs.WheelState.{empty_wheel, held_at, old_timer, after_reserve, after_replacement};
 ghost use Rattle.timer_base.specs.declared.limits.TheConstants.{LAST};
 ghost use Rattle.timer_wheels.specs.HeldPlaces.{IsFirstHeld};
@@ -116,14 +116,6 @@ impl<N: Kept> LazyWheel<N> {
     {
         held_from(&self.files.buckets, place)
     }
-
-    /// The first tick that visits a bucket with a timer, or None exactly if nothing is pending. Nothing is due before it: it
-    /// is after now, and at most the first pending deadline. It is found without a walk. Does not allocate.
-    pub fn next_visit(&self) -> Option<u64>
-        ensures { IsQuietUntil result (lazy_state self.now).now (lazy_state self.now).pending }
-    {
-        self.files.first_visit()
-    }
 }
 
 impl<N: Kept> Wheel for LazyWheel<N> {
@@ -132,7 +124,7 @@ impl<N: Kept> Wheel for LazyWheel<N> {
 
     ghost state = { λ wheel. lazy_state wheel };
 
-    ghost wake_up = { λ layout now pending. next_deadline pending };
+    ghost wakes = { λ layout now pending wake. IsQuietUntil wake now pending };
 
     ghost keeps = { λ timer. N.keeps (record { timer = timer; rounds = 0 }) };
 
@@ -202,9 +194,12 @@ impl<N: Kept> Wheel for LazyWheel<N> {
         self.files.advance(most)
     }
 
-    /// The first deadline itself, for which it walks timers. `next_visit` is earlier, and needs no walk.
-    fn quiet_until(&self) -> Option<u64> {
-        self.next_deadline()
+    /// The first tick that visits a bucket with a timer. It is found without a walk, and depends on where timers were
+    /// filed.
+    fn quiet_until(&self) -> Option<u64>
+        ensures quiet { IsQuietUntil result (lazy_state self.now).now (lazy_state self.now).pending }
+    {
+        self.files.first_visit()
     }
 
     /// Found by a walk along the buckets in the order of their visits, up to one that isn't visited before a deadline that

@@ -268,7 +268,7 @@ impl<N: Kept> Wheel for SmoothWheel<N> {
 
     ghost keeps = { λ timer. N.keeps (record { timer = timer; rounds = 0 }) };
 
-    ghost wake_up = { λ layout now pending. next_visit (radices_of layout) now pending };
+    ghost wakes = { λ layout now pending wake. wake ≡ next_visit (radices_of layout) now pending };
 
     fn last_tick(&self) -> u64 {
         self.bank.buckets.last_tick

@@ -16,4 +16,4 @@ pub returns-in-Some-clause-exact : goal.returns-in-Some-clause-exact
 returns-in-Some-clause-exact g c =
     let w = smooth_state c.args.wheel.now in
     some_tick c.in-Some.tick (wake_in_clock w c.in-Some.tick (smooth-well_formed c.args.wheel.now) c.in-Some.ensures.quiet)
-    ∙ c.in-Some.ensures.exact
+    ∙ c.in-Some.ensures.wakes

@@ -8,4 +8,5 @@ returns-clause-added g c = on_ok_weaker c.push_wakeup.result
     (λ is. (wakeup_line c.quiet_until.result, is, (c.quiet_until.result, c.quiet_until.ensures.quiet, refl))) c.push_wakeup.ensures.text
 
 pub returns-clause-wakeup : goal.returns-clause-wakeup
-returns-clause-wakeup g c = rw c.quiet_until.ensures.exact at c.push_wakeup.ensures.text
+returns-clause-wakeup g c = on_ok_weaker c.push_wakeup.result
+    (λ is. (c.quiet_until.result, c.quiet_until.ensures.wakes, is)) c.push_wakeup.ensures.text

@@ -1,11 +1,9 @@
-use Rattle.std.proofs.Common.{ℕ, sym, subst, Option}
-use Rattle.timer_base.proofs.PlainJumps.{quiet_until_next}
-use Rattle.timer_base.specs.WakeUps.{IsQuietUntil}
-use Rattle.timer_wheels.specs.LazyWheel.{lazy_state, lazy-well_formed}
+use Rattle.timer_wheels.proofs.FilesLemmas.{quiet_to_visit}
 use Rattle.timer_wheels.proofs.lazy.LazyWheelWheel.quiet_until.Goals as goal
 
-pub returns-clause-quiet : goal.returns-clause-quiet
-returns-clause-quiet g c =
-    let w = lazy_state c.args.self.now in
-    let P : Option ℕ → Type 0 = λ o. IsQuietUntil o w.now w.pending in
-    subst P (sym c.next_deadline.ensures) (quiet_until_next w (lazy-well_formed c.args.self.now))
+pub returns : goal.returns
+returns g c =
+    let v = c.first_visit in
+    record {
+      quiet = quiet_to_visit c.args.self.now.files.files v.result v.ensures.none v.ensures.some v.ensures.later v.ensures.first;
+    }

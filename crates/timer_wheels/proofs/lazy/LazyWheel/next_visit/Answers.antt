@@ -1,7 +1,0 @@
-use Rattle.timer_wheels.proofs.FilesLemmas.{quiet_to_visit}
-use Rattle.timer_wheels.proofs.lazy.LazyWheel.next_visit.Goals as goal
-
-pub returns : goal.returns
-returns g c =
-    let v = c.first_visit in
-    quiet_to_visit c.args.self.now.files.files v.result v.ensures.none v.ensures.some v.ensures.later v.ensures.first
