@@ -1075,7 +1075,7 @@ REFUSED = [
     ('define void @f(<2 x i64> %a) {\n  ret void\n}', 1),
     ('define void @f(ptr %a) {\n  %r = load <16 x i8>, ptr %a, align 1\n  store <16 x i8> %r, ptr %a, align 1\n  ret void\n}', 3),
     ('declare i32 @llvm.ctpop.i32(i32)\ndefine i32 @f(i32 %a) {\n  %r = call i32 @llvm.ctpop.i32(i32 %a)\n  ret i32 %r\n}', 3),
-    ('define i64 @f(ptr %a) {\n  %r = call i64 (ptr, ...) @g(ptr %a)\n  ret i64 %r\n}', 2),
+    ('define i64 @f(ptr %a) {\n  %r = call i64 (ptr, ...) @g(ptr %a)\n  ret i64 %r\n}', 1),
     ('define i1 @f(i64 %a) {\n  %x = uitofp i64 %a to double\n  %r = fcmp ueq double %x, 1.000000e+00\n  ret i1 %r\n}', 3),
     ('define i64 @f(i64 %a) {\n  %r = sdiv i64 %a, 3\n  ret i64 %r\n}', 2),
     ('define i1 @f(i1 %a, i1 %b) {\n  %r = add i1 %a, %b\n  ret i1 %r\n}', 2),
