@@ -124,7 +124,7 @@ unpacks_crate() {
     needs rustdoc
     unpacks_crate
     cargo test --quiet --offline --manifest-path "$crate/Cargo.toml"
-    [ "$(grep -c '^```' "$crate/README.md")" -eq 12 ] # four programs, and two texts for cargo
+    [ "$(grep -c '^```' "$crate/README.md")" -eq 14 ] # four programs, and three texts for cargo
     [ "$(grep -cx '```rust' "$crate/README.md")" -eq 4 ]
 }
 @test "a program that depends on a packed crate builds and runs" {
