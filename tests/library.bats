@@ -24,6 +24,10 @@ setup() {
     build event_loop.c
     runs | grep -v 'bytes of input' | diff examples/c/event_loop.stdout -
 }
+@test "timers outlive the process that made them" {
+    build outlive.c
+    prints examples/c/outlive.stdout "$work"
+}
 @test "over UDP the text arrives whole, and the jobs that repeat wait at the end" {
     build reliable_udp.c
     for seed in 1 2718; do runs $seed | tail -n 2 | diff <(printf 'Timers start, stop and expire in constant time.\n0 timers left\n') -; done
