@@ -2,7 +2,7 @@
 
 The column is that of the first byte with which no good line begins: of lines that are changed at each place, where a
 byte is put in, added or taken away. What else is reported is compared with a model, of these lines and of longer ones
-(tools/facts_check).
+(tests/facts_check).
 """
 import functools
 import os

@@ -78,14 +78,14 @@ by_hand() {
 @test "a program may include it, in C and in C++" {
     needs gcc g++
     cat generated/timers.c examples/c/first.c > "$work/whole.c"
-    by_hand "gcc -O2 -DTIMERS_NO_DESK" "$work/whole.c"
-    by_hand "gcc -O2 -std=c99 -DTIMERS_STATIC" "$work/whole.c"
+    by_hand "gcc -DTIMERS_NO_DESK" "$work/whole.c"
+    by_hand "gcc -std=c99 -DTIMERS_STATIC" "$work/whole.c"
     [ -z "$(nm --extern-only --defined-only "$work/first" | grep ' timers_')" ]
-    by_hand "g++ -O2 -DTIMERS_NO_DESK" "$work/whole.c"
-    by_hand "g++ -O2 -DTIMERS_STATIC" "$work/whole.c"
+    by_hand "g++ -DTIMERS_NO_DESK" "$work/whole.c"
+    by_hand "g++ -DTIMERS_STATIC" "$work/whole.c"
 }
 @test "the C around the translation allocates as it says" {
-    build heap.c && runs
+    build heap.c -O0 && runs
     needs tcc
     tcc -DTIMERS_NO_DESK -Iinclude -o "$work/heap" tests/c/heap.c
     "$work/heap"
@@ -111,7 +111,7 @@ functions() { echo $(($(grep -hoE 'extern "C" fn timers_[a-z_]*' crates/timer_c/
 # link_time CC: with -flto the calls of the archive are inlined, and without it they are not
 link_time() {
     needs "$1"
-    run env CC="$1" CPPFLAGS=-DGIVEN CFLAGS=-flto LDFLAGS=-O1 tools/lib "$work/link_time"
+    run env CC="$1" CPPFLAGS="-DTIMERS_NO_DESK -DGIVEN" CFLAGS=-flto LDFLAGS=-O1 tools/lib "$work/link_time"
     [ "$status" -eq 0 ]
     [ "$(grep -c -e "^+ $1 .* -DGIVEN -flto .*generated/" <<< "$output")" -eq 2 ]
     "$1" -O2 -flto -Iinclude -o "$work/first" examples/c/first.c "$work/link_time/libtimers.a"
@@ -187,17 +187,6 @@ int start(void) { return (int)timers_version(); }' > "$work/apple/start.c"
     [ "$status" -ne 0 ]
     [ "$(grep -c 'error:' <<< "$output")" -eq 1 ]
     grep 'for little-endian processors' <<< "$output"
-}
-
-@test "musl-gcc builds a static program of it" {
-    needs musl-gcc
-    musl-gcc -static -O2 -Wall -Wextra -Werror -Iinclude -o "$work/first" examples/c/first.c generated/timers.c
-    prints_first "$work/first"
-}
-@test "musl-gcc builds the program" {
-    needs musl-gcc
-    CC=musl-gcc CFLAGS=-O0 LDFLAGS=-static tools/program "$work/static"
-    "$work/static" < examples/retransmission | diff examples/retransmission.stdout -
 }
 
 # cmake_app FOLDER OPTION..: the first program, by the lines on standard input
@@ -401,8 +390,9 @@ is_made_anew() {
 }
 @test "two builds, in folders of their own, have the same bytes" {
     for folder in one another/one; do
-        copy_tree "$work/twice/$folder"
-        (cd "$work/twice/$folder" && CFLAGS=-O0 tools/lib "$work/twice/$folder/out")
+        mkdir -p "$work/twice/$folder"
+        cp -R --parents generated/timers.c include tools -t "$work/twice/$folder"
+        (cd "$work/twice/$folder" && CFLAGS="-O0 -DTIMERS_NO_DESK" tools/lib "$work/twice/$folder/out")
     done
     diff -r "$work/twice/one/out" "$work/twice/another/one/out"
 }

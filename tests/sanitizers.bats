@@ -78,6 +78,13 @@ threads() {
     build reads_only.c $wrap $sanitize
     runs
 }
+# The examples with threads.
+servers() {
+    for program in desk_server desk_sockets; do
+        build $program.c $sanitize
+        prints examples/c/$program.stdout
+    done
+}
 # each COMPILER SANITIZERS PART..: the parts, in which nothing is found
 each() {
     with "$1" "$2"
@@ -88,12 +95,8 @@ each() {
 @test "gcc, addresses and undefined behaviour: examples, timers and desks" { each gcc address,undefined examples models; }
 @test "gcc, addresses and undefined behaviour: threads" { each gcc address,undefined threads; }
 @test "gcc, addresses and undefined behaviour: models, in C++" { each gcc address,undefined wrappers; }
-@test "clang, addresses and undefined behaviour: examples, timers and desks" { each clang address,undefined examples models; }
-@test "clang, addresses and undefined behaviour: threads" { each clang address,undefined threads; }
-@test "clang, addresses and undefined behaviour: models, in C++" { each clang address,undefined wrappers; }
-@test "clang, threads: examples, timers and desks" { each clang thread examples models; }
-@test "clang, threads: threads" { each clang thread threads; }
-@test "clang, threads: models, in C++" { each clang thread wrappers; }
+@test "clang, addresses and undefined behaviour: timers and desks" { each clang address,undefined models; }
+@test "clang, threads: threads, and servers that have some" { each clang thread threads servers; }
 @test "clang, memory: examples, timers, desks and threads" { each clang memory examples models threads; }
 
 # finds COMPILER SANITIZER MISTAKE TEXT: of tests/c/misuse.c, and reports it so

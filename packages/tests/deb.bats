@@ -10,6 +10,8 @@ setup_file() {
     version=$(cat tools/install/version)
     architecture=$(dpkg --print-architecture) || architecture= # then all is skipped
     export version architecture work=$BATS_FILE_TMPDIR root=$BATS_FILE_TMPDIR/root
+    # Builds with -O2 take twice as long. Without optimization nothing would be fortified, which lintian tells.
+    export DEB_CFLAGS_APPEND=-O1
 }
 
 needs_debian() { needs dpkg-buildpackage dh; }
@@ -83,18 +85,9 @@ field() { dpkg-deb -f build/deb/"$1"_*.deb "$2"; }
     for example in examples/c/*; do [ -e "$work/dev/usr/share/doc/timers/$example" ]; done
 }
 
-@test "the source package alone gives the same files" {
-    needs_debian
-    mkdir "$work/source"
-    cp build/deb/*.dsc build/deb/*.tar.* "$work/source"
-    (cd "$work/source" && dpkg-source -x --no-check ./*.dsc tree)
-    (cd "$work/source/tree" && dpkg-buildpackage --build=binary --unsigned-source --unsigned-changes --no-check-builddeps)
-    for package in build/deb/*.deb; do cmp "$package" "$work/source/$(basename "$package")"; done
-}
-
 @test "a library that does not link fails the build, and so does a function that it lacks, in a folder with a space" {
     needs_debian
-    cp -R "$work/source/tree" "$work/a tree"
+    cp -R "build/deb/timers-$version" "$work/a tree"
     cd "$work/a tree"
     debian/rules override_dh_auto_test
     for library in libtimers.a "libtimers.so.$version"; do
@@ -143,17 +136,10 @@ field() { dpkg-deb -f build/deb/"$1"_*.deb "$2"; }
 
 @test "their library is for that processor, and their program plays a script under qemu" {
     needs_cross
+    cmp build/deb/timers_*.dsc build/deb-arm64/timers_*.dsc
     for package in build/deb-arm64/*timers[1_]*.deb; do dpkg-deb -x "$package" "$work/arm64"; done
     readelf -h "$work/arm64/usr/lib/aarch64-linux-gnu/libtimers.so.$version" | grep AArch64
     qemu-aarch64-static -L /usr/aarch64-linux-gnu "$work/arm64/usr/bin/timers" < examples/one_timer | diff examples/one_timer.stdout -
-}
-
-# Their source is the one above.
-@test "lintian finds no error in them" {
-    needs_cross
-    needs lintian
-    cmp build/deb/timers_*.dsc build/deb-arm64/timers_*.dsc
-    lintian --fail-on error --allow-root build/deb-arm64/*.deb
 }
 
 inside() { timeout 120 chroot "$root" /usr/bin/env -i PATH=/usr/sbin:/usr/bin:/sbin:/bin DEBIAN_FRONTEND=noninteractive "$@"; }

@@ -1,5 +1,6 @@
-/* compare PROGRAM < SCRIPT   plays a script by the program, under several options, and by the model
+/* compare PROGRAM [few] < SCRIPT   plays a script by the program, under several options, and by the model
  *
+ * With `few` it plays each scheme and each form of output once, for a script that takes long.
  * Status 0 if all agree in the text, the fault and the status. Otherwise it says where they differ, and
  * aborts, so that a fuzzer keeps the script. Built by an instrumenting compiler, the model shows the fuzzer
  * which scripts are new. */
@@ -9,6 +10,7 @@
 #include <fcntl.h>
 #include <inttypes.h>
 #include <spawn.h>
+#include <stdbool.h>
 #include <stdio.h>
 #include <stdlib.h>
 #include <string.h>
@@ -190,10 +192,17 @@ static int is_answer(int fd, const struct text *wanted, enum form form)
 	return is;
 }
 
+/* Whether no option but a scheme is given, and that to `play`. */
+static bool is_one_of_few(const char *const *arguments)
+{
+	return !arguments[1] || (!strcmp(arguments[0], "play") && !strcmp(arguments[1], "--scheme") && !arguments[3]);
+}
+
 int main(int count, char **words)
 {
-	if (count != 2) {
-		fprintf(stderr, "compare PROGRAM < SCRIPT\n");
+	bool few = count == 3 && !strcmp(words[2], "few");
+	if (count != 2 + few) {
+		fprintf(stderr, "compare PROGRAM [few] < SCRIPT\n");
 		return 2;
 	}
 	int in = file_in_memory("in"), out = file_in_memory("out"), err = file_in_memory("err");
@@ -204,6 +213,8 @@ int main(int count, char **words)
 	size_t len;
 	char *script = whole(in, &len);
 	for (size_t i = 0; i < sizeof RUNS / sizeof *RUNS; i++) {
+		if (few && !is_one_of_few(RUNS[i].arguments))
+			continue;
 		struct answer wanted = play(script, len, RUNS[i].options, RUNS[i].form);
 		int status = run(words[1], &RUNS[i], in, out, err);
 		if (status != wanted.status)
