@@ -1,0 +1,6 @@
+mod Tests
+mod Reading
+mod Writing
+mod Crashes
+mod Moments
+mod Past

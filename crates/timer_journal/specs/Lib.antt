@@ -1,0 +1,4 @@
+pub mod Device
+pub mod Format
+pub mod Journal
+pub mod Memory
