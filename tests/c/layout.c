@@ -104,21 +104,6 @@ static void of_timers(uint32_t table, uint64_t slots)
 		SAME(most > 0, true);
 		for (size_t k = 0; k < 900; k++)
 			SAME(timers_stop(&t, many[k], NULL), TIMERS_OK);
-	} else {
-		const unsigned char *firsts = w + HierWheel_firsts;
-		SAME(firsts[Firsts_is_kept], 0);
-		SAME(timers_find_next(&t), timer.deadline);
-		SAME(firsts[Firsts_is_kept], 1);
-		SAME(AT(firsts, Firsts_firsts_length), slots);
-		SAME(AT(firsts, Firsts_counted), 0);
-		SAME(AT(OF(AT(firsts, Firsts_firsts)) + First_size * slot, First_latest_or_bound), timer.deadline);
-		/* One with an earlier deadline in the same bucket: it is counted. */
-		SAME(timers_start(&t, 4999, 0, &due[0]) | timers_start(&t, 4999, 0, &due[1]), TIMERS_OK);
-		SAME(AT(firsts, Firsts_counted), 1);
-		SAME(number(OF(AT(firsts, Firsts_firsts)) + First_size * slot, First_is_counted, 4), 1);
-		SAME(number(OF(AT(firsts, Firsts_firsts)) + First_size * slot, First_count, 4), 2);
-		SAME(AT(OF(AT(firsts, Firsts_firsts)) + First_size * slot, First_latest_or_bound), timer.deadline - 1);
-		SAME(timers_stop(&t, due[0], NULL) | timers_stop(&t, due[1], NULL), TIMERS_OK);
 	}
 	/* Two that are due: in the list behind the slots, in their order. */
 	SAME(timers_start_at(&t, 0, 1, &due[0]) | timers_start_at(&t, 0, 2, &due[1]), TIMERS_OK);

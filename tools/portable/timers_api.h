@@ -155,8 +155,6 @@ bool timers_has_due(const struct timers *t) { return tm_timers_has_due(BYTES(t))
 uint64_t timers_now(const struct timers *t) { return tm_timers_now(BYTES(t)); }
 size_t timers_len(const struct timers *t) { return (size_t)tm_timers_len(BYTES(t)); }
 uint64_t timers_wakeup(const struct timers *t) { return tm_timers_wakeup(BYTES(t)); }
-uint64_t timers_next(const struct timers *t) { return tm_timers_next(BYTES(t)); }
-uint64_t timers_find_next(struct timers *t) { return tm_timers_find_next(BYTES(t)); }
 enum timers_status timers_counts(const struct timers *t, struct timers_counters *counts)
 {
 	struct timers_counters made;
