@@ -66,13 +66,19 @@ void timers_free(struct timers *t)
 		tm_timers_free(BYTES(t));
 }
 
-enum timers_status timers_restart(struct timers *t, struct timers_handle handle, uint64_t interval, uint64_t action,
-                                  struct timers_handle *restarted)
+/* Out of line: so a restart whose handle is wanted has no memory of its own. */
+static NOINLINE enum timers_status restart_unwanted(struct timers *t, struct timers_handle handle, uint64_t interval, uint64_t action)
 {
 	struct timers_handle unwanted;
 
+	return timers_restart(t, handle, interval, action, &unwanted);
+}
+
+enum timers_status timers_restart(struct timers *t, struct timers_handle handle, uint64_t interval, uint64_t action,
+                                  struct timers_handle *restarted)
+{
 	if (RARE(restarted == NULL))
-		restarted = &unwanted;
+		return restart_unwanted(t, handle, interval, action);
 	return turned(tm_timers_restart(BYTES(t), handle.place, handle.serial, interval, action, BYTES(restarted)), restarted, 2);
 }
 
