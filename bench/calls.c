@@ -1,6 +1,6 @@
 /* The calls of timers.h in loops, whose instructions callgrind counts: bench/calls builds and runs it.
  *
- * With -DINCLUDED the library is a part of this file, so that the compiler sees both. With -DKEPT it has other calls: each
+ * With -DINCLUDED the library is a part of this file, so that the compiler sees both. With -DQUIET it has other calls: each
  * stands but once in a program, or a compiler would not inline it. WHEELS is one of enum timers_table. */
 /* SPDX-License-Identifier: MIT OR Apache-2.0 */
 #ifdef INCLUDED
@@ -21,9 +21,9 @@ enum { TIMERS = 10000 };
 static struct timers t = TIMERS_INIT;
 static struct timers_handle handles[TIMERS];
 static uint64_t ticks[TIMERS];
-static uint64_t failed, sum, one_length;
+static uint64_t failed, sum;
 
-/* Numbers of ticks with as many of one length as of another, up to two to the power of 20, or all of one length. */
+/* Numbers of ticks with as many of one length as of another, up to two to the power of 20. */
 static void choose_ticks(void)
 {
 	static uint64_t state = 1;
@@ -31,7 +31,7 @@ static void choose_ticks(void)
 
 	for (i = 0; i < TIMERS; i++) {
 		state = state * UINT64_C(6364136223846793005) + UINT64_C(1442695040888963407);
-		ticks[i] = one_length ? one_length : 1 + (state >> 33) % (UINT64_C(2) << (state >> 20) % 20);
+		ticks[i] = 1 + (state >> 33) % (UINT64_C(2) << (state >> 20) % 20);
 	}
 }
 
@@ -46,7 +46,7 @@ static void choose_ticks(void)
 		CALLGRIND_DUMP_STATS_AT(name); \
 	} while (0)
 
-#ifndef KEPT
+#ifndef QUIET
 static void count_calls(void)
 {
 	struct timers_expired out;
@@ -60,8 +60,6 @@ static void count_calls(void)
 	COUNT("stop", failed += timers_stop(&t, handles[i], &action) != TIMERS_OK);
 	COUNT("start_at", failed += timers_start_at(&t, ticks[i], 7, &handles[i]) != TIMERS_OK);
 	COUNT("wakeup", sum += timers_wakeup(&t));
-	COUNT("find_next", sum += timers_find_next(&t));
-	COUNT("next", sum += timers_next(&t));
 	COUNT("take", failed += !timers_take(&t, TIMERS_LAST, &out));
 	failed += timers_len(&t) != 0;
 }
@@ -78,33 +76,17 @@ static void count_ticks(void)
 }
 #endif
 
-#ifdef KEPT
-/* Ticks at which nothing expires, one a call, and the same calls once first deadlines are kept: of each bucket, after a walk
- * and a clear. With timers of one length each bucket stays in order. */
-static void count_kept(void)
+#ifdef QUIET
+/* The same, by calls that pass the ticks up to one, which is the next. */
+static void count_quiet(void)
 {
-	const uint64_t now = 2 * TIMERS + 1;
 	struct timers_expired out;
-	uint64_t action;
 	int i;
 
 	for (i = 0; i < TIMERS; i++)
 		failed += timers_start_at(&t, (UINT64_C(1) << 22) + (uint64_t)i, 7, &handles[i]) != TIMERS_OK;
 	COUNT("advance_to", failed += timers_advance_to(&t, 1 + (uint64_t)i) != TIMERS_OK);
 	COUNT("take_none", failed += timers_take(&t, 1 + TIMERS + (uint64_t)i, &out));
-	sum += timers_find_next(&t);
-	timers_clear(&t);
-	one_length = 60000;
-	COUNT("order_start", failed += timers_start(&t, ticks[i], 7, &handles[i]) != TIMERS_OK);
-	COUNT("order_restart", failed += timers_restart(&t, handles[i], ticks[i], 8, &handles[i]) != TIMERS_OK);
-	COUNT("order_set_at", failed += timers_set_at(&t, &handles[i], now + ticks[i], 9) != TIMERS_OK);
-	COUNT("order_find_next", sum += timers_find_next(&t));
-	COUNT("order_stop", failed += timers_stop(&t, handles[i], &action) != TIMERS_OK);
-	one_length = 0;
-	COUNT("kept_start", failed += timers_start(&t, ticks[i], 7, &handles[i]) != TIMERS_OK);
-	COUNT("kept_restart", failed += timers_restart(&t, handles[i], ticks[i], 8, &handles[i]) != TIMERS_OK);
-	COUNT("kept_set_at", failed += timers_set_at(&t, &handles[i], now + ticks[i], 9) != TIMERS_OK);
-	COUNT("kept_stop", failed += timers_stop(&t, handles[i], &action) != TIMERS_OK);
 }
 #endif
 
@@ -112,8 +94,8 @@ int main(void)
 {
 	if (timers_new(&t, WHEELS, 0) != TIMERS_OK || timers_reserve(&t, TIMERS) != TIMERS_OK)
 		return 1;
-#ifdef KEPT
-	count_kept();
+#ifdef QUIET
+	count_quiet();
 #else
 	count_calls();
 	count_ticks();

@@ -2,7 +2,7 @@
 // most.
 //   start(i, interval); stop(i); restart(i, interval); tick(); drain(): how many have expired; pass(k): k
 //   ticks, with all that expires, and how many these are
-// Those with HAS_NEXT also have look(i): when it expires, and next(): the next deadline. Those with HAS_ALL also have
+// Those with HAS_LOOK also have look(i): when it expires. Those with HAS_ALL also have
 // start_at(i, interval), by the tick of its deadline; wakeup(): a tick to sleep until; each(): the sum of all
 // deadlines; reserve(most), which makes room.
 #pragma once
@@ -36,7 +36,7 @@ namespace {
 #ifdef WITH_TIMERS_C
 // The product, through its library for C.
 struct LibTimers {
-  static constexpr bool HAS_NEXT = true, HAS_ALL = true;
+  static constexpr bool HAS_LOOK = true, HAS_ALL = true;
   struct timers held = TIMERS_INIT;
   std::vector<timers_handle> handles;
   explicit LibTimers(size_t owners, uint32_t table = TIMERS_WIDE) : handles(owners) {
@@ -82,7 +82,6 @@ struct LibTimers {
     if (timers_look(&held, handles[i], &one)) give_up("timers_look");
     return one.deadline;
   }
-  uint64_t next() { return timers_next(&held); }
   uint64_t wakeup() { return timers_wakeup(&held); }
   uint64_t each() {
     uint64_t sum = 0, cursor = 0;
@@ -100,7 +99,7 @@ struct SmoothTimers : LibTimers {
 
 // A wheel of this folder, or of its part in Rust.
 template <class W> struct Reference {
-  static constexpr bool HAS_NEXT = false, HAS_ALL = false;
+  static constexpr bool HAS_LOOK = false, HAS_ALL = false;
   W wheel;
   uint64_t serial = 0;
   std::vector<Handle> handles;
@@ -173,7 +172,7 @@ struct Tokio {
 // An object has its index in the heap and a cache line, as it would with what else it holds. The array has its room
 // from the beginning.
 struct ArrayHeap {
-  static constexpr bool HAS_NEXT = false, HAS_ALL = false;
+  static constexpr bool HAS_LOOK = false, HAS_ALL = false;
   struct alignas(64) Object { array_heap::node node; };
   std::vector<Object> objects;
   uint64_t now = 0;
@@ -199,7 +198,7 @@ extern "C" int uv__next_timeout(const uv_loop_t *loop);
 
 // libuv's timers, with its loop's clock set by hand.
 struct Libuv {
-  static constexpr bool HAS_NEXT = true, HAS_ALL = false;
+  static constexpr bool HAS_LOOK = true, HAS_ALL = false;
   uv_loop_t loop;
   std::vector<uv_timer_t> timers;
   static inline size_t fired = 0;

@@ -1,6 +1,6 @@
 // What a turn of an event loop takes that asks for its next deadline, by processor time.
 //   next FACILITY PENDING TURN
-// FACILITY is what is asked: timers_next, timers_find_next or timers_wakeup of the library for C, or libuv's heap.
+// FACILITY is what is asked: timers_wakeup of the library for C, or libuv's heap.
 // A tick is a millisecond. TURN is what happens between two questions, with PENDING timers:
 //   same      a random one of timers with one deadline is pushed back to the same
 //   minute    a random one of timers 60 to 61 s away is pushed back to 61 s
@@ -28,12 +28,11 @@ static double now_ns() {
 // Deadlines are ticks. A facility begins at tick 0 with room for its owners.
 #ifdef WITH_TIMERS_C
 struct Asked : LibTimers {
-  uint64_t (*question)(struct timers *);
-  Asked(size_t owners, uint64_t (*asked)(struct timers *)) : LibTimers(owners), question(asked) {}
+  explicit Asked(size_t owners) : LibTimers(owners) {}
   void set(size_t i, uint64_t deadline) {
     if (timers_set_at(&held, &handles[i], deadline, i)) give_up("timers_set_at");
   }
-  uint64_t ask() { return question(&held); }
+  uint64_t ask() { return wakeup(); }
   // Passes the ticks up to this one, and adds the owners whose timers have expired.
   void pass_to(uint64_t tick, std::vector<uint32_t> &expired) {
     timers_expired one;
@@ -115,7 +114,11 @@ template <class F> struct Loop {
       order.push_back((uint32_t)i);
     }
   }
-  void ask() { sum += facility.ask(); }
+  void ask() {
+    const uint64_t tick = facility.ask();
+    if (tick <= now) give_up("next: an answer that has passed");
+    sum += tick;
+  }
   void pass_to(uint64_t tick) {
     expired.clear();
     facility.pass_to(tick, expired);
@@ -205,13 +208,9 @@ int main(int argc, char **argv) {
   const size_t pending = strtoull(argv[2], nullptr, 10);
   if (!pending) return 2;
 #ifdef WITH_TIMERS_C
-  uint64_t (*question)(struct timers *) = nullptr;
-  if (name == "timers_next") question = [](struct timers *t) { return timers_next(t); };
-  if (name == "timers_find_next") question = timers_find_next;
-  if (name == "timers_wakeup") question = [](struct timers *t) { return timers_wakeup(t); };
-  if (question) {
-    Asked asked(pending + 1, question);
-    return report(asked, argv[3], pending, name != "timers_wakeup");
+  if (name == "timers_wakeup") {
+    Asked asked(pending + 1);
+    return report(asked, argv[3], pending, false);
   }
 #endif
 #ifdef WITH_LIBUV

@@ -19,7 +19,7 @@
 #define HAS_NEXT 1
 #endif
 
-#if defined(SET_AT) || defined(FIND_NEXT)        /* timers.h; next is timers_wakeup or timers_find_next */
+#if defined(SET_AT)                              /* timers.h; next is timers_wakeup */
 #include <timers.h>
 struct node { struct timers_handle handle; };
 static struct timers timers = TIMERS_INIT;
@@ -31,11 +31,7 @@ CALL struct node *take(uint64_t now)
 	struct timers_expired e;
 	return timers_take(&timers, now, &e) ? (struct node *)(uintptr_t)e.action : NULL;
 }
-#ifdef FIND_NEXT
-CALL uint64_t next(void) { return timers_find_next(&timers); }
-#else
 CALL uint64_t next(void) { return timers_wakeup(&timers); }
-#endif
 
 #elif defined(LOOP_CANCEL) || defined(LOOP_PAUSE)        /* timers_loop.h; a stop cancels or pauses */
 #include <timers_loop.h>

@@ -19,7 +19,6 @@ from figures import HERE, fail, spread
 PEERS = {
     "SET_AT": "timers_set_at, timers_wakeup",
     "SET_AT_LTO": "the same, LTO",
-    "FIND_NEXT": "timers_set_at, timers_find_next",
     "LOOP_CANCEL": "timers_loop.h, cancels",
     "LOOP_PAUSE": "timers_loop.h, pauses",
     "LOOP_PAUSE_LTO": "the same, pauses, LTO",
@@ -36,7 +35,7 @@ PEERS = {
     "LIBEVENT_COMMON": "libevent, common time-out",
 }
 # Those of one tick come in the order in which they were set. In `resend` events that were pushed back do not.
-ORDERED = ["SET_AT", "SET_AT_LTO", "FIND_NEXT", "HEAP_ORDERED", "WHEEL", "TREE", "LIBUV"]
+ORDERED = ["SET_AT", "SET_AT_LTO", "HEAP_ORDERED", "WHEEL", "TREE", "LIBUV"]
 # Those far away come out late. So there are fewer.
 LATE = ["NO_CASCADES"]
 # Ticks by the number of timers, and sets a tick.

@@ -19,9 +19,9 @@ from figures import fail, spread
 
 WHEELS = "timers-c,ref-hier,ref-apart,ref-hash-64k,libuv"
 TAIL = "timers-c,timers-c-smooth,array-heap,ref-hash-64k,ref-hier,libuv,tokio-wheel"
-FACILITIES = {"scale": WHEELS, "tail": TAIL, "next": "timers_find_next,timers_next,timers_wakeup,libuv"}
+FACILITIES = {"scale": WHEELS, "tail": TAIL, "next": "timers_wakeup,libuv"}
 SIZES = {"scale": "1000,10000,100000,1000000,10000000", "tail": "100000,1000000", "next": "10000,100000,1000000"}
-OPERATIONS = ["stop", "start", "restart", "tick", "expiry", "start_at", "look", "next", "wakeup", "each"]
+OPERATIONS = ["stop", "start", "restart", "tick", "expiry", "start_at", "look", "wakeup", "each"]
 TURNS = ["same", "minute", "minutes", "kept", "expiry", "short", "first", "oldest"]
 RANKS = ["p50", "p99.9", "p99.99", "longest"]
 # The loads of tail. Of some a number of ticks is timed, of `moves` all ticks, and of the others starts.

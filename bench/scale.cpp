@@ -53,12 +53,9 @@ struct Scale {
   template <class F> void looks(F &facility, const std::vector<std::pair<uint32_t, uint64_t>> &touches) {
     const uint64_t first = *std::min_element(deadlines.begin(), deadlines.end());
     uint64_t wanted = 0;
-    if constexpr (F::HAS_NEXT) {
+    if constexpr (F::HAS_LOOK) {
       for (auto &[owner, interval] : touches) wanted += deadlines[owner];
       see(reads("look", touches.size(), touches.size(), [&](size_t i) { return facility.look(touches[i].first); }) == wanted, "look");
-      // The library may walk one bucket, here one with all timers.
-      const size_t calls = pending < 100000 ? 1000 : 20;
-      see(reads("next", calls, calls, [&](size_t) { return facility.next(); }) == calls * first, "next");
     }
     if constexpr (F::HAS_ALL) {
       const uint64_t sum = reads("wakeup", operations, operations, [&](size_t) { return facility.wakeup(); });

@@ -12,8 +12,7 @@
  *     timers_take - take the next timer that is due by a tick, and pass the ticks up to it
  *     timers_clear - drop all timers
  *     timers_look, timers_each - read one timer, iterate over all of them
- *     timers_now, timers_len, timers_has_due, timers_wakeup, timers_next - read the state
- *     timers_find_next - read the next deadline, and keep it for later calls
+ *     timers_now, timers_len, timers_has_due, timers_wakeup - read the state
  *     timers_counts - read what the wheels have done so far
  *     timers_message, timers_version - return the text of a status, and the version of the library
  *     timers_set_allocator - take memory from functions other than malloc, realloc and free
@@ -83,7 +82,6 @@
  *         wakeup, has_due, now    constant
  *         counts, message         constant
  *         version, set_allocator  constant
- *         next, find_next         constant, or each timer of one bucket
  *         len                     each expired timer that waits
  *         each                    each place up to the next timer
  *         reserve                 the most timers that were held at once
@@ -91,16 +89,6 @@
  *
  *     A move takes a timer to a lower wheel. A tick moves the timers of its bucket, unless they expire. The costs of
  *     TIMERS_SMOOTH are below, under WHICH TABLE.
- *
- *     From the first timers_find_next that walks a bucket on, the first deadline of each bucket above the lowest
- *     wheel is kept. That call takes time for the buckets, too. A start, a restart, a stop and a move update a first
- *     deadline in constant time. A bucket that has timers by then is walked once before its first deadline is known,
- *     unless it becomes empty before. It stays known while the timers of the bucket were started in the order of
- *     their deadlines, as those of one length are. In any other bucket it is forgotten when the last timer that is
- *     known to have it is stopped, or restarted for a later tick, and others are left in the bucket. Then the next
- *     call walks the bucket again: both calls look at each timer of the next deadline's bucket if its first deadline
- *     is not known. timers_find_next keeps what it found, timers_next does not. So a loop that asks in each turn
- *     calls timers_find_next.
  *
  * WHICH TABLE
  *         table          is for
@@ -131,11 +119,7 @@
  *
  *     The calls of TIMERS_SMOOTH take more instructions than those of TIMERS_WIDE: with 10,000 timers a start 1.4 times
  *     as many, a restart 1.4, a stop 1.2, a take 2.2, and a tick at which nothing expires or moves 1.1 times
- *     (measured). timers_wakeup, timers_next and timers_find_next look at one wheel after another, until none
- *     above can have an earlier deadline. timers_wakeup walks no bucket, the others at most one in each wheel. None of
- *     them keeps what it found. So each call of timers_find_next walks, unless a timer waits or expires before the next
- *     multiple of a revolution. With 10,000 timers in the bucket it takes 260,000 instructions, and with TIMERS_WIDE
- *     fewer than 100 once the first deadline is kept.
+ *     (measured). timers_wakeup looks at one wheel after another, until none above can have an earlier tick.
  *
  *     If timers.c was compiled with TIMERS_NO_SMOOTH, it has no TIMERS_SMOOTH: timers_new returns TIMERS_NO_TABLE.
  *
@@ -177,7 +161,7 @@
  *         repeat                       the same, once it is taken
  *         uv_timer_get_due_in          timers_look(t, handle, &timer); timer.deadline - now, or 0
  *         uv_is_active                 timers_look(t, handle, &timer) == TIMERS_OK
- *         uv_backend_timeout           timers_find_next(t) - now, or 0; TIMERS_NEVER if none is held
+ *         uv_backend_timeout           timers_wakeup(t) - now, or 0; TIMERS_NEVER if none is held
  *         run what is due by now       while (timers_take(t, now, &timer)) run(timer.action);
  *         drop them all                timers_clear(t)
  *
@@ -328,7 +312,7 @@ enum timers_table {
 	((table) == TIMERS_SMALL ? TIMERS_SMALL_LAST : TIMERS_LAST)
 #define TIMERS_TABLES 3                             /* how many tables there are: their numbers are less than this */
 /* by hand */
-#define TIMERS_NEVER UINT64_MAX                     /* of timers_wakeup, timers_next and timers_find_next */
+#define TIMERS_NEVER UINT64_MAX                     /* of timers_wakeup */
 
 /* Private: see rule 1. */
 struct timers {
@@ -522,24 +506,6 @@ size_t timers_len(const struct timers *t);
  * again once the clock is there: if it is before the first deadline, nothing has expired. Constant time. */
 TIMERS_CALL
 uint64_t timers_wakeup(const struct timers *t);
-
-/* The deadline of the timer that is taken next, exactly. It is the present tick if an expired timer waits to
- * be taken, and TIMERS_NEVER if nothing is pending or `t` is not open. Otherwise it is the first pending
- * deadline. Takes constant time if that comes before the next multiple of a revolution (COSTS). So it does if the
- * first deadline of its bucket is kept. Otherwise it walks the timers of that bucket, and with TIMERS_SMOOTH of at
- * most one in each wheel. Does not allocate. A loop that asks in each turn calls timers_find_next. */
-TIMERS_CALL
-uint64_t timers_next(const struct timers *t);
-
-/* Returns what timers_next returns, and keeps it so that later calls are faster. No result of a call changes. It
- * walks the timers of one bucket if timers_next would. Then both take constant time, until one of two things
- * happens. The last timer with that deadline is stopped, or restarted for a later tick, and others are left in its
- * bucket. Or the next deadline is in a bucket whose first deadline is not known (COSTS). With timers of one length
- * it stays known. With several lengths, a loop that pushes back the first timer in each turn may walk in each turn.
- * With TIMERS_SMOOTH nothing is kept, and each call takes the time of timers_next. A loop can sleep until
- * timers_wakeup, which never walks. Does not allocate. */
-TIMERS_CALL
-uint64_t timers_find_next(struct timers *t);
 
 /* Writes `*counts`, what the wheels have done since timers_new, at TIMERS_OK. `starts` counts each start and
  * restart that returned TIMERS_OK. `moves` is at most as many times `starts` as there are wheels above the lowest: 9

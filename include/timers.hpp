@@ -344,11 +344,8 @@ public:
 	/* How many timers are pending. Expired ones, which wait to be taken, are not counted. */
 	std::size_t size() const noexcept { return timers_len(&raw_); }
 
-	/* A time until which the caller may sleep; the exact first deadline; the same, kept for a loop that asks in each turn.
-	 * Nothing if no timer is held. */
+	/* A time until which the caller may sleep: it may be before the first deadline. Nothing if no timer is held. */
 	std::optional<time_point> wakeup() const noexcept { return unless_never(timers_wakeup(&raw_)); }
-	std::optional<time_point> next() const noexcept { return unless_never(timers_next(&raw_)); }
-	std::optional<time_point> find_next() noexcept { return unless_never(timers_find_next(&raw_)); }
 
 	/* timers_counts: the starts, moves and visits since the timers were made. Throws error: TIMERS_NOT_OPEN. */
 	timers_counters counts() const

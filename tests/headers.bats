@@ -49,7 +49,7 @@ declared() {
 }
 @test "only they can be linked with in the archive, and a shared object that embeds it exports none of them" {
     diff <(declared) <(nm -g --defined-only "$lib/libtimers.a" | sed -n 's/^[0-9a-f]* . //p' | sort)
-    printf '#include <timers.h>\nuint64_t plug_in(struct timers *t);\nuint64_t plug_in(struct timers *t) { return timers_next(t); }\n' > "$work/plug_in.c"
+    printf '#include <timers.h>\nuint64_t plug_in(struct timers *t);\nuint64_t plug_in(struct timers *t) { return timers_wakeup(t); }\n' > "$work/plug_in.c"
     "$CC" $of_c -fPIC -shared -o "$work/plug_in.so" "$work/plug_in.c" "$lib/libtimers.a"
     diff <(echo plug_in) <(nm -D --defined-only "$work/plug_in.so" | sed 's/.* //')
 }
@@ -60,7 +60,7 @@ declared() {
     CFLAGS="-O0 -DTIMERS_SHARED" tools/lib "$work/visible"
     cat > "$work/inlined.h" << 'EOT'
 #include <timers.h>
-static inline uint64_t first_deadline(struct timers *t) { return timers_next(t); }
+static inline uint64_t first_deadline(struct timers *t) { return timers_wakeup(t); }
 uint64_t plug_in(struct timers *t);
 EOT
     printf '#include "inlined.h"\nuint64_t plug_in(struct timers *t) { return first_deadline(t); }\n' > "$work/plugged.c"
@@ -104,7 +104,7 @@ int main(void)
     timers_free(&t);
     timers_desk_free(&desk);
     ended = ended || timers_desk_message(TIMERS_DESK_OK)[0] != 'd';
-    return timers_message(status)[0] == 'd' || timers_next(&t) == TIMERS_NEVER || ended;
+    return timers_message(status)[0] == 'd' || timers_wakeup(&t) == TIMERS_NEVER || ended;
 }
 EOT
 )

@@ -128,7 +128,6 @@ serves() {
 @test "that malloc was called is noticed" { build allocator.c -DFORGETS $wrap && notices resizes; }
 @test "calls with a const pointer write nothing" { build reads_only.c $wrap && runs; }
 @test "a call that writes is noticed" { build reads_only.c -DWRITES $wrap && notices; }
-@test "a call that keeps what it found is noticed" { build reads_only.c -DKEEPS $wrap && notices; }
 @test "timers take the memory that the header says" { build memory.c $wrap && runs; }
 @test "callers of the library are found from inside it" { build backtrace.c $wraps && runs; }
 

@@ -32,7 +32,7 @@ refuses() {
 }
 
 @test "each benchmark refuses a facility that skips work" {
-    local calls='start|stop|restart|tick|advance|expire' facility='start|stop|restart|tick|drain|pass' reads='start_at|look|next|wakeup|each'
+    local calls='start|stop|restart|tick|advance|expire' facility='start|stop|restart|tick|drain|pass' reads='start_at|look|wakeup|each'
     local wheel='timers_start|timers_tick|timers_expire_batch' line='timers_line_start|timers_line_receive'
     local desk="$line|timers_desk_serve_all|timers_desk_tick|timers_desk_flush_all"
     needs g++ make python3
@@ -64,7 +64,7 @@ refuses() {
     refuses 'tick|drain' build/tail timers-c 1000 moves
     refuses pass build/tail timers-c 1000 growth
     refuses stop build/tail timers-c 1000 room
-    refuses 'set|ask|pass_to' build/next timers_find_next 100 short
+    refuses 'set|ask|pass_to' build/next timers_wakeup 100 short
     refuses 'send|serve|flush|tick|read' build/desk_calls desk 8 200
     refuses 'send|serve|flush|read' build/desk_calls flush-desk 8 10
     within=1 refuses "$desk" build/desk_threads desk 2 200 8 64

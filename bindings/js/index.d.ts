@@ -93,8 +93,6 @@ export class Timers<T = unknown> {
   readonly length: number;
   /** A tick before which nothing expires, in constant time. Infinity if no timer is held. */
   wakeup(): number;
-  /** The next deadline, or `now` if an expired timer waits. Infinity if no timer is held. */
-  next(): number;
   /** Makes room for so many timers: starts then don't run out of memory. */
   reserve(most: number): void;
   /** Drops all timers and their values. */

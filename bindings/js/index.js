@@ -199,11 +199,6 @@ export class Timers {
   wakeup() {
     return tick_of(c.timers_wakeup(this.#at));
   }
-  /** The next deadline, or `now` if an expired timer waits. Infinity if no timer is held.
-   * @type {() => number} */
-  next() {
-    return tick_of(c.timers_find_next(this.#at));
-  }
 
   /** Makes room for so many timers: starts then don't run out of memory.
    * @type {(most: number) => void} */

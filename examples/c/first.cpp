@@ -16,7 +16,7 @@ int main()
 	timers.start(2400ms, [] { std::cout << "egg\n"; });
 	const timing::handle call = timers.start(9s, [] { std::cout << "call\n"; });
 	timers.stop(call);
-	while (const auto next = timers.find_next()) {                         /* a server sleeps until then */
+	while (const auto next = timers.wakeup()) {                            /* a server sleeps until then */
 		timers.catch_up(*next, [](const auto &timer) {
 			std::cout << timer.deadline.time_since_epoch().count() << ": ";
 			timer.action();

@@ -3,7 +3,7 @@
  *     cc job_scheduler.c $(pkg-config --cflags --libs timers) && ./a.out
  *
  * A tick is a second. The clock here is a number that jumps from one job to the next, so that eight days
- * pass at once. A daemon would sleep until then. TIMERS_SMALL has 194 days of seconds. When they are over, the
+ * pass at once. A daemon would sleep until then, and may wake up some ticks for nothing. TIMERS_SMALL has 194 days of seconds. When they are over, the
  * timers are freed and made again at tick 0, and the jobs that are left are started anew. */
 #include <inttypes.h>
 #include <stdio.h>
@@ -106,7 +106,7 @@ int main(void)
 		start(job);
 	}
 	while (first_second + timers_now(&timers) < end) {
-		uint64_t tick = least(timers_find_next(&timers), least(end - first_second, (uint64_t)DAYS_OF_CLOCK * DAY));
+		uint64_t tick = least(timers_wakeup(&timers), least(end - first_second, (uint64_t)DAYS_OF_CLOCK * DAY));
 		catch_up(tick);                   /* a daemon sleeps until then first */
 		if (tick == (uint64_t)DAYS_OF_CLOCK * DAY)
 			begin_anew();

@@ -3,11 +3,13 @@
  *     trace SEED STEPS
  *
  * The clock and epoll_wait are replaced by functions of this file, so that a seed always gives the same trace with the
- * same timers. Two builds of libuv agree if their traces do: which callbacks run, in which order and at which time, how
- * long each poll waits, and what each call returns. The clock moves within callbacks, too. Each call that wants memory for
- * these timers is refused once: it has to return UV_ENOMEM and leave the timer as it was. */
+ * same timers. Two builds of libuv agree if their traces do: which callbacks run, in which order and at which time, when
+ * each poll ends, and what each call returns. A poll of these timers may call epoll_wait more often. The clock moves within
+ * callbacks, too. Each call that wants memory for these timers is refused once: it has to return UV_ENOMEM and leave the
+ * timer as it was. */
 #include <errno.h>
 #include <inttypes.h>
+#include <stdbool.h>
 #include <stdio.h>
 #include <stdlib.h>
 #include <string.h>
@@ -19,11 +21,17 @@
 #include "../memory.h"
 #include "../random.h"
 
-enum { TIMERS = 120, POLLS_A_RUN = 40, CALLS_A_RUN = 400 };
+enum { TIMERS = 120, POLLS_A_RUN = 40, CALLS_A_RUN = 400, LONGEST_POLL = 2147483646, MS = 1000000 };
 
 static uv_loop_t loop;
 static uv_timer_t timers[TIMERS];
+static uv_prepare_t before_poll;
+static uv_check_t after_poll;
+static uv_async_t input;
 static uint64_t clock_ns;
+/* What comes during a poll: input, before libuv's longest poll is over, and maybe an early end, late by some time. */
+static uint64_t input_at, end_at, late_by;
+static bool ends_early, by_a_signal;
 static int polls_left, calls_left;
 
 static void pass_ms(uint64_t ms) { clock_ns += ms * 1000000 + below(1000000); }
@@ -36,27 +44,66 @@ int clock_gettime(clockid_t id, struct timespec *now)
 	return 0;
 }
 
-/* Mostly waits as long as it may. Sometimes it is late, early, or interrupted, as the real one. */
-int epoll_wait(int fd, struct epoll_event *events, int most, int timeout)
+/* libuv waits too long by what the callbacks before a poll took, and these timers maybe by a part of it. So the time is read. */
+static void on_prepare(uv_prepare_t *unused)
 {
-	(void)fd, (void)events, (void)most;
-	printf("  poll %d\n", timeout);
-	if (timeout < 0)
-		abort();
+	const uint64_t how = below(10);
+	(void)unused;
+	uv_update_time(&loop);
 	if (--polls_left <= 0)
 		uv_stop(&loop);
-	uint64_t how = below(10), wait = (uint64_t)timeout;
-	if (how == 0)
-		pass_ms(wait + below(300));
-	else if (how == 1)
-		pass_ms(wait / 2);
-	else
-		clock_ns += wait * 1000000;
-	if (how == 2 && timeout > 0) {
+	input_at = clock_ns + (below(4) ? LONGEST_POLL : below(5000)) * UINT64_C(1000000);
+	ends_early = how < 3;
+	by_a_signal = how == 2;
+	end_at = clock_ns + below(100 * MS);
+	late_by = how == 0 ? below(300 * MS) : 0;
+}
+
+static void on_check(uv_check_t *unused)
+{
+	(void)unused;
+	printf("  polled until %" PRIu64 "\n", uv_now(&loop));
+}
+
+static void on_input(uv_async_t *unused)
+{
+	(void)unused;
+	printf("  input\n");
+}
+
+int epoll_wait(int fd, struct epoll_event *events, int most, int timeout)
+{
+	const uint64_t end = clock_ns + (uint64_t)timeout * MS;
+	(void)fd, (void)most;
+	if (timeout < 0)
+		abort();
+	if (ends_early && end_at < end) {
+		ends_early = false;
+		clock_ns = end_at + late_by;
 		errno = EINTR;
-		return -1;
+		return by_a_signal ? -1 : 0;
 	}
-	return 0;
+	if (input_at > end) {
+		clock_ns = end;
+		return 0;
+	}
+	clock_ns = input_at > clock_ns ? input_at : clock_ns;
+	uv_async_send(&input);
+	events[0].events = EPOLLIN;
+	events[0].data.fd = loop.async_io_watcher.fd;
+	return 1;
+}
+
+static void init_around_polls(void)
+{
+	uv_prepare_init(&loop, &before_poll);
+	uv_check_init(&loop, &after_poll);
+	uv_async_init(&loop, &input, on_input);
+	uv_prepare_start(&before_poll, on_prepare);
+	uv_check_start(&after_poll, on_check);
+	uv_unref((uv_handle_t *)&before_poll);
+	uv_unref((uv_handle_t *)&after_poll);
+	uv_unref((uv_handle_t *)&input);
 }
 
 /* Of each length that a wheel treats in its own way, and some that no clock reaches. */
@@ -156,6 +203,13 @@ static void again(size_t k)
 	print_timer("again", k, result);
 }
 
+/* For how long a poll may wait: not at all, for ever, or some time, of which these timers may ask for a part. */
+static void print_backend(void)
+{
+	const int timeout = uv_backend_timeout(&loop);
+	printf("backend %s\n", timeout < 0 ? "for ever" : timeout == 0 ? "now" : "later");
+}
+
 static void step(void)
 {
 	size_t k = below(TIMERS);
@@ -171,7 +225,7 @@ static void step(void)
 	case 9: uv_update_time(&loop); printf("now %" PRIu64 "\n", uv_now(&loop)); break;
 	case 10: pass_ms(below(100)); break;
 	case 11: pass_ms(below(10) ? 0 : below(10000000)); break;
-	case 12: printf("backend %d\n", uv_backend_timeout(&loop)); break;
+	case 12: print_backend(); break;
 	case 13: uv_walk(&loop, count_active, &active); printf("walk %d\n", active); break;
 	case 14:
 		if (!uv_is_closing((uv_handle_t *)t)) {
@@ -224,6 +278,7 @@ int main(int argc, char **argv)
 		return 1;
 	for (size_t k = 0; k < TIMERS; k++)
 		init(k);
+	init_around_polls();
 	for (int left = atoi(argv[2]); left > 0; left--) {
 		some_steps(30);
 		run();

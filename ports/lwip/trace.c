@@ -3,8 +3,8 @@
  *     trace SEED STEPS
  *
  * sys_now() is a number here, of 32 bits as lwIP's. Half of the programs start shortly before it wraps. Two builds
- * agree if their traces do: which handlers run, in which order and when, and each answer of sys_timeouts_sleeptime(). Once
- * the timeouts are made, these timers get no more memory. */
+ * agree if their traces do: which handlers run, in which order and when, and whether sys_timeouts_sleeptime() has an end.
+ * These timers may ask for several sleeps up to a timeout. Once the timeouts are made, they get no more memory. */
 #include <inttypes.h>
 #include <stdio.h>
 #include <stdlib.h>
@@ -18,7 +18,7 @@
 enum { ARGUMENTS = 20, MOST_HELD = 100, CYCLES = 4 };
 
 static u32_t clock_ms;
-static int held[2][ARGUMENTS], held_in_all, calls_left;
+static int held[2][ARGUMENTS], held_in_all, calls_left, runs;
 
 u32_t sys_now(void) { return clock_ms; }
 int lose_packet(struct pbuf *p) { (void)p; return 0; }
@@ -29,6 +29,7 @@ static void run(int kind, size_t k)
 {
 	held[kind][k]--;
 	held_in_all--;
+	runs++;
 	printf("%" PRIu32 ": ran %d %zu\n", clock_ms, kind, k);
 	if (below(10) == 0)
 		clock_ms += below(4);
@@ -45,6 +46,7 @@ static sys_timeout_handler handlers[] = { one_handler, other_handler };
 /* Timers that run again and again, some of them for so long that they come late. */
 static void cycle(int k)
 {
+	runs++;
 	printf("%" PRIu32 ": cycle %d\n", clock_ms, k);
 	if (below(20) == 0)
 		clock_ms += below(400);
@@ -100,6 +102,11 @@ static void toggle_cycle(size_t k)
 	is_cycling[k] = !is_cycling[k];
 }
 
+static void print_sleep(void)
+{
+	printf("%" PRIu32 ": sleep%s\n", clock_ms, sys_timeouts_sleeptime() == SYS_TIMEOUTS_SLEEPTIME_INFINITE ? " for ever" : "");
+}
+
 static void step(void)
 {
 	int kind = (int)below(2);
@@ -108,7 +115,7 @@ static void step(void)
 	default: start(kind, k); break;
 	case 5: case 6: case 7: stop(kind, k); break;
 	case 8: clock_ms += below(20); break;
-	case 9: printf("%" PRIu32 ": sleep %" PRIu32 "\n", clock_ms, sys_timeouts_sleeptime()); break;
+	case 9: print_sleep(); break;
 	}
 }
 
@@ -119,19 +126,34 @@ static void some_steps(u32_t most)
 		step();
 }
 
+static void run_due(void)
+{
+	calls_left = 300;
+	sys_check_timeouts();
+	calls_left = 0;
+}
+
+/* Sleeps, again and again, until a timeout has run. */
+static void sleep_and_run(void)
+{
+	const int before = runs;
+	u32_t sleep;
+	while (runs == before && (sleep = sys_timeouts_sleeptime()) != SYS_TIMEOUTS_SLEEPTIME_INFINITE) {
+		clock_ms += sleep;
+		run_due();
+	}
+}
+
 static void check(void)
 {
-	u32_t sleep = sys_timeouts_sleeptime();
 	switch (below(6)) {
 	case 0: clock_ms += below(100000); break;
 	case 1: clock_ms += below(300); break;
 	case 2: clock_ms += below(10) == 0 ? below(LWIP_UINT32_MAX / 8) : 1; break;
-	default: clock_ms += sleep < LWIP_UINT32_MAX / 4 ? sleep : 0; break;
+	default: sleep_and_run(); break;
 	}
-	calls_left = 300;
-	sys_check_timeouts();
-	calls_left = 0;
-	printf("%" PRIu32 ": sleep %" PRIu32 "\n", clock_ms, sys_timeouts_sleeptime());
+	run_due();
+	print_sleep();
 }
 
 /* Each timeout that is held has taken one from lwIP's pool. */

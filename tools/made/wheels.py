@@ -40,7 +40,7 @@ def with_names(name, fact):
     of = next(other for other, table in ALL_TABLES.items() if table["radices"] == radices and "revolutions" not in table)
     return fact | {
         "NAME": name, "Name": name.capitalize(), "name": name.lower(), "Is": capital(said), "said": said, "of": of.capitalize(),
-        "wheel": "SmoothWheel" if is_smooth else "HierWheel", "layout": "smooth_layout" if is_smooth else "layout_of_table",
+        "wheel": "SmoothWheel" if is_smooth else "LazyWheel", "layout": "smooth_layout" if is_smooth else "layout_of_table",
         "list": " ∷ ".join(map(str, [*radices, "[]"])), "least": radices[0], "wheels": len(radices), "moves": len(radices) - 1,
         "slots": sum(radices), "turned": 128 * (len(radices) - 1) + 2 * radices[-1],
         "ticks": ticks(radices), "ending": LIMITS[fact["last"]], **bound(radices), **code_of(name.lower(), fact),
@@ -151,7 +151,6 @@ LISTS = {
     "calls of tables": lambda: tabled("            Table::{Name} => crate::table::{path}::$function{digits}($($argument),*),"),
     "last ticks of tables": lambda: tabled("        Table::{Name} => {last},"),
     "constant tables": lambda: tabled("            Table::{Name} => $function(Table::{Name}, $($argument),*),"),
-    "ticks of tables": lambda: tabled("                Table::{Name} => wheel.tick_by(Table::{Name}),"),
     "numbers of tiers": lambda: tabled("/// The number of `Tiers::{Name}`.\npub const {NAME}: u32 = {number};\n", OF_TIERS),
     "tiers": lambda: tabled("    /// A `{wheel}` of `Table::{of}`: {said}.\n    {Name},", OF_TIERS),
     "tiers with numbers": lambda: tabled("            {NAME} => Some(Tiers::{Name}),", OF_TIERS),

@@ -66,13 +66,19 @@ void timers_free(struct timers *t)
 		tm_timers_free(BYTES(t));
 }
 
-enum timers_status timers_restart(struct timers *t, struct timers_handle handle, uint64_t interval, uint64_t action,
-                                  struct timers_handle *restarted)
+/* Out of line: so a restart whose handle is wanted has no memory of its own. */
+static NOINLINE enum timers_status restart_unwanted(struct timers *t, struct timers_handle handle, uint64_t interval, uint64_t action)
 {
 	struct timers_handle unwanted;
 
+	return timers_restart(t, handle, interval, action, &unwanted);
+}
+
+enum timers_status timers_restart(struct timers *t, struct timers_handle handle, uint64_t interval, uint64_t action,
+                                  struct timers_handle *restarted)
+{
 	if (RARE(restarted == NULL))
-		restarted = &unwanted;
+		return restart_unwanted(t, handle, interval, action);
 	return turned(tm_timers_restart(BYTES(t), handle.place, handle.serial, interval, action, BYTES(restarted)), restarted, 2);
 }
 
@@ -155,8 +161,6 @@ bool timers_has_due(const struct timers *t) { return tm_timers_has_due(BYTES(t))
 uint64_t timers_now(const struct timers *t) { return tm_timers_now(BYTES(t)); }
 size_t timers_len(const struct timers *t) { return (size_t)tm_timers_len(BYTES(t)); }
 uint64_t timers_wakeup(const struct timers *t) { return tm_timers_wakeup(BYTES(t)); }
-uint64_t timers_next(const struct timers *t) { return tm_timers_next(BYTES(t)); }
-uint64_t timers_find_next(struct timers *t) { return tm_timers_find_next(BYTES(t)); }
 enum timers_status timers_counts(const struct timers *t, struct timers_counters *counts)
 {
 	struct timers_counters made;

@@ -153,7 +153,7 @@ class Fields:
         if pointer not in (ANY, NONE):
             found = chain(*pointer)
             pointer = next((one for one in found if one[1] == 0), found[-1])
-            kind = re.search('HierWheel|SmoothWheel', self.functions[name][1])
+            kind = re.search('LazyWheel|SmoothWheel', self.functions[name][1])
             if kind and pointer[0].split()[0] == 'Wheel' and variable in self.parameters[name]:
                 pointer = pointer[0].replace('Wheel', kind[0]), pointer[1]
         self.types[name][variable] = meet(self.types[name].get(variable, ANY), pointer)

@@ -20,8 +20,8 @@ PIECE = '#if !defined PIECE || PIECE == {}'     # OWN is `static`, or what a pie
 LICENCE_TAG = 'SPDX-License' + '-Identifier'   # in two parts: what reads licences doesn't take it for this file's
 LICENCE = '(MIT OR Apache-2.0) AND MIT AND BSD-3-Clause AND LicenseRef-Rattle-libraries'
 # The calls of a smooth wheel, out of line. With TIMERS_NO_SMOOTH none is made (tools/portable/headers.h).
-SMOOTH = [f'timer_wheels::tiered::{call}_smooth' for call in ('start', 'stop', 'restart', 'tick', 'quiet', 'next')] \
-    + [f'timer_wheels::smooth::SmoothWheelWheel::{call}' for call in ('reserve', 'advance', 'clear')]
+SMOOTH = [f'timer_wheels::tiered::{call}_smooth' for call in ('start', 'stop', 'restart', 'tick', 'quiet')] \
+    + [f'timer_wheels::smooth::SmoothWheelWheel::{call}' for call in ('reserve', 'advance', 'clear', 'next_deadline')]
 KINDS = {
     'timers': Kind('tm_', '', ('timer_c', 'timer_desk_c'), 'timers_(desk|line)_', SMOOTH, 1,
                    'The library: the functions of timers.h and timers_desk.h.', LICENCE,

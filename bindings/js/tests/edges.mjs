@@ -4,7 +4,7 @@ import assert from "node:assert/strict";
 import { Handle, LAST, Status, Timers, TimersError } from "libtimers";
 
 function refuses(timers, wanted, call) {
-  const state = () => [timers.now, timers.length, timers.next()];
+  const state = () => [timers.now, timers.length, timers.wakeup()];
   const before = state();
   assert.throws(call, typeof wanted === "number" ? (error) => error instanceof TimersError && error.status === wanted : wanted);
   assert.deepEqual(state(), before);
@@ -62,10 +62,9 @@ refuses(timers, Status.DUE, () => timers.advanceTo(7));
 assert.equal(timers.advanceTo(6), 6);
 assert.equal(timers.advanceTo(0), 6);
 assert.equal(timers.length, 0);
-assert.equal(timers.next(), 6);
+assert.equal(timers.wakeup(), 6);
 assert.deepEqual(timers.take(), { deadline: 6, serial: 2, value: undefined });
 assert.equal(timers.take(), undefined);
-assert.equal(timers.next(), Infinity);
 assert.equal(timers.wakeup(), Infinity);
 
 // At the last tick.

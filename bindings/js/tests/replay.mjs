@@ -58,12 +58,10 @@ const calls = {
   expire: () => taken(timers.take()),
   expire_batch: (room) => listed(Array.from({ length: room }, () => timers.take()).filter(Boolean)),
   catch_up: (tick) => listed([...timers.expired(Number(tick))]),
-  has_due: () => [Number(timers.next() === timers.now)],
+  has_due: () => [Number(timers.wakeup() === timers.now)],
   now: () => [timers.now],
   len: () => [timers.length],
   wakeup: () => known(timers.wakeup()),
-  next: () => known(timers.next()),
-  find_next: () => known(timers.next()),
 };
 
 let made = 0;

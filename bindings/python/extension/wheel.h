@@ -528,8 +528,6 @@ static PyObject *timers_object_advance(PyObject *self, PyObject *given)
 CALL(PyObject, timers_object_has_due, timers_has_due, held_by, PyBool_FromLong)
 CALL(PyObject, timers_object_now, timers_now, held_by, PyLong_FromUnsignedLongLong)
 CALL(PyObject, timers_object_wakeup, timers_wakeup, held_by, tick_or_none)
-CALL(PyObject, timers_object_next, timers_next, held_by, tick_or_none)
-CALL(PyObject, timers_object_find_next, timers_find_next, held_by, tick_or_none)
 
 static PyObject *timers_object_counts(PyObject *self, PyObject *unused)
 {
@@ -713,13 +711,6 @@ static PyMethodDef timers_methods[] = {
 	  "wakeup($self, /)\n--\n\n"
 	  "A tick until which nothing expires, at most the next deadline, or None if no timer is held. Constant time.\n\n"
 	  "For a loop that sleeps. At that tick maybe nothing has expired: then ask again." },
-	{ "next", timers_object_next, METH_NOARGS, /* -> int | None */
-	  "next($self, /)\n--\n\n"
-	  "The deadline of the timer that is taken next, exactly, or None if no timer is held.\n\n"
-	  "For a single look: it may walk the timers of a bucket, each time." },
-	{ "find_next", timers_object_find_next, METH_NOARGS, /* -> int | None */
-	  "find_next($self, /)\n--\n\n"
-	  "The same as next. What it found is kept for later calls, for a loop that asks in each turn." },
 	{ "counts", timers_object_counts, METH_NOARGS, /* -> tuple[int, int, int] */
 	  "counts($self, /)\n--\n\n"
 	  "What the wheels did since they were made, as (starts, moves, visits)." },

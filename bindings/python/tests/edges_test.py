@@ -5,7 +5,7 @@ import threading
 import time
 import weakref
 
-from timers import NOT_PENDING, SMALL, Clock, Timers, TimersError, _clock, at_least
+from timers import LAST, NOT_PENDING, SMALL, Clock, Timers, TimersError, _clock, at_least
 
 
 def raises(kind, call, *arguments, **named):
@@ -155,7 +155,7 @@ def be_true_while_a_timer_is_held():
     timers.start(1, 1)
     timers.start(2, 2)
     while timers:
-        ran.append(timers.take(timers.next())[2])
+        ran.append(timers.take(LAST)[2])
     assert ran == [1, 2] and not timers and len(timers) == 0
 
 

@@ -103,8 +103,6 @@ class Replay:
     now = lambda self: [self.timers.now()]
     len = lambda self: [self.timers.pending()]
     wakeup = lambda self: known(self.timers.wakeup())
-    next = lambda self: known(self.timers.next())
-    find_next = lambda self: known(self.timers.find_next())
     counts = lambda self: [0, *self.timers.counts()]
 
 

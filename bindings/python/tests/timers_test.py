@@ -95,7 +95,7 @@ def meet_the_edges():
             assert raises(TypeError, call, *wrong)
         assert timers.look(handle) == (2**60 - 1, 1, 2**64 - 1) and len(timers) == 1
         assert timers.stop(handle) == 2**64 - 1
-        assert not timers and len(timers) == 0 and timers.next() is timers.find_next() is timers.wakeup() is None
+        assert not timers and len(timers) == 0 and timers.wakeup() is None
     assert not timers and refused(timers.start, 1, 1) == refused(timers.set_at, handle, 1, 1) == NOT_OPEN
     assert refused(timers.advance, 0) == refused(timers.advance, 1) == refused(timers.advance_to, 1) == NOT_OPEN
     assert refused(timers.catch_up, 0, print) == refused(timers.tick) == NOT_OPEN
@@ -104,7 +104,7 @@ def meet_the_edges():
                      lambda: closed.look(handle), lambda: closed.restart(handle, 1), lambda: closed.reserve(1), closed.counts):
             assert refused(call) == NOT_OPEN
         assert list(closed) == [] and len(closed) == closed.pending() == closed.now() == 0 and handle not in closed
-        assert closed.next() is closed.find_next() is closed.wakeup() is None and not closed.has_due()
+        assert closed.wakeup() is None and not closed.has_due()
         closed.clear()
         closed.close()
 

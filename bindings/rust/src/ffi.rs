@@ -51,7 +51,5 @@ unsafe extern "C" {
     pub(crate) fn timers_now(t: *const Held) -> u64;
     pub(crate) fn timers_len(t: *const Held) -> usize;
     pub(crate) fn timers_wakeup(t: *const Held) -> u64;
-    pub(crate) fn timers_next(t: *const Held) -> u64;
-    pub(crate) fn timers_find_next(t: *mut Held) -> u64;
     pub(crate) fn timers_counts(t: *const Held, counts: *mut Counts) -> c_uint;
 }

@@ -435,14 +435,6 @@ impl<T> Timers<T> {
         Tick::known(unsafe { ffi::timers_wakeup(&self.held) })
     }
 
-    /// The deadline of the timer that is taken next, exactly; `None` if no timer is held.
-    ///
-    /// It may walk the timers of a bucket, and keeps what it found for later calls. Stops and restarts take up to half more
-    /// time from the first call on. [`wakeup`](Timers::wakeup) does neither.
-    pub fn next_deadline(&mut self) -> Option<Tick> {
-        Tick::known(unsafe { ffi::timers_find_next(&mut self.held) })
-    }
-
     /// The starts, the moves to a lower wheel and the visits of buckets since the timers were made.
     #[must_use]
     pub fn counts(&self) -> Counts {

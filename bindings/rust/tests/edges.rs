@@ -52,7 +52,7 @@ fn a_refusal_changes_nothing_and_gives_the_value_back() {
         assert_eq!(timers.set_at(&mut unchanged, Tick(u64::MAX), 6), Err(Refused { error: Error::TooLate, value: 6 }));
         assert_eq!(unchanged, dead);
     }
-    assert_eq!((timers.wakeup(), timers.next_deadline(), timers.expire()), (None, None, None));
+    assert_eq!((timers.wakeup(), timers.expire()), (None, None));
     assert!(timers.is_empty());
 }
 

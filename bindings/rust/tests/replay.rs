@@ -138,7 +138,6 @@ impl Replay {
             ("now", []) => vec![now.0],
             ("len", []) => vec![self.timers.iter().filter(|(_, timer)| timer.deadline > now).count() as u64],
             ("wakeup", []) => known(self.timers.wakeup()),
-            ("next" | "find_next", []) => known(self.timers.next_deadline()),
             ("counts", []) => vec![0, self.timers.counts().starts, self.timers.counts().moves], // a tick visits more
             ("free", []) => vec![],
             call => panic!("{call:?}"),

@@ -181,19 +181,6 @@ pub trait Wheel {
     fn next_deadline(&self) -> Option<u64>
         ensures { result ≡ next_deadline (state self.now).pending };
 
-    /// Returns the first pending deadline as `next_deadline` does, and may keep what it found, so that the next
-    /// call finds it without a walk.
-    ///
-    /// The state does not change, and no answer of another call does. It is for an owner that asks once a turn: a
-    /// wheel that keeps nothing takes for each call what `next_deadline` takes. Does not allocate.
-    fn find_next(&mut self) -> Option<u64>
-        ensures first { result ≡ next_deadline (state self.old).pending }
-        ensures same { state self.new ≡ state self.old }
-        ensures counts { counts self.new ≡ counts self.old }
-    {
-        self.next_deadline()
-    }
-
     /// Removes the first of the due timers and returns it. Does not allocate.
     fn expire(&mut self) -> Option<Timer>
         ensures first { result ≡ first_due (state self.old) }

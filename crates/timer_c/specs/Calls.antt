@@ -4,21 +4,24 @@ use Rattle.std.specs.Prelude.{◌≡◌, ◌<◌, ℕ, Bool, true, false, Option
 use Rattle.timer_base.specs.Counts.{no_counts}
 use Rattle.timer_base.specs.Layout.{NoSlots}
 use Rattle.timer_base.specs.WheelState.{empty_wheel}
-use Rattle.timer_wheels.specs.TieredWheel.{counts_at_tick, counts_at_advance}
 use Rattle.timer_wheels.specs.HierWheel as hier
 use Rattle.timer_total.specs.Refusals.{left_until}
-use Rattle.timer_total.specs.TimersState.{TimersState}
+use Rattle.timer_total.specs.TimersState.{TimersState, Counting}
 use Rattle.timer_runs.specs.Runs.{Counters, Call, IsCall, Advanced, Kept}
 use Rattle.timer_ffi_base.specs.Cells.{is_open}
 use Rattle.timer_c.specs.declared.c_timers.CTimers.{CTimers}
 use Rattle.timer_c.specs.declared.layout.Expired.{Expired}
 use Rattle.timer_c.specs.declared.status.TheConstants.{OK}
 
+-- an advance adds nothing to the counts: they are of starts
+abbrev pub counts_kept : Counting
+counts_kept old new counts = counts
+
 abbrev pub c_counters : Counters
 c_counters = record {
   start = hier.with_counted_start;
-  tick = counts_at_tick;
-  advance = counts_at_advance;
+  tick = λ _ counts. counts;
+  advance = counts_kept;
 }
 
 -- no timers after this serial

@@ -1,12 +1,11 @@
 -- What a call returns, and why one is refused: its status is that of the first reason that holds. What an accepted call
 -- does to the timers is in Calls.antt.
-use Rattle.std.specs.Prelude.{ℕ, ◌≡◌, ◌+◌, ◌<◌, ◌≤◌, ◌⊎◌, [], length, drop, Option, Some, None, false}
-use Rattle.timer_base.specs.Counts.{WheelCounts, no_counts}
+use Rattle.std.specs.Prelude.{ℕ, ◌≡◌, ◌+◌, ◌<◌, ◌≤◌, ◌⊎◌, [], length, drop, Option, Some, None, true}
+use Rattle.timer_base.specs.Counts.{no_counts}
 use Rattle.timer_base.specs.declared.limits.TheConstants.{LAST}
 use Rattle.timer_base.specs.declared.timer.Timer.{Timer}
 use Rattle.timer_base.specs.declared.timer.Handle as base
-use Rattle.timer_base.specs.Layout.{Layout}
-use Rattle.timer_base.specs.WakeUps.{IsWakeUp, next_deadline}
+use Rattle.timer_base.specs.WakeUps.{IsWakeUp}
 use Rattle.timer_base.specs.WheelState.{WheelState, empty_wheel, held_at}
 use Rattle.timer_wheels.specs.declared.tiers.Tiers.{Tiers}
 use Rattle.timer_wheels.specs.Tiers.{tiers_with_number, last_of_tiers, layout_of_tiers, AreTiersFor}
@@ -19,7 +18,6 @@ use Rattle.timer_total.specs.declared.fault.StartFault.TheVariants as start
 use Rattle.timer_total.specs.declared.fault.RestartFault.{RestartFault}
 use Rattle.timer_total.specs.declared.fault.RestartFault.TheVariants as restart
 use Rattle.timer_total.specs.TimersState.{TimersState}
-use Rattle.timer_c.specs.declared.layout.Counts.{Counts}
 use Rattle.timer_c.specs.declared.layout.CHandle.{CHandle}
 use Rattle.timer_c.specs.declared.layout.Expired.{Expired}
 use Rattle.timer_c.specs.declared.status.TheConstants.{NO_TABLE, NO_MEMORY, DUE, NOT_PENDING, ZERO_INTERVAL, TOO_LATE, SERIALS_SPENT, CLOCK_END, NEVER}
@@ -132,21 +130,14 @@ IsSeen handle w out = told (held_at (base_handle handle) w) ≡ Some out
 abbrev pub after_expiries : ℕ → WheelState → WheelState
 after_expiries count w = record w { due = drop count w.due }
 
--- the tick until which the caller may sleep: now if an expired timer waits, else the first at which one expires or
--- moves to a lower wheel, before which nothing expires
+-- the tick until which the caller may sleep: now if an expired timer waits, else one before which nothing expires. Of a
+-- smooth wheel it is the first at which a timer expires, or would move to a lower wheel in Scheme 7.
 abbrev pub IsNextCall : ℕ → WheelState → Type 0
 IsNextCall tick w =
     ((tick ≡ w.now) × (0 < length w.due))
     ⊎ ((tick ≡ NEVER) × (w.due ≡ []) × (w.pending ≡ []))
     ⊎ ((w.due ≡ []) × IsWakeUp tick w.now w.pending
-    × (next_visit (radices_of w.layout) w.now w.pending ≡ Some tick))
-
--- the deadline of the timer that is taken next: now if an expired one waits, else the first pending one
-abbrev pub IsNextDeadline : ℕ → WheelState → Type 0
-IsNextDeadline tick w =
-    ((tick ≡ w.now) × (0 < length w.due))
-    ⊎ ((tick ≡ NEVER) × (w.due ≡ []) × (w.pending ≡ []))
-    ⊎ ((w.due ≡ []) × (next_deadline w.pending ≡ Some tick))
+    × (is_smooth w.layout ≡ true → next_visit (radices_of w.layout) w.now w.pending ≡ Some tick))
 
 -- a visit from a place on came to this timer, which is the first one there, and goes on after it
 abbrev pub IsVisited : ℕ → WheelState → ℕ → CHandle → Expired → Type 0
@@ -161,10 +152,3 @@ IsAloneAt handle w = IsAlone (base_handle handle) w
 -- no timer is left for a visit from this place on
 abbrev pub IsAllVisited : ℕ → WheelState → Type 0
 IsAllVisited from w = AreBefore from w.pending × AreBefore from w.due
-
--- What a wheel of this layout counted, as C's struct. The moves of a smooth wheel depend on its paces, and are left
--- open here; all else follows from the calls.
-abbrev pub IsCounted : Layout → WheelCounts → Counts → Type 0
-IsCounted layout counts told =
-    (told ≡ record { starts = counts.starts; moves = told.moves; visits = counts.visits })
-    × (is_smooth layout ≡ false → told.moves ≡ counts.moves)

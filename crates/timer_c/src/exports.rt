@@ -10,14 +10,13 @@ ghost use Rattle.timer_base.specs.Pending.{timers_of};
 ghost use Rattle.timer_base.specs.WheelState.{held_at};
 ghost use Rattle.timer_c.specs.Calls.{c_counters, Does, DoesIfOk, advance_to, handed};
 ghost use Rattle.timer_c.specs.Frames.{IsOpen, IsShut, IsRefused, with_timers};
-ghost use Rattle.timer_c.specs.Outcomes.{IsEmptyAt, WhyNoWheel, IsStartRefusal, IsStartAtRefusal, IsRestartRefusal, IsRestartAtRefusal, IsSetRefusal, IsSeen, IsStopRefusal, IsTickRefusal, IsAdvanceRefusal, IsNextCall, IsNextDeadline, IsVisited, IsAloneAt, IsAllVisited, IsCounted, told, tell, after_expiries, base_handle};
+ghost use Rattle.timer_c.specs.Outcomes.{IsEmptyAt, WhyNoWheel, IsStartRefusal, IsStartAtRefusal, IsRestartRefusal, IsRestartAtRefusal, IsSetRefusal, IsSeen, IsStopRefusal, IsTickRefusal, IsAdvanceRefusal, IsNextCall, IsVisited, IsAloneAt, IsAllVisited, told, tell, after_expiries, base_handle};
 ghost use Rattle.timer_c.specs.declared.status.TheConstants.{OK, NOT_OPEN, OPEN, NO_MEMORY, NEVER, VERSION_NUMBER};
 ghost use Rattle.timer_runs.specs.Runs as runs;
 ghost use Rattle.timer_runs.specs.Runs.{IsCall, Started, StartedAt, Restarted, RestartedAt, SetAt, Stopped, Ticked, Advanced, Took, ExpiredBatch, Cleared, Reserved, Renewed, Kept};
 ghost use Rattle.timer_total.specs.TimersState.{with_wheel};
 ghost use Rattle.timer_total.specs.Refusals.{left_until};
-ghost use Rattle.timer_wheels.specs.Placement.{most_moves};
-ghost use Rattle.timer_wheels.specs.TieredWheel.{radices_of, is_smooth};
+ghost use Rattle.timer_wheels.specs.TieredWheel.{moves_of_start};
 
 use crate::c_timers::CTimers;
 use crate::const_timers::ConstTimers;
@@ -185,8 +184,9 @@ pub extern "C" fn timers_restart(
     let Some(timers) = t.timers() else {
         return NOT_OPEN;
     };
-    if timers.wheel().is_smooth() {
-        return restart_in_smooth(timers, handle, interval, action, restarted);
+    let deadline = timers.now().wrapping_add(interval);
+    if !timers.wheel().stays(from_c_handle(handle), deadline) {
+        return restart_apart(timers, handle, interval, action, restarted);
     }
     match timers.restart(from_c_handle(handle), interval, action) {
         Ok(made) => {
@@ -197,27 +197,22 @@ pub extern "C" fn timers_restart(
     }
 }
 
-/// A restart in a smooth wheel, out of line.
-// So the restart in a hierarchy has no call, for which a compiler would save registers at its start. The body stands twice:
-// what a compiler knows of the wheel makes of it two.
+/// A restart that moves its timer, or is refused, out of line.
+// So one that leaves its timer where it stands has no call, for which a compiler would save registers at its start. The body
+// stands twice: what a compiler knows of the timer makes of it two.
 #[inline(never)]
-fn restart_in_smooth(
+fn restart_apart(
     timers: &mut Timers<CWheel>,
     handle: CHandle,
     interval: u64,
     action: u64,
     restarted: &mut CHandle,
 ) -> u32
-    requires { is_smooth timers.old.wheel.layout ≡ true }
     ensures restarted { result ≡ OK → IsCall c_counters
         (Restarted (base_handle handle) interval action (base_handle restarted.new)) timers.old timers.new }
     ensures refused { 0 < result → IsRestartRefusal handle interval timers.old result }
     ensures kept { 0 < result → (timers.new ≡ timers.old) × (restarted.new ≡ restarted.old) }
 {
-    // Never taken: but a compiler that knows so leaves out the hierarchy.
-    if !timers.wheel().is_smooth() {
-        return NOT_PENDING;
-    }
     match timers.restart(from_c_handle(handle), interval, action) {
         Ok(made) => {
             *restarted = to_c_handle(made);
@@ -273,6 +268,26 @@ pub extern "C" fn timers_set_at(
     let Some(timers) = t.timers() else {
         return NOT_OPEN;
     };
+    if !timers.wheel().stays(from_c_handle(*handle), deadline) {
+        return set_apart(timers, handle, deadline, action);
+    }
+    match timers.set_at(from_c_handle(*handle), deadline, action) {
+        Ok(made) => {
+            *handle = to_c_handle(made);
+            OK
+        }
+        Err(fault) => start_status(fault),
+    }
+}
+
+/// A set that starts its timer, moves it, or is refused, out of line, as `restart_apart`.
+#[inline(never)]
+fn set_apart(timers: &mut Timers<CWheel>, handle: &mut CHandle, deadline: u64, action: u64) -> u32
+    ensures set { result ≡ OK → IsCall c_counters
+        (SetAt (base_handle handle.old) deadline action (base_handle handle.new)) timers.old timers.new }
+    ensures refused { 0 < result → IsSetRefusal handle.old deadline timers.old result }
+    ensures kept { 0 < result → (timers.new ≡ timers.old) × (handle.new ≡ handle.old) }
+{
     match timers.set_at(from_c_handle(*handle), deadline, action) {
         Ok(made) => {
             *handle = to_c_handle(made);
@@ -499,8 +514,8 @@ pub extern "C" fn timers_len(t: &mut ConstTimers) -> usize
 }
 
 /// The tick until which C may sleep: the present one if an expired timer waits, `NEVER` if
-/// nothing is pending or `t` is not open, and otherwise the first at which a timer expires or moves to a lower
-/// wheel. With `TIMERS_SMOOTH` it is the one at which `TIMERS_WIDE` would move it.
+/// nothing is pending or `t` is not open, and otherwise one that is after it and at most the first deadline. With
+/// `TIMERS_SMOOTH` it is the first at which a timer expires, or would move to a lower wheel in Scheme 7.
 #[unsafe(no_mangle)]
 pub extern "C" fn timers_wakeup(t: &mut ConstTimers) -> u64
     ensures call { Does Kept t.old.held t.new.held }
@@ -515,42 +530,6 @@ pub extern "C" fn timers_wakeup(t: &mut ConstTimers) -> u64
         return timers.now();
     }
     timers.quiet_until().unwrap_or(NEVER)
-}
-
-/// The deadline of the timer that is handed out next: the present tick when an expired one waits, `NEVER`
-/// when no timer is held, and otherwise exactly the first pending deadline.
-#[unsafe(no_mangle)]
-pub extern "C" fn timers_next(t: &mut ConstTimers) -> u64
-    ensures call { Does Kept t.old.held t.new.held }
-    ensures deadline { IsOpen t.old.held → IsNextDeadline result t.old.held.slot.state.wheel }
-    ensures not_open { IsShut t.old.held → result ≡ NEVER }
-    ensures same { t.new ≡ t.old }
-{
-    let Some(timers) = t.timers() else {
-        return NEVER;
-    };
-    if timers.has_due() {
-        return timers.now();
-    }
-    timers.next_deadline().unwrap_or(NEVER)
-}
-
-/// The same as `timers_next`. The wheel keeps what it found, so that the next call needs no walk until the first
-/// deadline of the bucket changes. C sees no other change.
-#[unsafe(no_mangle)]
-pub extern "C" fn timers_find_next(t: &mut CTimers) -> u64
-    ensures call { Does Kept t.old t.new }
-    ensures deadline { IsOpen t.old → IsNextDeadline result t.old.slot.state.wheel }
-    ensures not_open { IsShut t.old → result ≡ NEVER }
-    ensures same { t.new ≡ t.old }
-{
-    let Some(timers) = t.timers() else {
-        return NEVER;
-    };
-    if timers.has_due() {
-        return timers.now();
-    }
-    timers.find_next().unwrap_or(NEVER)
 }
 
 /// Writes the first timer from the cursor's place on, pending or expired and not yet taken, with its handle,
@@ -587,15 +566,15 @@ pub extern "C" fn timers_each(
     true
 }
 
-/// Writes what the wheels counted since `timers_new`, and changes nothing. What each call adds to the counts is in
-/// its contract.
+/// Writes what the wheels counted since `timers_new`, and changes nothing. What each call adds to the starts is in its
+/// contract. How many timers move depends on where they stand.
 #[unsafe(no_mangle)]
 pub extern "C" fn timers_counts(t: &mut ConstTimers, counts: &mut Counts) -> u32
     ensures call { Does Kept t.old.held t.new.held }
     ensures counted { result ≡ OK → IsOpen t.old.held
-        × IsCounted t.old.held.slot.state.wheel.layout t.old.held.slot.state.counts counts.new }
+        × (counts.new.starts ≡ t.old.held.slot.state.counts.starts) }
     ensures few_moves { result ≡ OK → counts.new.moves
-        ≤ most_moves (radices_of t.old.held.slot.state.wheel.layout) * counts.new.starts }
+        ≤ moves_of_start t.old.held.slot.state.wheel.layout * counts.new.starts }
     ensures refused { 0 < result → (result ≡ NOT_OPEN) × IsShut t.old.held }
     ensures kept { 0 < result → counts.new ≡ counts.old }
     ensures same { t.new ≡ t.old }
@@ -607,7 +586,6 @@ pub extern "C" fn timers_counts(t: &mut ConstTimers, counts: &mut Counts) -> u32
     *counts = Counts {
         starts: wheel.starts(),
         moves: wheel.moves(),
-        visits: wheel.visits(),
     };
     OK
 }

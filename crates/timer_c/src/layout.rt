@@ -28,8 +28,6 @@ pub struct Expired {
 pub struct Counts {
     /// Timers that were started or restarted.
     pub starts: u64,
-    /// How often a timer moved to a lower wheel.
+    /// How often a timer moved to a lower wheel or, in a lazy wheel, was filed anew.
     pub moves: u64,
-    /// Buckets that ticks came to, empty ones too.
-    pub visits: u64,
 }

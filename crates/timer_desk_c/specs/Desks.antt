@@ -2,7 +2,7 @@
 use Rattle.std.specs.Prelude.{ℕ, ◌≡◌, ◌≢◌, ◌<◌, ◌≤◌, ◌⊎◌, Bool, true, false, List, [], length, get_or, Ok, Err, Some, None, Result, IfOk}
 use Rattle.std.specs.List.{AllZip}
 use Rattle.timer_base.specs.WakeUps.{IsWakeUp, next_deadline}
-use Rattle.timer_wheels.specs.TieredWheel.{radices_of}
+use Rattle.timer_wheels.specs.TieredWheel.{radices_of, is_smooth}
 use Rattle.timer_wheels.specs.Tiers.{layout_of_tiers, last_of_tiers, AreTiersFor}
 use Rattle.timer_wheels.specs.declared.tiers.Tiers.{Tiers}
 use Rattle.timer_wheels.specs.WakeUps.{next_visit}
@@ -156,10 +156,12 @@ pub record HasClosed (status returned : ℕ) (old new : RingDesk) : Type 0 where
 abbrev pub with_reserve : RingDesk → RingDesk
 with_reserve d = record d { facility = with_room_made d.facility }
 
--- the first tick at which a timer expires or moves to a lower wheel, and before which nothing expires
+-- a tick before which nothing expires: of a smooth wheel the first at which a timer expires, or would move to a lower wheel
+-- in Scheme 7
 abbrev pub IsNextTick : ℕ → FacilityState → Type 0
 IsNextTick tick s = ((tick ≡ NEVER) × (s.pending ≡ []))
-    ⊎ (IsWakeUp tick s.now s.pending × (next_visit (radices_of s.layout) s.now s.pending ≡ Some tick))
+    ⊎ (IsWakeUp tick s.now s.pending
+    × (is_smooth s.layout ≡ true → next_visit (radices_of s.layout) s.now s.pending ≡ Some tick))
 
 -- the first pending deadline
 abbrev pub IsFirstDeadline : ℕ → FacilityState → Type 0

@@ -248,8 +248,9 @@ pub extern "C" fn timers_desk_len(d: &mut ConstDesk) -> usize
     }
 }
 
-/// The first tick at which a timer expires or moves to a lower wheel; `NEVER` if nothing is pending or there is no
-/// desk. It is after the present one and at most the first deadline, and nothing expires before it.
+/// A tick before which nothing expires, after the present one and at most the first deadline; `NEVER` if nothing is
+/// pending or there is no desk. Of a smooth wheel it is the first at which a timer expires, or would move to a lower wheel
+/// in Scheme 7.
 #[unsafe(no_mangle)]
 pub extern "C" fn timers_desk_wakeup(d: &mut ConstDesk) -> u64
     ensures tick { HasDesk d.old.held → IsNextTick result d.old.held.slot.state.facility }

@@ -1,7 +1,7 @@
 //! A wheel whose calls, once it is made, have no preconditions.
 ghost use Rattle.std.specs.Prelude.{◌≡◌, ◌+◌, ◌<◌, ◌≤◌, ◌↔◌, ◌⊎◌, ℕ, ◌-◌, [], length, min, IsTrue, IfOk, IfErr, OnOk, OnErr, None, Some, true, false};
 ghost use Rattle.timer_base.specs.declared.limits.TheConstants.{LAST};
-ghost use Rattle.timer_base.specs.WakeUps.{IsQuietUntil, next_deadline};
+ghost use Rattle.timer_base.specs.WakeUps.{IsQuietUntil};
 ghost use Rattle.timer_base.specs.WheelState.{held_at, first_due, after_start, after_held_start, after_removal, after_reserve, after_tick, after_expiry};
 ghost use Rattle.timer_total.specs.Refusals.{interval_until, after_start_at, next_timer, timer_due, left_until, IsAt, IsStartable, IsRoomUsed, WhyNotStarted, WhyNotRestarted, WhyNotTicked, WhyNotAdvanced};
 ghost use Rattle.timer_total.specs.Ticks.{IsTakenBy, IsAdvanced};
@@ -92,23 +92,6 @@ impl<W: Wheel + Drop> Timers<W> {
         ensures wakes { W.wakes self.now.wheel.layout self.now.wheel.now self.now.wheel.pending result }
     {
         self.wheel.quiet_until()
-    }
-
-    /// The first pending deadline, or None exactly when nothing is pending. Expired timers are not looked at.
-    /// Does not allocate. The wheel may walk timers to find it.
-    pub fn next_deadline(&self) -> Option<u64>
-        ensures { result ≡ next_deadline self.now.wheel.pending }
-    {
-        self.wheel.next_deadline()
-    }
-
-    /// The first pending deadline, as `next_deadline` returns it. Nothing changes, but the wheel may keep what it
-    /// found, so that the next call needs no walk. Does not allocate.
-    pub fn find_next(&mut self) -> Option<u64>
-        ensures first { result ≡ next_deadline self.old.wheel.pending }
-        ensures same { self.new ≡ self.old }
-    {
-        self.wheel.find_next()
     }
 
     /// Makes room for `most` timers at one time, pending ones and those that expired and were not yet taken.
@@ -348,6 +331,7 @@ impl<W: Wheel + Drop> Timers<W> {
     /// handle, if there is one: it is restarted then, as by `restart_at`, and nothing is allocated.
     ///
     /// The errors are those of `start_at`. It is out of memory only if no timer has the handle.
+    #[inline(always)]
     pub fn set_at(
         &mut self,
         handle: Handle,

@@ -8,7 +8,7 @@ use Rattle.timer_base.proofs.OrderLaws.{All-weaken}
 use Rattle.timer_base.specs.Pending.{timer_of}
 use Rattle.timer_base.specs.PlainState.{earliest}
 use Rattle.timer_base.specs.WakeUps.{next_deadline}
-use Rattle.timer_wheels.specs.Types.{Timer, Entry, Ghosts, list_at, KeyedLists, Row, Rows, Table}
+use Rattle.timer_wheels.specs.Types.{Timer, Node, Entry, Ghosts, list_at, KeyedLists, Row, Rows, Table}
 use Rattle.timer_wheels.specs.BucketLists.{row_timer, row_timers, entry_of, pending_in, rows_below, EachRow}
 use Rattle.timer_wheels.specs.Buckets.{state_of}
 use Rattle.timer_wheels.specs.declared.buckets.Buckets.{Buckets}
@@ -20,7 +20,6 @@ use Rattle.timer_wheels.specs.Leap.{list_visit, timer_visit}
 use Rattle.timer_wheels.specs.Occupied.{IsFirstSet}
 use Rattle.timer_wheels.specs.Tables.{radices}
 use Rattle.timer_wheels.specs.WakeUps.{next_visit}
-use Rattle.timer_wheels.proofs.FirstLemmas.{not_before-less}
 use Rattle.timer_wheels.proofs.AllLemmas.{all-map, all-of_map}
 use Rattle.timer_wheels.proofs.DigitLaws.{bucket_near, bucket_far, lowest_bucket, visit_here, quotient_mono, less_quotient}
 use Rattle.timer_wheels.proofs.HierLeaps.{IsKnown, known, none_where, none_wakes, first_in, first_some}
@@ -29,6 +28,9 @@ use Rattle.timer_wheels.proofs.TableLaws.{of_table}
 use Rattle.timer_wheels.proofs.VisitLaws.{list_is}
 
 -- The least deadline of two lists together.
+
+not_before-less : (c d : ℕ) (ts : List Timer) → c ≤ d → AllByRecursion (λ t. d ≤ t.deadline) ts → AllByRecursion (λ t. c ≤ t.deadline) ts
+not_before-less c d ts h a = All-weaken (λ t. d ≤ t.deadline) (λ t. c ≤ t.deadline) ts (λ t k. omega arith) a
 
 pub has-front : (d : ℕ) (xs ys : List Timer) → HasDeadline d xs → HasDeadline d (xs ++ ys)
 has-front d [] ys h = absurd h
@@ -56,6 +58,19 @@ least-append (Some a) (Some b) xs ys l m = elim (cases_lt a b) [
 
 least-one : (t : Timer) → IsLeast t.deadline (t ∷ [])
 least-one t = record { has = inl refl; none_earlier = (omega arith, tt) }
+
+-- The walk along one list.
+
+-- the least deadline of the rows that are behind
+abbrev pub IsSought : Option ℕ → Rows → Type 0
+IsSought least past = IsLeastDeadline least (row_timers past)
+
+pub sought_one : (least more : Option ℕ) (key : ℕ) (node same : Node) (found : Option Node) (past : Rows) → Some same ≡ found
+    → more ≡ earliest least (Some same.timer.deadline) → found ≡ Some node → IsSought least past
+    → IsSought more (past ++ (key, node) ∷ [])
+sought_one least more key node same found past f m e h =
+    rw (m, some_same same node (f ∙ e), timers-append past ((key, node) ∷ []))
+    (least-append least (Some node.timer.deadline) (row_timers past) (node.timer ∷ []) h (least-one node.timer))
 
 -- Several lists.
 

@@ -1,8 +1,6 @@
 -- The lemmas that the proofs of this crate share.
 pub mod AllLemmas
 pub mod DigitLaws
-pub mod FirstLemmas
-pub mod FirstsLemmas
 pub mod RowLemmas
 pub mod BucketLemmas
 pub mod Handles

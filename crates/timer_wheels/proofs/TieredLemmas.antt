@@ -1,33 +1,16 @@
 -- Lemmas for `tiered`: ticks within the clock are not `NEVER`.
-use Rattle.std.proofs.Common.{◌≡◌, ◌≢◌, ◌<◌, ◌≤◌, ℕ, List, [], ◌∷◌, length, refl, arith, Option, None, Some, IfSome}
+use Rattle.std.proofs.Common.{◌≡◌, ◌≢◌, ◌<◌, ◌≤◌, ℕ, List, [], ◌∷◌, length, refl, arith, Some}
 use Rattle.std.specs.List.{AllByRecursion}
 use Rattle.std.proofs.lemmas.Bool.{ne_eqb}
-use Rattle.timer_base.proofs.Basics.{some_same}
 use Rattle.timer_base.specs.Pending.{timers_of}
-use Rattle.timer_base.specs.WakeUps.{IsWakeUp, next_deadline}
+use Rattle.timer_base.specs.WakeUps.{IsWakeUp}
 use Rattle.timer_base.specs.WheelState.{IsPending, IsWellFormed}
-use Rattle.timer_wheels.specs.Types.{LAST, Entry, WheelState, Ghosts}
-use Rattle.timer_wheels.specs.Buckets.{state_of, state_of-well_formed}
-use Rattle.timer_wheels.specs.declared.buckets.Buckets.{Buckets}
+use Rattle.timer_wheels.specs.Types.{LAST, Entry, WheelState}
 use Rattle.timer_wheels.specs.TieredWheel.{option_of}
 use Rattle.timer_wheels.specs.declared.tiered.TheConstants.{NEVER}
 
 pub some_tick : (tick : ℕ) → tick ≤ LAST → option_of tick ≡ Some tick
 some_tick tick h = rw (ne_eqb tick NEVER (let n : tick ≢ NEVER = omega arith in n)) refl
-
-pub next_in_clock : (w : WheelState) (tick : ℕ) → IsWellFormed w → Some tick ≡ next_deadline w.pending → tick ≤ LAST
-next_in_clock w tick f e = of_first w.pending f.each e where
-  of_first : (es : List Entry) → AllByRecursion (IsPending w.last_tick w.now w.last_serial) (timers_of es)
-      → Some tick ≡ next_deadline es → tick ≤ LAST
-  of_first [] a e = absurd (cc)
-  of_first (x ∷ xs) a e =
-      let q : tick ≡ x.timer.deadline = some_same tick x.timer.deadline e in
-      let r : x.timer.deadline ≤ w.last_tick = a.0.in_range in
-      omega (arith, f.last_in_range)
-
-pub first_in_clock : {N : Type 0} {kept : Ghosts N} (b : Buckets N kept) (o : Option ℕ) → o ≡ next_deadline (state_of b).pending → IfSome o (λ tick. tick ≤ LAST)
-first_in_clock b None e = tt
-first_in_clock b (Some tick) e = next_in_clock (state_of b) tick (state_of-well_formed b) e
 
 pub wake_in_clock : (w : WheelState) (tick : ℕ) → IsWellFormed w → IsWakeUp tick w.now w.pending → tick ≤ LAST
 wake_in_clock w tick f u = of_first w.pending f.each u.some u.in_time where

@@ -1,12 +1,11 @@
 -- The invariant of the buckets of a hierarchy of wheels and of their bits.
-use Rattle.std.specs.Prelude.{◌≡◌, ◌≢◌, ℕ, List, Option, MatchOption}
+use Rattle.std.specs.Prelude.{◌≡◌, ℕ, List}
 use Rattle.std.proofs.Props.{props}
 use Rattle.timer_wheels.specs.Types.{Ghosts, Table}
 use Rattle.timer_wheels.specs.Buckets.{state_of}
 use Rattle.timer_wheels.specs.declared.buckets.Buckets.{Buckets}
-use Rattle.timer_wheels.specs.Digits.{slots, last_of, lowest_radix}
-use Rattle.timer_wheels.specs.Firsts.{FirstsState, Enters, Leaves, Empties, AreFirsts, AreFirsts-prop}
-use Rattle.timer_wheels.specs.Occupied.{bit_of, Clears, AreMarked, AreMarked-prop}
+use Rattle.timer_wheels.specs.Digits.{slots, last_of}
+use Rattle.timer_wheels.specs.Occupied.{AreMarked, AreMarked-prop}
 use Rattle.timer_wheels.specs.Placement.{IsPlaced, IsPlaced-prop, levels_of}
 use Rattle.timer_wheels.specs.Tables.{radices}
 use Rattle.timer_wheels.specs.BucketLaws.{EachRow-prop, AreInOrder-prop}
@@ -37,24 +36,3 @@ pub record IsHier {N : Type 0} {kept : Ghosts N} (table : Table) (b : Buckets N 
 
 pub IsHier-prop : {N : Type 0} {kept : Ghosts N} (table : Table) (b : Buckets N kept) (words : List ℕ) → IsProp (IsHier table b words)
 IsHier-prop table b words = hlevel (props, RowsArePlaced-prop table b, AreInOrder-prop b.slots b.links.lists, AreMarked-prop b.slots words b.links.lists)
-
--- the first deadline of each bucket above the lowest wheel
-abbrev pub HasFirsts : {N : Type 0} {kept : Ghosts N} → Table → Buckets N kept → FirstsState → Type 0
-HasFirsts table b firsts = AreFirsts (lowest_radix (radices table)) b.slots firsts b.links.lists
-
-pub HasFirsts-prop : {N : Type 0} {kept : Ghosts N} (table : Table) (b : Buckets N kept) (firsts : FirstsState) → IsProp (HasFirsts table b firsts)
-HasFirsts-prop table b firsts = AreFirsts-prop (lowest_radix (radices table)) b.slots firsts b.links.lists
-
--- a timer with this deadline came to the back of bucket l, whose front has now the other deadline: the bucket's bit is set,
--- and its first deadline is kept
-pub record Comes (lowest l deadline : ℕ) (front : Option ℕ) (words words2 : List ℕ) (firsts firsts2 : FirstsState) : Type 0 where
-  pub here : bit_of words2 l ≡ 1
-  pub others : (s : ℕ) → s ≢ l → bit_of words2 s ≡ bit_of words s
-  pub counted : Enters lowest l deadline front firsts firsts2
-
--- a timer with this deadline left bucket l: it is no longer counted there, and if it left the bucket empty, the
--- bucket's bit is cleared
-pub record Goes (lowest l deadline : ℕ) (emptied : Option ℕ) (words words2 : List ℕ)
-    (firsts firsts2 : FirstsState) : Type 0 where
-  pub bits : Clears emptied words words2
-  pub counted : MatchOption emptied (Leaves lowest l deadline firsts firsts2) (λ list. Empties list firsts firsts2)

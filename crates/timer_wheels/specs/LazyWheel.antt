@@ -9,6 +9,7 @@ use Rattle.timer_wheels.specs.Digits.{slots}
 use Rattle.timer_wheels.specs.Filed.{IsFiled}
 use Rattle.timer_wheels.specs.Tables.{layout_of_table}
 use Rattle.timer_wheels.specs.declared.lazy.LazyWheel.{LazyWheel}
+use Rattle.timer_wheels.specs.declared.lazy.FilingCounts.{FilingCounts}
 
 -- the state of the wheel
 abbrev pub lazy_state : {N : Type 0} {kept : Ghosts N} → LazyWheel N kept → WheelState
@@ -25,6 +26,14 @@ lazy_table wheel = wheel.files.table
 -- its lists: the buckets, lists that are empty, and the due timers
 abbrev pub lazy_lists : {N : Type 0} {kept : Ghosts N} → LazyWheel N kept → KeyedLists
 lazy_lists wheel = wheel.files.buckets.links.lists
+
+-- what it counted: how many timers were started or restarted, and how many times one was filed anew
+abbrev pub lazy_counts : {N : Type 0} {kept : Ghosts N} → LazyWheel N kept → FilingCounts
+lazy_counts wheel = wheel.counts
+
+-- the counts after one more start or restart
+abbrev pub with_start : FilingCounts → FilingCounts
+with_start counts = record counts { starts = counts.starts + 1 }
 
 -- each pending timer stands in a bucket that is visited by its deadline, and the last list has what is due
 pub record ShowsFiled (table : List ℕ) (w : WheelState) (lists : KeyedLists) : Type 0 where

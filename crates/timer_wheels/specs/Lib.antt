@@ -16,7 +16,6 @@ pub mod Hier
 pub mod Tables
 pub mod HierWheel
 pub mod FirstDeadline
-pub mod Firsts
 pub mod HeldPlaces
 pub mod WakeUps
 pub mod Smooth

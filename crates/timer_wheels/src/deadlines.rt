@@ -2,16 +2,15 @@
 //!
 //! A bucket is in order of starting and maybe not of deadlines, so that its first deadline takes a walk along it.
 //! In a hierarchy every deadline of a bucket comes before those of the buckets after it: the first one with a
-//! timer is enough. `find_next` keeps what it found there (`firsts`), and so walks seldom.
+//! timer is enough.
 ghost use Rattle.std.specs.Prelude.{◌≡◌, ◌<◌, length};
 ghost use Rattle.timer_base.specs.WakeUps.{next_deadline};
 ghost use Rattle.timer_links.specs.Lists.{list_at};
 ghost use Rattle.timer_wheels.specs.BucketLists.{rows_below, row_timers};
 ghost use Rattle.timer_wheels.specs.Buckets.{state_of};
-ghost use Rattle.timer_wheels.specs.FirstDeadline.{IsLeastDeadline, IsKnownOf};
+ghost use Rattle.timer_wheels.specs.FirstDeadline.{IsLeastDeadline};
 
 use crate::buckets::Buckets;
-use crate::first::First;
 use timer_base::earlier;
 use timer_links::{Kept, Links};
 
@@ -40,19 +39,8 @@ pub fn least_in<N: Kept>(links: &Links<N>, list: usize) -> Option<u64>
     requires { list < length links.now.lists }
     ensures { IsLeastDeadline result (row_timers (list_at list links.now.lists)) }
 {
-    first_in(links, list).known(links, list)
-}
-
-/// What is kept of the first deadline in one list: whether its timers are in order, or else how many have it. It walks
-/// the whole list.
-// Inlined: its result would go through memory.
-#[inline(always)]
-pub fn first_in<N: Kept>(links: &Links<N>, list: usize) -> First
-    requires { list < length links.now.lists }
-    ensures { IsKnownOf result (row_timers (list_at list links.now.lists)) }
-{
     links.lemma_keys_unique();
-    let mut first = First::none();
+    let mut least = None;
     let mut at = links.front(list);
     for step in 0..links.len() {
         let Some(key) = at else {
@@ -61,8 +49,8 @@ pub fn first_in<N: Kept>(links: &Links<N>, list: usize) -> First
         let Some(node) = links.get(key) else {
             break;
         };
-        first.enter(links, list, node.timer.deadline);
+        least = earlier(least, Some(node.timer.deadline));
         at = links.next(key);
     }
-    first
+    least
 }

@@ -57,7 +57,7 @@
 ghost use Rattle.std.specs.Prelude.{◌≡◌, ◌+◌, ◌-◌, ◌*◌, ◌<◌, ◌≤◌, [], IfOk, IfErr, OnOk, OnErr, MatchOption};
 ghost use Rattle.std.specs.Option.{IfSome};
 ghost use Rattle.timer_base.specs.declared.limits.TheConstants.{LAST};
-ghost use Rattle.timer_base.specs.WakeUps.{IsQuietUntil, next_deadline};
+ghost use Rattle.timer_base.specs.WakeUps.{IsQuietUntil};
 ghost use Rattle.timer_base.specs.WheelState.{empty_wheel, held_at, old_timer, after_reserve, after_replacement, after_tick, Advances};
 ghost use Rattle.timer_wheels.specs.Buckets.{state_of};
 ghost use Rattle.timer_wheels.specs.Leap.{IsNextVisit};
@@ -68,10 +68,9 @@ ghost use Rattle.timer_wheels.specs.HeldPlaces.{IsFirstHeld};
 ghost use Rattle.timer_wheels.specs.Placement.{ShowsWheels, IsPaid, most_moves};
 ghost use Rattle.timer_wheels.specs.WakeUps.{next_visit};
 
-use crate::buckets::Buckets;
 use crate::iteration::held_from;
 use crate::leap::visits_between;
-use crate::table::{Table, emptied_at, last_tick_of, lowest_slots};
+use crate::table::{Table, emptied_at, last_tick_of};
 use crate::wheels::Wheels;
 use std::alloc::Global;
 use timer_base::{Handle, LAST, MakeFault, OutOfMemory, Timer, Wheel};
@@ -214,30 +213,6 @@ impl<N: Kept> HierWheel<N> {
         self.wheels.table
     }
 
-    /// Whether a node is ready for the next timer. Nothing depends on it but how a start is compiled.
-    #[inline]
-    pub(crate) fn is_ready(&self) -> bool {
-        self.wheels.buckets.links.is_ready()
-    }
-
-    /// Advances by one tick, by the wheel's table: once per table where that is a constant. Most ticks empty a bucket of the
-    /// lowest wheel, and are inlined.
-    #[inline(always)]
-    pub(crate) fn tick_by(&mut self, table: Table)
-        requires table { table ≡ table_of self.old }
-        requires nothing_due { (hier_state self.old).due ≡ [] }
-        requires before_last { (hier_state self.old).now < (hier_state self.old).last_tick }
-        ensures ticked { hier_state self.new ≡ after_tick (hier_state self.old) }
-        ensures counts { counts_of self.new ≡ counts_of_tick (hier_state self.old) (counts_of self.old) }
-    {
-        let list = emptied_at(table, self.wheels.buckets.tick + 1);
-        if list < lowest_slots(table) {
-            self.visit(list);
-        } else {
-            self.visit_apart(list);
-        }
-    }
-
     /// Advances by one tick, which empties this bucket.
     #[inline(always)]
     fn visit(&mut self, list: usize)
@@ -251,27 +226,6 @@ impl<N: Kept> HierWheel<N> {
         let moves = self.wheels.visit_next(list);
         let counts = &mut self.counts;
         counts.add_moves(moves);
-    }
-
-    /// The same, out of line.
-    #[inline(never)]
-    fn visit_apart(&mut self, list: usize)
-        requires nothing_due { (hier_state self.old).due ≡ [] }
-        requires before_last { (hier_state self.old).now < (hier_state self.old).last_tick }
-        requires emptied { list ≡ emptied (radices (table_of self.old)) ((hier_state self.old).now + 1) }
-        requires in_range { list < slots (radices (table_of self.old)) }
-        ensures ticked { hier_state self.new ≡ after_tick (hier_state self.old) }
-        ensures counts { counts_of self.new ≡ counts_of_tick (hier_state self.old) (counts_of self.old) }
-    {
-        self.visit(list);
-    }
-
-    /// The clock and the buckets.
-    #[inline]
-    pub(crate) fn buckets(&self) -> &Buckets<N>
-        ensures { result.now ≡ self.now.wheels.buckets }
-    {
-        &self.wheels.buckets
     }
 
     /// How many timers were started or restarted since the wheel was made. Does not allocate.
@@ -423,7 +377,8 @@ impl<N: Kept> Wheel for HierWheel<N> {
     }
 
     fn per_tick(&mut self) {
-        self.tick_by(self.wheels.table);
+        let list = emptied_at(self.wheels.table, self.wheels.buckets.tick + 1);
+        self.visit(list);
     }
 
     fn advance(&mut self, most: u64) -> u64 {
@@ -450,17 +405,9 @@ impl<N: Kept> Wheel for HierWheel<N> {
     }
 
     /// Found in the first bucket with a timer: on wheel 0 without a look at its timers, and on a higher wheel
-    /// by a walk along that bucket alone, unless its first deadline is known.
+    /// by a walk along that bucket alone.
     fn next_deadline(&self) -> Option<u64> {
         self.wheels.next_deadline()
-    }
-
-    /// From the first call that walks a bucket on, first deadlines are kept, so that most calls need no walk. That of a
-    /// bucket whose timers came in the order of their deadlines is always known, whichever of them is stopped. That of
-    /// another one is lost if the last timer that is known to have it is stopped, or restarted for later, and others
-    /// are left there.
-    fn find_next(&mut self) -> Option<u64> {
-        self.wheels.find_next()
     }
 
     fn expire(&mut self) -> Option<Timer> {

@@ -1,15 +1,12 @@
 //! The bucket that one tick of a hierarchy of wheels empties.
-ghost use Rattle.std.specs.Prelude.{◌≡◌, ◌+◌, ◌<◌, [], length};
+ghost use Rattle.std.specs.Prelude.{◌≡◌, ◌+◌, ◌<◌, length};
 ghost use Rattle.std.specs.List.{AllByRecursion};
 ghost use Rattle.timer_links.specs.Lists.{list_at};
 ghost use Rattle.timer_wheels.specs.Digits.{slots, lowest_radix};
-ghost use Rattle.timer_wheels.specs.FirstDeadline.{IsFirstOf};
-ghost use Rattle.timer_wheels.specs.Firsts.{first_at, AreFirsts, AreFirstsBut};
 ghost use Rattle.timer_wheels.specs.Migration.{MayMigrate, IsOfTick, migrated, left_rows, second_deadline};
 ghost use Rattle.timer_wheels.specs.Occupied.{bit_of, AreMarked, AreMarkedBut};
 ghost use Rattle.timer_wheels.specs.Tables.{radices};
 
-use crate::firsts::Firsts;
 use crate::occupied::Occupied;
 use crate::table::{Table, bucket_of, buckets_of, lowest_slots, with_wide_table};
 use crate::walks::front_deadline;
@@ -26,7 +23,6 @@ pub fn empty_bucket<N: Kept>(
     table: Table,
     links: &mut Links<N>,
     occupied: &mut Occupied,
-    firsts: &mut Firsts,
     list: usize,
     tick: u64,
 ) -> u64
@@ -36,12 +32,10 @@ pub fn empty_bucket<N: Kept>(
     requires lowest { list < lowest_radix (radices table)
         → AllByRecursion (IsOfTick tick) (list_at list links.old.lists) }
     requires marked { AreMarked (slots (radices table)) occupied.old links.old.lists }
-    requires foretold { AreFirsts (lowest_radix (radices table)) (slots (radices table)) firsts.old links.old.lists }
     ensures migrated { links.new.lists ≡ migrated (radices table) tick list links.old.lists }
     ensures room { links.new.room ≡ links.old.room }
     ensures moves { result ≡ length (left_rows tick (list_at list links.old.lists)) }
     ensures marked { AreMarked (slots (radices table)) occupied.new links.new.lists }
-    ensures foretold { AreFirsts (lowest_radix (radices table)) (slots (radices table)) firsts.new links.new.lists }
 {
     if links.is_empty(list) {
         return 0;
@@ -51,8 +45,7 @@ pub fn empty_bucket<N: Kept>(
         links.append(list, buckets_of(table));
         0
     } else {
-        firsts.empty(list);
-        migrate(table, links, occupied, firsts, list, tick)
+        migrate(table, links, occupied, list, tick)
     }
 }
 
@@ -65,7 +58,6 @@ fn migrate<N: Kept>(
     table: Table,
     links: &mut Links<N>,
     occupied: &mut Occupied,
-    firsts: &mut Firsts,
     list: usize,
     tick: u64,
 ) -> u64
@@ -74,16 +66,12 @@ fn migrate<N: Kept>(
     requires rows { AllByRecursion (MayMigrate (radices table) tick list) (list_at list links.old.lists) }
     requires clear { bit_of occupied.old list ≡ 0 }
     requires marked { AreMarkedBut (slots (radices table)) list occupied.old links.old.lists }
-    requires none { IsFirstOf (first_at list firsts.old) [] }
-    requires foretold { AreFirstsBut list (lowest_radix (radices table)) (slots (radices table)) firsts.old
-        links.old.lists }
     ensures migrated { links.new.lists ≡ migrated (radices table) tick list links.old.lists }
     ensures room { links.new.room ≡ links.old.room }
     ensures moves { result ≡ length (left_rows tick (list_at list links.old.lists)) }
     ensures marked { AreMarked (slots (radices table)) occupied.new links.new.lists }
-    ensures foretold { AreFirsts (lowest_radix (radices table)) (slots (radices table)) firsts.new links.new.lists }
 {
-    with_wide_table!(migrate_one_by_one(table, links, occupied, firsts, list, tick))
+    with_wide_table!(migrate_one_by_one(table, links, occupied, list, tick))
 }
 
 /// Empties a bucket from its front, timer by timer, and returns how many went to a lower wheel.
@@ -93,7 +81,6 @@ fn migrate_one_by_one<N: Kept>(
     table: Table,
     links: &mut Links<N>,
     occupied: &mut Occupied,
-    firsts: &mut Firsts,
     list: usize,
     tick: u64,
 ) -> u64
@@ -102,14 +89,10 @@ fn migrate_one_by_one<N: Kept>(
     requires rows { AllByRecursion (MayMigrate (radices table) tick list) (list_at list links.old.lists) }
     requires clear { bit_of occupied.old list ≡ 0 }
     requires marked { AreMarkedBut (slots (radices table)) list occupied.old links.old.lists }
-    requires none { IsFirstOf (first_at list firsts.old) [] }
-    requires foretold { AreFirstsBut list (lowest_radix (radices table)) (slots (radices table)) firsts.old
-        links.old.lists }
     ensures migrated { links.new.lists ≡ migrated (radices table) tick list links.old.lists }
     ensures room { links.new.room ≡ links.old.room }
     ensures moves { result ≡ length (left_rows tick (list_at list links.old.lists)) }
     ensures marked { AreMarked (slots (radices table)) occupied.new links.new.lists }
-    ensures foretold { AreFirsts (lowest_radix (radices table)) (slots (radices table)) firsts.new links.new.lists }
 {
     let due = buckets_of(table);
     links.lemma_countable();
@@ -124,7 +107,6 @@ fn migrate_one_by_one<N: Kept>(
             let to = bucket_of(table, tick, deadline);
             links.move_front(list, to);
             occupied.insert(to);
-            firsts.enter(&table, links, to, deadline);
             moves += 1;
         }
     }

@@ -8,8 +8,10 @@
 //! bit that is set is there that of the bucket that the clock empties next, of those with a timer: a lower wheel
 //! comes before a higher one, and in a wheel the slots come in turn.
 ghost use Rattle.std.specs.Int.{bit_at};
-ghost use Rattle.std.specs.Prelude.{◌≡◌, ◌≢◌, ◌<◌, ◌≤◌, ◌+◌, ◌*◌, ℕ, List, length, IsTrue, true, false};
+ghost use Rattle.std.specs.Prelude.{◌≡◌, ◌≢◌, ◌<◌, ◌≤◌, ◌+◌, ◌*◌, ℕ, List, length, IfSome, IsTrue, true, false};
+ghost use Rattle.timer_wheels.specs.Bank.{LeavesBits};
 ghost use Rattle.timer_wheels.specs.declared.occupied.TheConstants.{WORD_BITS};
+ghost use Rattle.timer_wheels.specs.declared.table.TheConstants.{MOST_BUCKETS};
 ghost use Rattle.timer_wheels.specs.Occupied.{bit_of, IsFirstSet, IsLowestSet};
 
 use crate::table::MOST_BUCKETS;
@@ -163,4 +165,31 @@ pub fn lowest_bit(word: u64) -> usize
     ensures { IsLowestSet word result }
 {
     word.trailing_zeros() as usize
+}
+
+/// A timer with this deadline came to the back of a list. If that is a bucket, its bit is set.
+#[inline(always)]
+pub fn enter(occupied: &mut Occupied, tick: u64, deadline: u64, list: usize)
+    requires { tick < deadline → list < MOST_BUCKETS }
+    ensures pending { tick < deadline
+        → (bit_of occupied.new list ≡ 1) × ((s : ℕ) → s ≢ list → bit_of occupied.new s ≡ bit_of occupied.old s) }
+    ensures due { deadline ≤ tick → occupied.new ≡ occupied.old }
+{
+    if deadline > tick {
+        occupied.insert(list);
+    }
+}
+
+/// A list became empty, if one did: if it is a bucket, its bit is cleared.
+#[inline(always)]
+pub fn leave(occupied: &mut Occupied, slots: usize, emptied: Option<usize>)
+    requires { IfSome emptied (λ list. list < slots → list < MOST_BUCKETS) }
+    ensures { LeavesBits slots emptied occupied.old occupied.new }
+{
+    let Some(list) = emptied else {
+        return;
+    };
+    if list < slots {
+        occupied.remove(list);
+    }
 }

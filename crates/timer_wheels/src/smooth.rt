@@ -28,7 +28,6 @@
 //! have an earlier one.
 ghost use Rattle.std.specs.Prelude.{◌≡◌, ◌+◌, ◌-◌, ◌*◌, ◌<◌, ◌≤◌, ℕ, [], length, IfOk, IfErr, IfSome, IfNone, OnOk, OnErr, MatchOption, MatchResult};
 ghost use Rattle.timer_base.specs.declared.limits.TheConstants.{LAST};
-ghost use Rattle.timer_base.specs.WakeUps.{next_deadline};
 ghost use Rattle.timer_base.specs.WheelState.{IsPassing, empty_wheel, held_at, held_count, old_timer, first_due, after_reserve, after_held_start, after_removal, after_replacement, after_tick, after_expiry, after_clear, Advances};
 ghost use Rattle.timer_wheels.specs.Bank.{potential_of};
 ghost use Rattle.timer_wheels.specs.HeldPlaces.{IsFirstHeld};
@@ -437,15 +436,6 @@ impl<N: Kept> Wheel for SmoothWheel<N> {
     #[inline(never)]
     fn next_deadline(&self) -> Option<u64> {
         self.bank.next_deadline()
-    }
-
-    /// As `next_deadline`: nothing is kept.
-    #[inline(never)]
-    fn find_next(&mut self) -> Option<u64>
-        ensures first { result ≡ next_deadline (smooth_state self.old).pending }
-        ensures same { self.new ≡ self.old }
-    {
-        self.next_deadline()
     }
 
     fn expire(&mut self) -> Option<Timer>

@@ -1,4 +1,4 @@
-//! A hierarchy that is chosen as the program runs, as C chooses one: `HierWheel` or `SmoothWheel`.
+//! A hierarchy that is chosen as the program runs, as C chooses one: `LazyWheel` or `SmoothWheel`.
 //!
 //! Each call is that of the wheel. What both have, the buckets, is read without a look at which of them it is.
 ghost use Rattle.std.specs.Prelude.{◌≡◌, ◌+◌, ◌-◌, ◌*◌, ◌<◌, ◌≤◌, ℕ, [], true, false, None, Some, IfOk, IfErr, IfSome, IfNone, OnOk, OnErr, MatchOption, MatchResult};
@@ -7,19 +7,19 @@ ghost use Rattle.timer_base.specs.WheelState.{empty_wheel, held_at, held_count, 
 ghost use Rattle.timer_base.specs.declared.limits.TheConstants.{LAST};
 ghost use Rattle.timer_wheels.specs.Buckets.{RemovesRow};
 ghost use Rattle.timer_wheels.specs.Paces.{tick_bound};
-ghost use Rattle.timer_wheels.specs.Placement.{most_moves};
 ghost use Rattle.timer_wheels.specs.SmoothWheel.{smooth_state, smooth_table, starts_of, moves_of, next_moves, moves_ahead, lists_in, AreWhereTheyWere, wheels_left, wheel_in, IsPacedFor};
 ghost use Rattle.timer_wheels.specs.TieredWheel.{option_of, KeepsPace};
-ghost use Rattle.timer_base.specs.WakeUps.{IsQuietUntil, next_deadline};
+ghost use Rattle.timer_base.specs.WakeUps.{IsQuietUntil};
 ghost use Rattle.timer_wheels.specs.HeldPlaces.{IsFirstHeld, IsAlone};
-ghost use Rattle.timer_wheels.specs.HierWheel.{IsHierFault, hier_state, counts_of, with_counted_start};
+ghost use Rattle.timer_wheels.specs.HierWheel.{IsHierFault, with_counted_start};
+ghost use Rattle.timer_wheels.specs.LazyWheel.{lazy_state, lazy_counts, with_start};
 ghost use Rattle.timer_wheels.specs.Tables.{layout_of_table, last_of_table, radices_of};
 ghost use Rattle.timer_wheels.specs.Tiers.{layout_of_tiers, last_of_tiers};
 ghost use Rattle.timer_wheels.specs.WakeUps.{next_visit};
 
 use crate::buckets::Buckets;
-use crate::hier::HierWheel;
 use crate::iteration::held_from;
+use crate::lazy::LazyWheel;
 use crate::smooth::SmoothWheel;
 use crate::table::Table;
 use crate::tiers::Tiers;
@@ -33,14 +33,14 @@ pub const NEVER: u64 = u64::MAX;
 /// One of the two hierarchies. `N` is what its lists keep of a timer.
 #[derive(Drop)]
 pub enum TieredWheel<N: Kept = Timer> {
-    /// Scheme 7, which empties a bucket as its time comes.
-    Hier(HierWheel<N>),
+    /// The lazy wheel, which leaves a timer that is pushed back where it stands.
+    Lazy(LazyWheel<N>),
     /// The smooth wheel, whose timers move early.
     Smooth(SmoothWheel<N>),
 }
 
 impl<N: Kept> TieredWheel<N> {
-    ghost use Rattle.timer_wheels.specs.TieredWheel.{tiered_state, buckets_in, is_smooth, counts_in, moves_in, IsPacedIn};
+    ghost use Rattle.timer_wheels.specs.TieredWheel.{tiered_state, buckets_in, counts_in, moves_in, moves_of_start, IsPacedIn};
 
     /// An empty hierarchy at its first tick.
     ///
@@ -67,11 +67,11 @@ impl<N: Kept> TieredWheel<N> {
             Tiers::Wide => Table::Wide,
             Tiers::Small => Table::Small,
         };
-        TieredWheel::hier(alloc, table, first_tick)
+        TieredWheel::lazy(alloc, table, first_tick)
     }
 
-    /// An empty `HierWheel` of this table.
-    fn hier(alloc: Global, table: Table, first_tick: u64) -> Result<TieredWheel<N>, MakeFault>
+    /// An empty `LazyWheel` of this table.
+    fn lazy(alloc: Global, table: Table, first_tick: u64) -> Result<TieredWheel<N>, MakeFault>
         ensures state { IfOk result (λ wheel. tiered_state wheel
             ≡ empty_wheel (layout_of_table table) (last_of_table table) first_tick) }
         ensures counts { IfOk result (λ wheel. counts_in wheel ≡ no_counts) }
@@ -80,8 +80,8 @@ impl<N: Kept> TieredWheel<N> {
         ensures in_range { IfOk result (λ wheel. first_tick ≤ last_of_table table) }
         ensures fault { IfErr result (λ fault. IsHierFault (last_of_table table) first_tick fault) }
     {
-        let wheel = HierWheel::keeping(alloc, table, first_tick)?;
-        Ok(TieredWheel::Hier(wheel))
+        let wheel = LazyWheel::keeping(alloc, table, first_tick)?;
+        Ok(TieredWheel::Lazy(wheel))
     }
 
     /// The buckets of the wheel.
@@ -91,19 +91,18 @@ impl<N: Kept> TieredWheel<N> {
         ensures { result.now ≡ buckets_in self.now }
     {
         match self {
-            TieredWheel::Hier(wheel) => wheel.buckets(),
+            TieredWheel::Lazy(wheel) => wheel.buckets(),
             TieredWheel::Smooth(wheel) => wheel.buckets(),
         }
     }
 
-    /// Whether this is the smooth wheel. Does not allocate.
+    /// Whether a restart of this timer for this deadline leaves it where it stands. Nothing depends on it but how a restart is
+    /// compiled. Does not allocate.
     #[inline(always)]
-    pub fn is_smooth(&self) -> bool
-        ensures { result ≡ is_smooth (tiered_state self.now).layout }
-    {
+    pub fn stays(&self, handle: Handle, deadline: u64) -> bool {
         match self {
-            TieredWheel::Hier(_) => false,
-            TieredWheel::Smooth(_) => true,
+            TieredWheel::Lazy(_) => self.buckets().stays(handle, deadline),
+            TieredWheel::Smooth(_) => false,
         }
     }
 
@@ -112,32 +111,20 @@ impl<N: Kept> TieredWheel<N> {
         ensures { result ≡ (counts_in self.now).starts }
     {
         match self {
-            TieredWheel::Hier(wheel) => wheel.starts(),
+            TieredWheel::Lazy(wheel) => wheel.starts(),
             TieredWheel::Smooth(wheel) => wheel.starts(),
         }
     }
 
-    /// How many times a timer was put into a lower wheel since the wheel was made. Does not allocate.
+    /// How many times a timer was put into a lower wheel since the wheel was made, or of a lazy wheel filed anew. Does not
+    /// allocate.
     pub fn moves(&self) -> u64
         ensures value { result ≡ moves_in self.now }
-        ensures counted { is_smooth (tiered_state self.now).layout ≡ false → result ≡ (counts_in self.now).moves }
-        ensures at_most { result ≤ most_moves (radices_of (tiered_state self.now).layout)
-            * (counts_in self.now).starts }
+        ensures at_most { result ≤ moves_of_start (tiered_state self.now).layout * (counts_in self.now).starts }
     {
         match self {
-            TieredWheel::Hier(wheel) => wheel.moves(),
+            TieredWheel::Lazy(wheel) => wheel.filings(),
             TieredWheel::Smooth(wheel) => wheel.moves(),
-        }
-    }
-
-    /// How many buckets were emptied since the wheel was made: none of a smooth wheel, which empties none as its time comes.
-    /// Does not allocate.
-    pub fn visits(&self) -> u64
-        ensures { result ≡ (counts_in self.now).visits }
-    {
-        match self {
-            TieredWheel::Hier(wheel) => wheel.visits(),
-            TieredWheel::Smooth(_) => 0,
         }
     }
 
@@ -155,21 +142,18 @@ impl<N: Kept> TieredWheel<N> {
 }
 
 impl<N: Kept> Wheel for TieredWheel<N> {
-    ghost use Rattle.timer_wheels.specs.TieredWheel.{tiered_state, tiered-well_formed, counts_in, counts_at_tick, counts_at_advance, moves_in, IfSmooth, IsPacedIn, KeepsPace};
+    ghost use Rattle.timer_wheels.specs.TieredWheel.{tiered_state, tiered-well_formed, is_smooth, counts_in, moves_in, IfSmooth, IsPacedIn, KeepsPace};
 
     ghost state = { λ wheel. tiered_state wheel };
 
-    ghost wakes = { λ layout now pending wake. wake ≡ next_visit (radices_of layout) now pending };
+    ghost wakes = { λ layout now pending wake. is_smooth layout ≡ true
+        → wake ≡ next_visit (radices_of layout) now pending };
 
     ghost keeps = { λ timer. N.keeps (record { timer = timer; rounds = 0 }) };
 
     ghost counts = { λ wheel. counts_in wheel };
 
     ghost count_start = { with_counted_start };
-
-    ghost count_tick = { counts_at_tick };
-
-    ghost count_advance = { counts_at_advance };
 
     fn last_tick(&self) -> u64 {
         self.buckets().last_tick
@@ -213,11 +197,11 @@ impl<N: Kept> Wheel for TieredWheel<N> {
         ensures paced { IfSmooth KeepsPace self.old self.new }
     {
         let place = match self {
-            TieredWheel::Hier(wheel) => {
+            TieredWheel::Lazy(wheel) => {
                 if wheel.is_ready() {
                     return wheel.start(timer);
                 }
-                start_hier(
+                start_lazy(
                     wheel,
                     timer.serial,
                     timer.client,
@@ -248,7 +232,7 @@ impl<N: Kept> Wheel for TieredWheel<N> {
         ensures paced { IfSmooth KeepsPace self.old self.new }
     {
         match self {
-            TieredWheel::Hier(wheel) => wheel.reserve(most),
+            TieredWheel::Lazy(wheel) => wheel.reserve(most),
             TieredWheel::Smooth(wheel) => wheel.reserve(most),
         }
     }
@@ -267,7 +251,7 @@ impl<N: Kept> Wheel for TieredWheel<N> {
     {
         let timer = self.buckets().look(handle)?;
         match self {
-            TieredWheel::Hier(wheel) => {
+            TieredWheel::Lazy(wheel) => {
                 let _removed = wheel.stop(handle);
             }
             TieredWheel::Smooth(wheel) => stop_smooth(wheel, handle),
@@ -296,7 +280,7 @@ impl<N: Kept> Wheel for TieredWheel<N> {
         ensures paced { IfSmooth KeepsPace self.old self.new }
     {
         match self {
-            TieredWheel::Hier(wheel) => wheel.restart(handle, timer),
+            TieredWheel::Lazy(wheel) => wheel.restart(handle, timer),
             TieredWheel::Smooth(wheel) => {
                 let old = wheel.look(handle)?;
                 let place = restart_smooth(wheel, handle, copy_of(timer))?;
@@ -314,7 +298,7 @@ impl<N: Kept> Wheel for TieredWheel<N> {
         requires nothing_due { (tiered_state self.old).due ≡ [] }
         requires before_last { (tiered_state self.old).now < (tiered_state self.old).last_tick }
         ensures ticked { tiered_state self.new ≡ after_tick (tiered_state self.old) }
-        ensures counts { counts_in self.new ≡ counts_at_tick (tiered_state self.old) (counts_in self.old) }
+        ensures counts { counts_in self.new ≡ counts_in self.old }
         ensures at_most { IfSmooth (λ old new. moves_of new ≤ moves_of old + next_moves old) self.old self.new }
         ensures ahead { IfSmooth (λ old new. moves_of new ≤ moves_of old + moves_ahead old) self.old self.new }
         ensures bound { IfSmooth (λ old new. (n : ℕ) → IsPacedFor n old
@@ -326,12 +310,7 @@ impl<N: Kept> Wheel for TieredWheel<N> {
         ensures table { IfSmooth (λ old new. smooth_table new ≡ smooth_table old) self.old self.new }
     {
         match self {
-            TieredWheel::Hier(wheel) => match wheel.table() {
-                // made by tools/facts: ticks of tables
-                Table::Wide => wheel.tick_by(Table::Wide),
-                Table::Clock => wheel.tick_by(Table::Clock),
-                Table::Small => wheel.tick_by(Table::Small),
-            },
+            TieredWheel::Lazy(wheel) => wheel.per_tick(),
             TieredWheel::Smooth(wheel) => {
                 if wheel.is_quiet() {
                     wheel.per_tick();
@@ -348,7 +327,7 @@ impl<N: Kept> Wheel for TieredWheel<N> {
         requires some { 0 < most }
         requires before_last { most ≤ (tiered_state self.old).last_tick - (tiered_state self.old).now }
         ensures advances { Advances most result (tiered_state self.old) (tiered_state self.new) }
-        ensures counts { counts_in self.new ≡ counts_at_advance (tiered_state self.old) (tiered_state self.new) (counts_in self.old) }
+        ensures counts { counts_in self.new ≡ counts_in self.old }
         ensures bound { IfSmooth (λ old new. (n : ℕ) → held_count (smooth_state old) ≤ n → IsPacedFor n old
             → moves_of new ≤ moves_of old + result * tick_bound (smooth_table old) n) self.old self.new }
         ensures counted { IfSmooth (λ old new. moves_of new + wheels_left new ≡ moves_of old + wheels_left old)
@@ -358,37 +337,23 @@ impl<N: Kept> Wheel for TieredWheel<N> {
         ensures table { IfSmooth (λ old new. smooth_table new ≡ smooth_table old) self.old self.new }
     {
         match self {
-            TieredWheel::Hier(wheel) => wheel.advance(most),
+            TieredWheel::Lazy(wheel) => wheel.advance(most),
             TieredWheel::Smooth(wheel) => wheel.advance(most),
         }
     }
 
     fn quiet_until(&self) -> Option<u64> {
         match self {
-            TieredWheel::Hier(wheel) => wheel.quiet_until(),
+            TieredWheel::Lazy(wheel) => wheel.quiet_until(),
             TieredWheel::Smooth(wheel) => tick_of(quiet_smooth(wheel)),
         }
     }
 
     fn next_deadline(&self) -> Option<u64> {
-        let tick = match self {
-            TieredWheel::Hier(wheel) => or_never(wheel.next_deadline()),
-            TieredWheel::Smooth(wheel) => next_smooth(wheel),
-        };
-        tick_of(tick)
-    }
-
-    fn find_next(&mut self) -> Option<u64>
-        ensures first { result ≡ next_deadline (tiered_state self.old).pending }
-        ensures same { tiered_state self.new ≡ tiered_state self.old }
-        ensures counts { counts_in self.new ≡ counts_in self.old }
-        ensures stay { IfSmooth (λ old new. new ≡ old) self.old self.new }
-    {
-        let tick = match self {
-            TieredWheel::Hier(wheel) => or_never(wheel.find_next()),
-            TieredWheel::Smooth(wheel) => next_smooth(wheel),
-        };
-        tick_of(tick)
+        match self {
+            TieredWheel::Lazy(wheel) => wheel.next_deadline(),
+            TieredWheel::Smooth(wheel) => wheel.next_deadline(),
+        }
     }
 
     #[inline(always)]
@@ -401,7 +366,7 @@ impl<N: Kept> Wheel for TieredWheel<N> {
         ensures paced { IfSmooth KeepsPace self.old self.new }
     {
         match self {
-            TieredWheel::Hier(wheel) => wheel.expire(),
+            TieredWheel::Lazy(wheel) => wheel.expire(),
             TieredWheel::Smooth(wheel) => wheel.expire(),
         }
     }
@@ -422,7 +387,7 @@ impl<N: Kept> Wheel for TieredWheel<N> {
         ensures table { IfSmooth (λ old new. smooth_table new ≡ smooth_table old) self.old self.new }
     {
         match self {
-            TieredWheel::Hier(wheel) => wheel.clear(),
+            TieredWheel::Lazy(wheel) => wheel.clear(),
             TieredWheel::Smooth(wheel) => wheel.clear(),
         }
     }
@@ -461,28 +426,28 @@ fn handle_at(place: Option<usize>, serial: u64) -> Result<Handle, OutOfMemory>
 
 /// Starts a timer, and returns its place.
 #[inline(never)]
-fn start_hier<N: Kept>(
-    wheel: &mut HierWheel<N>,
+fn start_lazy<N: Kept>(
+    wheel: &mut LazyWheel<N>,
     serial: u64,
     client: u64,
     number: u64,
     deadline: u64,
     action: u64,
 ) -> Option<usize>
-    requires not_past { (hier_state wheel.old).now ≤ deadline }
-    requires deadline { deadline ≤ (hier_state wheel.old).last_tick }
-    requires fresh { (hier_state wheel.old).last_serial < serial }
+    requires not_past { (lazy_state wheel.old).now ≤ deadline }
+    requires deadline { deadline ≤ (lazy_state wheel.old).last_tick }
+    requires fresh { (lazy_state wheel.old).last_serial < serial }
     requires serial { serial ≤ LAST }
     requires keeps { N.keeps (record {
       timer = record { serial = serial; client = client; number = number; deadline = deadline; action = action };
       rounds = 0;
     }) }
-    ensures started { IfSome result (λ place. hier_state wheel.new
-        ≡ after_held_start place (record { serial = serial; client = client; number = number; deadline = deadline; action = action }) (hier_state wheel.old)) }
-    ensures full { IfNone result ((hier_state wheel.old).room ≤ held_count (hier_state wheel.old)) }
-    ensures err { IfNone result (hier_state wheel.new ≡ hier_state wheel.old) }
-    ensures counts { MatchOption result (counts_of wheel.new ≡ counts_of wheel.old)
-        (λ _. counts_of wheel.new ≡ with_counted_start (counts_of wheel.old)) }
+    ensures started { IfSome result (λ place. lazy_state wheel.new
+        ≡ after_held_start place (record { serial = serial; client = client; number = number; deadline = deadline; action = action }) (lazy_state wheel.old)) }
+    ensures full { IfNone result ((lazy_state wheel.old).room ≤ held_count (lazy_state wheel.old)) }
+    ensures err { IfNone result (lazy_state wheel.new ≡ lazy_state wheel.old) }
+    ensures counts { MatchOption result (lazy_counts wheel.new ≡ lazy_counts wheel.old)
+        (λ _. lazy_counts wheel.new ≡ with_start (lazy_counts wheel.old)) }
 {
     let timer = Timer {
         serial,
@@ -603,14 +568,6 @@ fn tick_smooth<N: Kept>(wheel: &mut SmoothWheel<N>)
     wheel.per_tick();
 }
 
-/// The first pending deadline, or `NEVER`.
-#[inline(never)]
-fn next_smooth<N: Kept>(wheel: &SmoothWheel<N>) -> u64
-    ensures { option_of result ≡ next_deadline (smooth_state wheel.now).pending }
-{
-    or_never(wheel.next_deadline())
-}
-
 /// The next tick to wake up at, or `NEVER`.
 #[inline(never)]
 fn quiet_smooth<N: Kept>(wheel: &SmoothWheel<N>) -> u64
@@ -619,18 +576,6 @@ fn quiet_smooth<N: Kept>(wheel: &SmoothWheel<N>) -> u64
         (smooth_state wheel.now).now (smooth_state wheel.now).pending }
 {
     match wheel.quiet_until() {
-        Some(tick) => tick,
-        None => NEVER,
-    }
-}
-
-/// The tick, or `NEVER` if there is none.
-#[inline(always)]
-fn or_never(tick: Option<u64>) -> u64
-    requires { IfSome tick (λ some. some ≤ LAST) }
-    ensures { option_of result ≡ tick }
-{
-    match tick {
         Some(tick) => tick,
         None => NEVER,
     }

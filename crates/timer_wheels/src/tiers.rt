@@ -20,11 +20,11 @@ pub const SMALL: u32 = 2;
 #[derive(Clone, Copy, Debug, PartialEq, Eq)]
 pub enum Tiers {
     // made by tools/facts: tiers
-    /// A `HierWheel` of `Table::Wide`: ten wheels of 64 slots.
+    /// A `LazyWheel` of `Table::Wide`: ten wheels of 64 slots.
     Wide,
     /// A `SmoothWheel` of `Table::Wide`: as `Wide`, with twice the slots, and a few moves at a tick.
     Smooth,
-    /// A `HierWheel` of `Table::Small`: six wheels of 16 slots.
+    /// A `LazyWheel` of `Table::Small`: six wheels of 16 slots.
     Small,
 }
 

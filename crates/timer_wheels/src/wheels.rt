@@ -1,40 +1,31 @@
-//! A hierarchy of wheels: the buckets of a table of radices, a bit for each bucket that has a timer, and the first
-//! deadline of each bucket.
+//! A hierarchy of wheels: the buckets of a table of radices, and a bit for each bucket that has a timer.
 //!
 //! A call that puts a timer into a bucket sets the bucket's bit, and one that takes the last timer out of it clears it.
 //! The list of due timers is no bucket, and has no bit.
 //! So the clock finds the next bucket with a timer among the bits, and looks at no other (`leap`). One tick is in
-//! `migration`. The first deadline of that bucket is the first of all: once `find_next` asked for it, it is known as
-//! long as the bucket's timers are in order, and else until the last one that is known to have it leaves (`firsts`).
+//! `migration`.
 ghost use Rattle.std.specs.Prelude.{◌≡◌, ◌<◌, ◌≤◌, ◌+◌, [], IfOk, OnErr, IfSome, IfNone, length};
 ghost use Rattle.timer_base.specs.declared.limits.TheConstants.{LAST};
 ghost use Rattle.timer_base.specs.WakeUps.{next_deadline};
 ghost use Rattle.timer_base.specs.WheelState.{empty_wheel, held_at, held_count, old_timer, after_held_start, after_removal, after_replacement, after_tick, after_clear};
 ghost use Rattle.timer_wheels.specs.Buckets.{state_of, IsListOf};
-ghost use Rattle.timer_links.specs.Lists.{list_at};
 ghost use Rattle.timer_wheels.specs.Leap.{list_visit};
-ghost use Rattle.timer_wheels.specs.BucketLists.{row_timers};
-ghost use Rattle.timer_wheels.specs.FirstDeadline.{IsLeast, IsKnownOf};
-ghost use Rattle.timer_wheels.specs.Firsts.{first_at, Keeps};
-ghost use Rattle.timer_wheels.specs.Migration.{first_deadline};
-ghost use Rattle.timer_wheels.specs.declared.table.TheConstants.{MOST_BUCKETS};
 ghost use Rattle.timer_wheels.specs.Digits.{bucket, emptied, slots, last_of, lowest_radix};
 ghost use Rattle.timer_wheels.specs.Tables.{radices};
-ghost use Rattle.timer_wheels.specs.Hier.{IsHier, IsHier-prop, HasFirsts, HasFirsts-prop, Comes, Goes, potential};
+ghost use Rattle.timer_wheels.specs.Hier.{IsHier, IsHier-prop, potential};
 
 use crate::buckets::Buckets;
-use crate::deadlines::{first_in, least_in};
-use crate::firsts::Firsts;
+use crate::deadlines::least_in;
 use crate::migration::empty_bucket;
-use crate::occupied::Occupied;
+use crate::occupied::{Occupied, enter, leave};
 use crate::table::{
     Table, bucket_of, buckets_of, last_tick_of, lowest_slots, visit_of, with_constant_table,
 };
 use std::alloc::Global;
 use timer_base::{Handle, OutOfMemory, Timer};
-use timer_links::{Kept, Links};
+use timer_links::Kept;
 
-/// The buckets of a table, which of them have a timer, and their first deadlines.
+/// The buckets of a table, and which of them have a timer.
 #[derive(Drop)]
 pub struct Wheels<N: Kept = Timer> {
     /// The radices, which no call changes.
@@ -43,10 +34,7 @@ pub struct Wheels<N: Kept = Timer> {
     pub buckets: Buckets<N>,
     /// Which buckets have a timer.
     pub occupied: Occupied,
-    /// The first deadline of each bucket above the lowest wheel.
-    pub firsts: Firsts,
     ghost hier: { IsHier table buckets occupied } by { IsHier-prop table buckets occupied },
-    ghost foretold: { HasFirsts table buckets firsts } by { HasFirsts-prop table buckets firsts },
 }
 
 impl<N: Kept> Wheels<N> {
@@ -63,12 +51,10 @@ impl<N: Kept> Wheels<N> {
     {
         let slots = buckets_of(table);
         let buckets = Buckets::new(alloc, slots, last_tick_of(table), first_tick)?;
-        let firsts = Firsts::new(alloc, slots)?;
         Ok(Wheels {
             table,
             buckets,
             occupied: Occupied::new(),
-            firsts,
         })
     }
 
@@ -80,6 +66,7 @@ impl<N: Kept> Wheels<N> {
         ensures list { IsListOf result self.now.buckets.slots self.now.buckets.tick deadline }
         ensures bucket { self.now.buckets.tick < deadline
             → result ≡ bucket (radices self.now.table) self.now.buckets.tick deadline }
+        ensures in_table { self.now.buckets.tick < deadline → result < slots (radices self.now.table) }
     {
         let buckets = &self.buckets;
         if deadline > buckets.tick {
@@ -105,20 +92,10 @@ impl<N: Kept> Wheels<N> {
         ensures err { OnErr result (state_of self.new.buckets ≡ state_of self.old.buckets) }
         ensures table { self.new.table ≡ self.old.table }
     {
-        // Read before anything is written: so a caller that has asked for the table has no branch on it here.
-        let table = self.table;
         let tick = self.buckets.tick;
         let list = self.list_of(timer.deadline);
         let handle = self.buckets.start(list, timer, 0)?;
-        enter_list(
-            &table,
-            &self.buckets.links,
-            &mut self.occupied,
-            &mut self.firsts,
-            tick,
-            timer.deadline,
-            list,
-        );
+        enter(&mut self.occupied, tick, timer.deadline, list);
         Ok(handle)
     }
 
@@ -132,14 +109,7 @@ impl<N: Kept> Wheels<N> {
     {
         self.buckets.links.lemma_keys_unique();
         let (timer, emptied) = self.buckets.take(handle)?;
-        leave_list(
-            &self.table,
-            &mut self.occupied,
-            &mut self.firsts,
-            &self.buckets.tick,
-            timer.deadline,
-            emptied,
-        );
+        leave(&mut self.occupied, self.buckets.slots, emptied);
         Some(timer)
     }
 
@@ -162,24 +132,8 @@ impl<N: Kept> Wheels<N> {
         let tick = self.buckets.tick;
         let list = self.list_of(timer.deadline);
         let (restarted, emptied) = self.buckets.replace(handle, list, timer, 0)?;
-        let (_made, old) = restarted;
-        leave_list(
-            &self.table,
-            &mut self.occupied,
-            &mut self.firsts,
-            &tick,
-            old.deadline,
-            emptied,
-        );
-        enter_list(
-            &self.table,
-            &self.buckets.links,
-            &mut self.occupied,
-            &mut self.firsts,
-            tick,
-            timer.deadline,
-            list,
-        );
+        leave(&mut self.occupied, self.buckets.slots, emptied);
+        enter(&mut self.occupied, tick, timer.deadline, list);
         Some(restarted)
     }
 
@@ -205,7 +159,6 @@ impl<N: Kept> Wheels<N> {
             self.table,
             &mut buckets.links,
             &mut self.occupied,
-            &mut self.firsts,
             list,
             tick,
         );
@@ -215,40 +168,17 @@ impl<N: Kept> Wheels<N> {
 
     /// The first pending deadline, found in the first bucket with a timer. Does not allocate.
     ///
-    /// A slot of wheel 0 is one tick, and so its deadline needs no walk. Nor does that of a higher wheel, if it is
-    /// known.
+    /// A slot of wheel 0 is one tick, and so its deadline needs no walk.
     pub fn next_deadline(&self) -> Option<u64>
         ensures { result ≡ next_deadline (state_of self.now.buckets).pending }
     {
         let Some(list) = self.occupied.first() else {
             return None;
         };
-        if let Some(visit) = self.lowest_visit(list) {
-            return Some(visit);
-        }
-        match self.known_first(list) {
-            Some(first) => Some(first),
+        match self.lowest_visit(list) {
+            Some(visit) => Some(visit),
             None => least_in(&self.buckets.links, list),
         }
-    }
-
-    /// The first pending deadline, which is known from then on. Does not allocate.
-    pub fn find_next(&mut self) -> Option<u64>
-        ensures first { result ≡ next_deadline (state_of self.old.buckets).pending }
-        ensures buckets { self.new.buckets ≡ self.old.buckets }
-        ensures table { self.new.table ≡ self.old.table }
-    {
-        let Some(list) = self.occupied.first() else {
-            return None;
-        };
-        if let Some(visit) = self.lowest_visit(list) {
-            return Some(visit);
-        }
-        if let Some(first) = self.known_first(list) {
-            return Some(first);
-        }
-        let buckets = &self.buckets;
-        Some(walk_first(&buckets.links, &self.occupied, &mut self.firsts, list))
     }
 
     /// The visit of a bucket of the lowest wheel, which is the deadline of its timers. None if the bucket is one of a higher
@@ -264,16 +194,6 @@ impl<N: Kept> Wheels<N> {
         with_constant_table!(lowest_visit_by(self.table, list, tick))
     }
 
-    /// The first deadline of a bucket above the lowest wheel, if it is known without a walk.
-    #[inline]
-    fn known_first(&self, list: usize) -> Option<u64>
-        requires list { list < self.now.buckets.slots }
-        requires above { lowest_radix (radices self.now.table) ≤ list }
-        ensures { IfSome result (λ d. IsLeast d (row_timers (list_at list self.now.buckets.links.lists))) }
-    {
-        self.firsts.at(list).known(&self.buckets.links, list)
-    }
-
     /// Drops the pending timers. Does not allocate.
     pub fn clear(&mut self)
         ensures cleared { state_of self.new.buckets ≡ after_clear (state_of self.old.buckets) }
@@ -281,34 +201,7 @@ impl<N: Kept> Wheels<N> {
     {
         self.buckets.clear();
         self.occupied = Occupied::new();
-        self.firsts.clear();
     }
-}
-
-/// The first deadline of a bucket that has a timer, found by a walk along it. It is known from then on.
-// Out of line, and no `Option`: so a call that finds it known saves no register.
-#[cold]
-#[inline(never)]
-fn walk_first<N: Kept>(
-    links: &Links<N>,
-    occupied: &Occupied,
-    firsts: &mut Firsts,
-    list: usize,
-) -> u64
-    requires list { list < length links.now.lists }
-    requires some { 0 < length (list_at list links.now.lists) }
-    requires first { list < length firsts.old.items }
-    requires few { length firsts.old.items ≤ MOST_BUCKETS }
-    ensures least { IsLeast result (row_timers (list_at list links.now.lists)) }
-    ensures known { IsKnownOf (first_at list firsts.new) (row_timers (list_at list links.now.lists)) }
-    ensures others { Keeps occupied.now list firsts.old firsts.new }
-{
-    let first = first_in(links, list);
-    firsts.keep(occupied, list, first);
-    let Some(deadline) = first.known(links, list) else {
-        unreachable!()
-    };
-    deadline
 }
 
 /// `lowest_visit` by the wheels' table.
@@ -324,60 +217,5 @@ fn lowest_visit_by(table: Table, list: usize, now: u64) -> Option<u64>
         Some(visit_of(table, list, now))
     } else {
         None
-    }
-}
-
-/// A timer with this deadline came to the back of a list. If that is a bucket, its bit is set, and its first deadline
-/// is kept. What is due has no bit.
-#[inline(always)]
-fn enter_list<N: Kept>(
-    table: &Table,
-    links: &Links<N>,
-    occupied: &mut Occupied,
-    firsts: &mut Firsts,
-    tick: u64,
-    deadline: u64,
-    list: usize,
-)
-    requires list { tick < deadline → list < slots (radices table.now) }
-    requires size { length firsts.old.items ≡ slots (radices table.now) }
-    requires lists { list < length links.now.lists }
-    ensures pending { tick < deadline → Comes (lowest_radix (radices table.now)) list deadline
-        (first_deadline (list_at list links.now.lists)) occupied.old occupied.new firsts.old firsts.new }
-    ensures due { deadline ≤ tick → (occupied.new ≡ occupied.old) × (firsts.new ≡ firsts.old) }
-{
-    if deadline <= tick {
-        return;
-    }
-    occupied.insert(list);
-    firsts.enter(table, links, list, deadline);
-}
-
-/// A timer with this deadline left its list. If that was a bucket, the timer is no longer counted there. If it left
-/// the bucket empty, the bucket's bit is cleared.
-// Table and tick are borrowed, to be read only where they are needed.
-#[inline(always)]
-fn leave_list(
-    table: &Table,
-    occupied: &mut Occupied,
-    firsts: &mut Firsts,
-    tick: &u64,
-    deadline: u64,
-    emptied: Option<usize>,
-)
-    requires deadline { deadline ≤ last_of (radices table.now) }
-    requires size { length firsts.old.items ≡ slots (radices table.now) }
-    requires emptied { tick.now < deadline → IfSome emptied (λ list. list < slots (radices table.now)) }
-    ensures pending { tick.now < deadline → Goes (lowest_radix (radices table.now)) (bucket (radices table.now) tick.now deadline)
-        deadline emptied occupied.old occupied.new firsts.old firsts.new }
-    ensures due { deadline ≤ tick.now → (occupied.new ≡ occupied.old) × (firsts.new ≡ firsts.old) }
-{
-    let Some(list) = emptied else {
-        firsts.leave(table, tick, deadline);
-        return;
-    };
-    if deadline > *tick {
-        occupied.remove(list);
-        firsts.empty(list);
     }
 }

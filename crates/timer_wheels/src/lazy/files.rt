@@ -2,25 +2,22 @@
 //!
 //! A start files a timer in the bucket of its deadline. A push back leaves it there, so a bucket may be visited before the
 //! deadlines of its timers, and never after one.
-ghost use Rattle.std.specs.Prelude.{◌≡◌, ◌⊎◌, ◌<◌, ◌≤◌, ◌≢◌, ◌+◌, ◌-◌, ℕ, [], length, IfOk, IfSome, IfNone, IsTrue, OnOk, OnErr, Some};
+ghost use Rattle.std.specs.Prelude.{◌≡◌, ◌⊎◌, ◌<◌, ◌≤◌, ◌+◌, ◌-◌, ℕ, [], length, IfOk, IfSome, IfNone, IsTrue, OnOk, OnErr, Some};
 ghost use Rattle.timer_base.specs.Layout.{OneWheel};
 ghost use Rattle.timer_base.specs.WakeUps.{next_deadline};
 ghost use Rattle.timer_base.specs.WheelState.{Advances, IsPassing, after_reserve, empty_wheel, held_at, held_count, first_due, old_timer, after_held_start, after_removal, after_replacement, after_tick, after_expiry, after_clear};
 ghost use Rattle.timer_base.specs.declared.limits.TheConstants.{LAST};
 ghost use Rattle.timer_links.specs.Lists.{list_at, SetsNode};
-ghost use Rattle.timer_wheels.specs.Bank.{LeavesBits};
 ghost use Rattle.timer_wheels.specs.Buckets.{state_of, IsListOf};
 ghost use Rattle.timer_wheels.specs.Digits.{bucket, slots};
 ghost use Rattle.timer_wheels.specs.Files.{AreFiles, AreFiles-prop, StaysInPlace, AreVisitedFrom, IsBy};
-ghost use Rattle.timer_wheels.specs.Occupied.{bit_of};
 ghost use Rattle.timer_wheels.specs.SmoothWheel.{PassesSomeTicks};
 ghost use Rattle.timer_wheels.specs.Tables.{radices, slots_of_table, last_of_table};
-ghost use Rattle.timer_wheels.specs.declared.table.TheConstants.{MOST_BUCKETS};
 
 use crate::buckets::Buckets;
 use crate::deadlines::least_in;
 use crate::lazy::filing::{SPARE_LISTS, empty_bucket};
-use crate::occupied::Occupied;
+use crate::occupied::{Occupied, enter, leave};
 use crate::table::{Table, bucket_of, buckets_of, emptied_at, last_tick_of, visit_of};
 use std::alloc::Global;
 use timer_base::{Handle, OutOfMemory, Timer, earlier};
@@ -357,33 +354,6 @@ impl<N: Kept> Files<N> {
     {
         self.buckets.clear();
         self.occupied = Occupied::new();
-    }
-}
-
-/// A timer with this deadline came to the back of a list. If that is a bucket, its bit is set.
-#[inline(always)]
-fn enter(occupied: &mut Occupied, tick: u64, deadline: u64, list: usize)
-    requires { tick < deadline → list < MOST_BUCKETS }
-    ensures pending { tick < deadline
-        → (bit_of occupied.new list ≡ 1) × ((s : ℕ) → s ≢ list → bit_of occupied.new s ≡ bit_of occupied.old s) }
-    ensures due { deadline ≤ tick → occupied.new ≡ occupied.old }
-{
-    if deadline > tick {
-        occupied.insert(list);
-    }
-}
-
-/// A list became empty, if one did: if it is a bucket, its bit is cleared.
-#[inline(always)]
-fn leave(occupied: &mut Occupied, slots: usize, emptied: Option<usize>)
-    requires { IfSome emptied (λ list. list < slots → list < MOST_BUCKETS) }
-    ensures { LeavesBits slots emptied occupied.old occupied.new }
-{
-    let Some(list) = emptied else {
-        return;
-    };
-    if list < slots {
-        occupied.remove(list);
     }
 }
 

@@ -1,10 +1,8 @@
 use Rattle.std.proofs.Common.{◌<◌, ◌+◌, length, refl, sym, ◌∙◌, ap, arith, rules}
 use Rattle.timer_links.specs.Lists.{list_at}
-use Rattle.timer_wheels.specs.Digits.{slots, lowest_radix}
-use Rattle.timer_wheels.specs.Migration.{first_deadline}
+use Rattle.timer_wheels.specs.Digits.{slots}
 use Rattle.timer_wheels.specs.Occupied.{filled}
 use Rattle.timer_wheels.specs.Tables.{radices}
-use Rattle.timer_wheels.proofs.FirstsLemmas.{but_due, but_left, but_ended, none_still}
 use Rattle.timer_wheels.proofs.MigrationLoop.{first_row, next_due, next_left, due_target, left_target, goes_elsewhere, ahead_after, shorter, moves_fit, ended_none}
 use Rattle.timer_wheels.proofs.OccupiedLemmas.{marked_due, marked_left, marked_all}
 use Rattle.timer_wheels.proofs.migration.migrate_one_by_one.Goals as goal
@@ -25,8 +23,6 @@ loop-ahead-preserved-then-deadline-tick g c =
       clear = i.clear;
       marked = marked_due (slots (radices c.args.table)) c.loop-ahead.occupied c.args.list due.result c.loop-ahead.links.lists after
           due.ensures.value m.ensures.moved i.marked;
-      none = i.none;
-      foretold = but_due i.foretold due.result after due.ensures.value m.ensures.moved;
     }
 
 pub loop-ahead-preserved : goal.loop-ahead-preserved
@@ -48,11 +44,6 @@ loop-ahead-preserved g c =
       clear = c.insert.ensures.others c.args.list (λ x. away (sym x)) ∙ i.clear;
       marked = marked_left n c.loop-ahead.occupied c.insert.new.self c.args.list to.result f.row f.rest c.loop-ahead.links.lists after
           to.ensures.in_range inside c.insert.ensures.here c.insert.ensures.others f.at m.ensures.moved i.marked;
-      none = none_still c.args.list to.result (lowest_radix (radices c.args.table)) c.in-Some.deadline
-          (first_deadline (list_at to.result after)) c.loop-ahead.firsts
-          c.enter.new.self c.enter.ensures away i.none;
-      foretold = but_left i.foretold to.result c.in-Some.deadline f.row f.rest after to.ensures.in_range inside away f.at
-          m.ensures.moved c.enter.new.self f.deadline c.enter.ensures;
     }
 
 pub loop-ahead-smaller-then-deadline-tick : goal.loop-ahead-smaller-then-deadline-tick
@@ -78,27 +69,8 @@ overflow_add-moves g c =
     ∙ i.ahead)) (omega (arith, c.lemma_countable.ensures)) in
     search rules
 
-pub enter-requires : goal.enter-requires
-enter-requires g c =
-    let i = c.loop-ahead.invariant in
-    let to = c.bucket_of-to in
-    let f = first_row i.emptying (sym c.in-Some.is ∙ i.ahead) in
-    let m = c.move_front-else-deadline-tick in
-    let next = next_left m.new.self.lists i.emptying f to.result (c.loop-ahead.moves + 1) to.ensures.value c.if-deadline-tick.false
-    m.ensures.moved refl in
-    record {
-      list = rw i.foretold.size to.ensures.in_range;
-      lists = omega (arith, to.ensures.in_range, c.requires.lists, next.has_lists);
-      positive = omega (arith, f.first.not_past, f.deadline, c.if-deadline-tick.false);
-    }
-
 pub returns-clause-marked : goal.returns-clause-marked
 returns-clause-marked g c =
     let i = c.loop-ahead.invariant in
     let z = (ended_none i.emptying (sym c.in_default.is ∙ i.ahead)).emptied in
     marked_all (slots (radices c.args.table)) c.loop-ahead.occupied c.args.list c.loop-ahead.links.lists (i.clear ∙ sym (ap filled z)) i.marked
-
-pub returns-clause-foretold : goal.returns-clause-foretold
-returns-clause-foretold g c =
-    let i = c.loop-ahead.invariant in
-    but_ended i.foretold i.none (ended_none i.emptying (sym c.in_default.is ∙ i.ahead)).emptied

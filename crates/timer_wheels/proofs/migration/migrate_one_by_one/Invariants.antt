@@ -1,7 +1,5 @@
-use Rattle.std.proofs.Common.{◌≡◌, [], length}
-use Rattle.timer_wheels.specs.Digits.{slots, lowest_radix}
-use Rattle.timer_wheels.specs.FirstDeadline.{IsFirstOf}
-use Rattle.timer_wheels.specs.Firsts.{first_at, AreFirstsBut}
+use Rattle.std.proofs.Common.{◌≡◌, length}
+use Rattle.timer_wheels.specs.Digits.{slots}
 use Rattle.timer_wheels.specs.Tables.{radices}
 use Rattle.timer_wheels.specs.Occupied.{bit_of, AreMarkedBut}
 use Rattle.timer_links.specs.Lists.{list_at}
@@ -16,8 +14,6 @@ invariant-loop-ahead g l = record {
   ahead : l.ahead ≡ first_deadline (list_at l.list l.links.lists);
   clear : bit_of l.occupied l.list ≡ 0;
   marked : AreMarkedBut (slots (radices l.table)) l.list l.occupied l.links.lists;
-  none : IsFirstOf (first_at l.list l.firsts) [];
-  foretold : AreFirstsBut l.list (lowest_radix (radices l.table)) (slots (radices l.table)) l.firsts l.links.lists;
 }
 
 abbrev pub decreases-loop-ahead : goal.decreases-loop-ahead

@@ -1,8 +1,6 @@
-use Rattle.std.proofs.Common.{◌+◌, ◌<◌, ℕ, sym, ap, ◌∙◌}
+use Rattle.std.proofs.Common.{◌+◌, ◌<◌, ℕ, ap, ◌∙◌}
 use Rattle.timer_wheels.specs.Types.{WheelState, list_at}
 use Rattle.timer_wheels.specs.Tables.{radices}
-use Rattle.timer_wheels.specs.Digits.{lowest_radix}
-use Rattle.timer_wheels.proofs.FirstsLemmas.{no_firsts}
 use Rattle.timer_links.proofs.NewLinks.{no_rows_at}
 use Rattle.timer_wheels.proofs.HierLemmas.{new_placed}
 use Rattle.timer_wheels.proofs.OccupiedLemmas.{marked_none}
@@ -20,9 +18,6 @@ invariant_of-result g c =
         clock = ap (λ (w : WheelState). w.last_tick) c.in_ok-buckets.ensures.state ∙ c.last_tick_of.ensures.value;
         placed = new_placed (radices c.args.table) b (c.buckets_of-slots.result + 1) c.in_ok-buckets.ensures.lists;
         in_order = ordered-none b.slots b.links.lists empty;
-        marked = marked_none b.slots c.new-3.result b.links.lists c.new-3.ensures empty;
+        marked = marked_none b.slots c.new-2.result b.links.lists c.new-2.ensures empty;
       };
-      foretold = no_firsts (lowest_radix (radices c.args.table)) b.slots c.in_ok-firsts.firsts b.links.lists
-          (c.in_ok-firsts.ensures.size ∙ sym c.in_ok-buckets.ensures.slots)
-          (λ (s : ℕ) (h : s < b.slots). c.in_ok-firsts.ensures.none s (rw (← c.in_ok-buckets.ensures.slots) h)) empty;
     }

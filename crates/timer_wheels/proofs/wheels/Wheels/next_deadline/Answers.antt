@@ -1,4 +1,3 @@
-use Rattle.std.proofs.Common.{Some}
 use Rattle.timer_wheels.proofs.DeadlineLemmas.{none_is_next, first_below, first_is_next, visit_is_next}
 use Rattle.timer_wheels.proofs.wheels.Wheels.next_deadline.Goals as goal
 
@@ -8,13 +7,6 @@ returns-in_default g c = none_is_next c.args.self.now.hier c.in_default.ensures
 pub returns-in-Some-lowest_visit : goal.returns-in-Some-lowest_visit
 returns-in-Some-lowest_visit g c = visit_is_next c.args.self.now.hier c.in-Some.list c.in-Some.ensures c.in-Some-lowest_visit.visit
     c.in-Some-lowest_visit.ensures.some.1 c.in-Some-lowest_visit.ensures.some.0
-
-pub known_first-requires-clause-list : goal.known_first-requires-clause-list
-known_first-requires-clause-list g c = first_below c.args.self.now.hier c.in-Some.list c.in-Some.ensures
-
-pub returns-in-Some-known_first : goal.returns-in-Some-known_first
-returns-in-Some-known_first g c = first_is_next c.args.self.now.hier c.in-Some.list c.in-Some.ensures (Some c.in-Some-known_first.first)
-    c.in-Some-known_first.ensures
 
 pub returns-in-None : goal.returns-in-None
 returns-in-None g c = first_is_next c.args.self.now.hier c.in-Some.list c.in-Some.ensures c.least_in.result c.least_in.ensures

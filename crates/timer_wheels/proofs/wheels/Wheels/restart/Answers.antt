@@ -1,72 +1,56 @@
-use Rattle.std.proofs.Common.{◌≡◌, ◌<◌, refl, subst, sym, ap, ◌∙◌, Some, map}
+use Rattle.std.proofs.Common.{◌≡◌, ◌<◌, refl, sym, ◌∙◌, ap, arith, map, Some}
 use Rattle.timer_base.specs.WheelState.{held_at, old_timer}
-use Rattle.timer_links.specs.Lists.{list_at, with_row, without_key, KeyedLists}
+use Rattle.timer_links.specs.Lists.{without_key}
 use Rattle.timer_wheels.specs.Buckets.{state_of, row_at, replaced}
-use Rattle.timer_wheels.specs.Digits.{lowest_radix}
-use Rattle.timer_wheels.specs.Hier.{Comes}
-use Rattle.timer_wheels.specs.Migration.{first_deadline}
+use Rattle.timer_wheels.specs.Placement.{IsPlaced}
 use Rattle.timer_wheels.specs.Tables.{radices}
+use Rattle.timer_wheels.specs.declared.table.TheConstants.{MOST_BUCKETS}
+use Rattle.timer_wheels.proofs.BitLemmas.{of_emptied, left_marked, come_marked}
+use Rattle.timer_wheels.proofs.BucketLemmas.{each_come, each-without_key}
+use Rattle.timer_wheels.proofs.OrderedLists.{ordered-without_key, ordered-come}
 use Rattle.timer_wheels.proofs.Updates.{removed}
-use Rattle.timer_wheels.proofs.WheelUpdates.{wheels_of, gone_wheels, emptied_in_range, up_to_last, up_to_last_of, in_table, come_wheels, in_slots_of, came_to, framed}
+use Rattle.timer_wheels.proofs.WheelUpdates.{in_word, in_word_of, in_slots}
 use Rattle.timer_wheels.proofs.wheels.Wheels.restart.Goals as goal
 
-pub leave_list-requires : goal.leave_list-requires
-leave_list-requires g c =
+pub leave-requires : goal.leave-requires
+leave-requires g c =
     let w = c.args.self.now in
-    let apart = c.lemma_keys_unique.ensures in
+    let b = w.buckets in
     let r = c.in_ok-restarted in
-    let t = r.restarted.1 in
-    let found : held_at c.args.handle (state_of w.buckets) ≡ Some t =
-    sym c.replace.ensures.old ∙ ap (λ o. old_timer (replaced o)) r.was in
-    let wheels = wheels_of w.hier w.foretold in
-    record {
-      deadline = up_to_last_of w.hier t.deadline (up_to_last wheels w.buckets.sound apart c.args.handle t found);
-      size = w.foretold.size ∙ w.hier.has_slots;
-      emptied = λ later. in_table w.hier r.emptied (emptied_in_range wheels w.buckets.sound apart c.args.handle t found
-          r.emptied r.ensures.emptied later);
-    }
+    let found : held_at c.args.handle (state_of b) ≡ Some r.restarted.1 = sym c.replace.ensures.old ∙ ap (λ o. old_timer (replaced o)) r.was in
+    rw c.replace.ensures.frame.slots (of_emptied b.sound c.args.handle c.lemma_keys_unique.ensures r.restarted.1 found r.emptied
+    r.ensures.emptied (λ l. l < b.slots → l < MOST_BUCKETS) (λ l front row rest k at m. in_word_of w.hier l m))
 
-pub enter_list-requires : goal.enter_list-requires
-enter_list-requires g c =
-    let w = c.args.self.now in
-    let r = c.in_ok-restarted in
-    let found : held_at c.args.handle (state_of w.buckets) ≡ Some r.restarted.1 =
-    sym c.replace.ensures.old ∙ ap (λ o. old_timer (replaced o)) r.was in
-    let key = c.args.handle.place in
-    let to = c.list_of-list in
-    let left = gone_wheels (wheels_of w.hier w.foretold) w.buckets.sound c.lemma_keys_unique.ensures c.args.handle r.restarted.1
-    found r.emptied r.ensures.emptied c.leave_list.new.occupied c.leave_list.new.firsts c.leave_list.ensures.pending
-    c.leave_list.ensures.due in
-    record {
-      list = in_slots_of w.hier to.result w.buckets.tick c.args.timer.deadline to.ensures.list;
-      size = left.foretold.size ∙ w.hier.has_slots;
-      lists = came_to to.result w.buckets.slots w.buckets.tick c.args.timer.deadline (row_at key c.args.timer 0)
-          (map (without_key key) w.buckets.links.lists) c.replace.new.self.links.lists to.ensures.list
-          (removed w.buckets.sound key).has_lists r.ensures.lists;
-    }
+pub enter-requires : goal.enter-requires
+enter-requires g c = λ later. in_word c.args.self.now.table c.list_of-list.result (c.list_of-list.ensures.in_table later)
 
-pub invariant_of-self-3 : goal.invariant_of-self-3
-invariant_of-self-3 g c =
+pub invariant_of-self-2 : goal.invariant_of-self-2
+invariant_of-self-2 g c =
     let w = c.args.self.now in
-    let r = c.in_ok-restarted in
-    let found : held_at c.args.handle (state_of w.buckets) ≡ Some r.restarted.1 =
-    sym c.replace.ensures.old ∙ ap (λ o. old_timer (replaced o)) r.was in
-    let key = c.args.handle.place in
+    let b = w.buckets in
     let to = c.list_of-list in
-    let row = row_at key c.args.timer 0 in
-    let left = gone_wheels (wheels_of w.hier w.foretold) w.buckets.sound c.lemma_keys_unique.ensures c.args.handle r.restarted.1
-    found r.emptied r.ensures.emptied c.leave_list.new.occupied c.leave_list.new.firsts c.leave_list.ensures.pending
-    c.leave_list.ensures.due in
-    let new = c.enter_list.new in
-    let P : KeyedLists → Type 0 = λ lists. w.buckets.tick < c.args.timer.deadline → Comes (lowest_radix (radices w.table)) to.result
-    c.args.timer.deadline (first_deadline (list_at to.result lists)) c.leave_list.new.occupied new.occupied c.leave_list.new.firsts
-    new.firsts in
-    let kept = framed w.hier c.replace.new.self new.occupied new.firsts
-    (with_row to.result row (map (without_key key) w.buckets.links.lists)) c.replace.ensures.frame r.ensures.lists
-    (come_wheels left (removed w.buckets.sound key) to.result row c.requires.fresh refl new.occupied new.firsts to.ensures.list
-    to.ensures.bucket (subst P r.ensures.lists c.enter_list.ensures.pending) c.enter_list.ensures.due) in
-    let h = kept.hier in
+    let list = to.result in
+    let timer = c.args.timer in
+    let handle = c.args.handle in
+    let r = c.in_ok-restarted in
+    let f = c.replace.ensures.frame in
+    let e = r.ensures.lists in
+    let row = row_at handle.place timer 0 in
+    let found : held_at handle (state_of b) ≡ Some r.restarted.1 = sym c.replace.ensures.old ∙ ap (λ o. old_timer (replaced o)) r.was in
+    let rest = removed b.sound handle.place in
+    let left = left_marked b.sound handle c.lemma_keys_unique.ensures r.restarted.1 found r.emptied r.ensures.emptied b.slots (omega arith)
+    (λ l front row rest k at m. m) w.occupied c.leave.new.occupied w.hier.marked (rw (← f.slots) c.leave.ensures) in
     record {
-      hier = record { has_slots = h.has_slots; clock = h.clock; placed = h.placed; in_order = h.in_order; marked = h.marked };
-      foretold = kept.foretold;
+      hier = record {
+        has_slots = f.slots ∙ w.hier.has_slots;
+        clock = f.last_tick ∙ w.hier.clock;
+        placed = rw (f.tick, f.slots, e) (each_come (IsPlaced (radices w.table) b.tick) b.slots b.tick timer.deadline list row
+            (map (without_key handle.place) b.links.lists) rest.has_lists to.ensures.list (λ later. (sym (to.ensures.bucket later), refl))
+            (each-without_key (IsPlaced (radices w.table) b.tick) b.slots handle.place b.links.lists w.hier.placed));
+        in_order = rw (f.slots, e) (ordered-come rest (ordered-without_key b.slots handle.place b.links.lists w.hier.in_order) list row
+            c.requires.fresh to.ensures.list);
+        marked = rw (f.slots, e) (come_marked b.slots b.slots b.tick (map (without_key handle.place) b.links.lists) c.leave.new.occupied
+            c.enter.new.occupied row list timer.deadline (omega arith) left rest.has_lists to.ensures.list
+            (λ later. in_slots w.hier list (to.ensures.in_table later)) c.enter.ensures.pending c.enter.ensures.due);
+      };
     }

@@ -30,7 +30,6 @@ invariant_of-self g c =
         in_order = w.hier.in_order;
         placed = (skipped w.hier c.requires.nothing_due c.args.tick c.requires.later c.requires.not_before).placed;
       };
-      foretold = w.foretold;
     }
 
 pub returns-clause-leaps : goal.returns-clause-leaps

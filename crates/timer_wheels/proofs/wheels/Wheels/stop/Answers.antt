@@ -1,36 +1,40 @@
-use Rattle.std.proofs.Common.{◌≡◌, sym, ap, ◌∙◌, Some, map}
+use Rattle.std.proofs.Common.{◌≡◌, ◌<◌, sym, ◌∙◌, ap, arith, Some}
 use Rattle.timer_base.specs.WheelState.{held_at}
-use Rattle.timer_links.specs.Lists.{without_key}
 use Rattle.timer_wheels.specs.Buckets.{state_of, taken_timer}
-use Rattle.timer_wheels.proofs.WheelUpdates.{wheels_of, gone_wheels, emptied_in_range, up_to_last, up_to_last_of, in_table, framed}
+use Rattle.timer_wheels.specs.Placement.{IsPlaced}
+use Rattle.timer_wheels.specs.Tables.{radices}
+use Rattle.timer_wheels.specs.declared.table.TheConstants.{MOST_BUCKETS}
+use Rattle.timer_wheels.proofs.BitLemmas.{of_emptied, left_marked}
+use Rattle.timer_wheels.proofs.BucketLemmas.{each-without_key}
+use Rattle.timer_wheels.proofs.OrderedLists.{ordered-without_key}
+use Rattle.timer_wheels.proofs.WheelUpdates.{in_word_of}
 use Rattle.timer_wheels.proofs.wheels.Wheels.stop.Goals as goal
 
-pub leave_list-requires : goal.leave_list-requires
-leave_list-requires g c =
+pub leave-requires : goal.leave-requires
+leave-requires g c =
     let w = c.args.self.now in
-    let apart = c.lemma_keys_unique.ensures in
-    let t = c.in_ok-timer.timer in
-    let found : held_at c.args.handle (state_of w.buckets) ≡ Some t = sym c.take.ensures.timer ∙ ap taken_timer c.in_ok-timer.was in
-    let wheels = wheels_of w.hier w.foretold in
-    record {
-      deadline = up_to_last_of w.hier t.deadline (up_to_last wheels w.buckets.sound apart c.args.handle t found);
-      size = w.foretold.size ∙ w.hier.has_slots;
-      emptied = rw c.take.ensures.frame.tick (λ later. in_table w.hier c.in_ok-timer.emptied (emptied_in_range wheels w.buckets.sound apart
-          c.args.handle t found c.in_ok-timer.emptied c.in_ok-timer.ensures.emptied later));
-    }
+    let b = w.buckets in
+    let found : held_at c.args.handle (state_of b) ≡ Some c.in_ok-timer.timer = sym c.take.ensures.timer ∙ ap taken_timer c.in_ok-timer.was in
+    rw c.take.ensures.frame.slots (of_emptied b.sound c.args.handle c.lemma_keys_unique.ensures c.in_ok-timer.timer found c.in_ok-timer.emptied
+    c.in_ok-timer.ensures.emptied (λ l. l < b.slots → l < MOST_BUCKETS) (λ l front row rest k at m. in_word_of w.hier l m))
 
-pub invariant_of-self-3 : goal.invariant_of-self-3
-invariant_of-self-3 g c =
+pub invariant_of-self-2 : goal.invariant_of-self-2
+invariant_of-self-2 g c =
     let w = c.args.self.now in
-    let t = c.in_ok-timer.timer in
-    let found : held_at c.args.handle (state_of w.buckets) ≡ Some t = sym c.take.ensures.timer ∙ ap taken_timer c.in_ok-timer.was in
-    let new = c.leave_list.new in
-    let kept = framed w.hier c.take.new.self new.occupied new.firsts (map (without_key c.args.handle.place) w.buckets.links.lists)
-    c.take.ensures.frame c.in_ok-timer.ensures.lists (gone_wheels (wheels_of w.hier w.foretold) w.buckets.sound
-    c.lemma_keys_unique.ensures c.args.handle t found c.in_ok-timer.emptied c.in_ok-timer.ensures.emptied new.occupied new.firsts
-    (rw (← c.take.ensures.frame.tick) c.leave_list.ensures.pending) (rw (← c.take.ensures.frame.tick) c.leave_list.ensures.due)) in
-    let h = kept.hier in
+    let b = w.buckets in
+    let handle = c.args.handle in
+    let f = c.take.ensures.frame in
+    let e = c.in_ok-timer.ensures.lists in
+    let found : held_at handle (state_of b) ≡ Some c.in_ok-timer.timer = sym c.take.ensures.timer ∙ ap taken_timer c.in_ok-timer.was in
+    let marked = left_marked b.sound handle c.lemma_keys_unique.ensures c.in_ok-timer.timer found c.in_ok-timer.emptied
+    c.in_ok-timer.ensures.emptied b.slots (omega arith) (λ l front row rest k at m. m) w.occupied c.leave.new.occupied w.hier.marked
+    (rw (← f.slots) c.leave.ensures) in
     record {
-      hier = record { has_slots = h.has_slots; clock = h.clock; placed = h.placed; in_order = h.in_order; marked = h.marked };
-      foretold = kept.foretold;
+      hier = record {
+        has_slots = f.slots ∙ w.hier.has_slots;
+        clock = f.last_tick ∙ w.hier.clock;
+        placed = rw (f.tick, f.slots, e) (each-without_key (IsPlaced (radices w.table) b.tick) b.slots handle.place b.links.lists w.hier.placed);
+        in_order = rw (f.slots, e) (ordered-without_key b.slots handle.place b.links.lists w.hier.in_order);
+        marked = rw (f.slots, e) marked;
+      };
     }

@@ -1,7 +1,5 @@
 use Rattle.std.proofs.Common.{ℕ, ap, subst, sym}
 use Rattle.timer_base.specs.WheelState.{with_room}
-use Rattle.timer_wheels.specs.Digits.{lowest_radix}
-use Rattle.timer_wheels.specs.Firsts.{AreFirsts}
 use Rattle.timer_wheels.specs.Occupied.{AreMarked}
 use Rattle.timer_wheels.specs.Tables.{radices}
 use Rattle.timer_wheels.proofs.MigrationTick.{may_migrate_at, all_of_tick_at, next_at}
@@ -13,18 +11,11 @@ empty_bucket-moves-requires-clause-rows g c = may_migrate_at c.args.self.now.hie
 pub empty_bucket-moves-requires-clause-lowest : goal.empty_bucket-moves-requires-clause-lowest
 empty_bucket-moves-requires-clause-lowest g c = all_of_tick_at c.args.self.now.hier c.requires.nothing_due c.requires.before_last c.requires.emptied
 
-pub empty_bucket-moves-requires-clause-foretold : goal.empty_bucket-moves-requires-clause-foretold
-empty_bucket-moves-requires-clause-foretold g c =
-    let w = c.args.self.now in
-    let Q : ℕ → Type 0 = λ k. AreFirsts (lowest_radix (radices w.table)) k w.firsts w.buckets.links.lists in
-    subst Q w.hier.has_slots w.foretold
-
 pub invariant_of-self : goal.invariant_of-self
 invariant_of-self g c =
     let w = c.args.self.now in
     let e = c.empty_bucket-moves in
     let P : ℕ → Type 0 = λ k. AreMarked k e.new.occupied e.new.links.lists in
-    let Q : ℕ → Type 0 = λ k. AreFirsts (lowest_radix (radices w.table)) k e.new.firsts e.new.links.lists in
     record {
       hier = record {
         has_slots = w.hier.has_slots;
@@ -35,7 +26,6 @@ invariant_of-self g c =
             e.ensures.moves).in_order;
         marked = subst P (sym w.hier.has_slots) e.ensures.marked;
       };
-      foretold = subst Q (sym w.hier.has_slots) e.ensures.foretold;
     }
 
 pub invariant_of-buckets : goal.invariant_of-buckets
