@@ -38,19 +38,19 @@ pub ruleset whole_lines = (line_whole, rest_no_line, unread_no_line, emptied)
 
 -- ---- words
 
-word_of_script : (grammar : Grammar) (word : List ℕ) → IsScriptWord word → IsWord grammar word
+pub word_of_script : (grammar : Grammar) (word : List ℕ) → IsScriptWord word → IsWord grammar word
 word_of_script Script word is = is
 word_of_script Stream word is = inl is
 
-no_word_of_script : (grammar : Grammar) (word : List ℕ) → grammar ≡ Script → ¬ (IsScriptWord word) → ¬ (IsWord grammar word)
+pub no_word_of_script : (grammar : Grammar) (word : List ℕ) → grammar ≡ Script → ¬ (IsScriptWord word) → ¬ (IsWord grammar word)
 no_word_of_script grammar word is none = subst (λ g. ¬ (IsWord g word)) (sym is) none
 
-word_of_stream : {A : Type 0} (result : Option A) (grammar : Grammar) (word : List ℕ) → grammar ≡ Stream
+pub word_of_stream : {A : Type 0} (result : Option A) (grammar : Grammar) (word : List ℕ) → grammar ≡ Stream
     → IfSome result (λ _. IsStreamWord word) → IfSome result (λ _. IsWord grammar word)
 word_of_stream None grammar word is some = some
 word_of_stream (Some x) grammar word is some = subst (λ g. IsWord g word) (sym is) (inr some)
 
-no_word_at_all : (grammar : Grammar) (word : List ℕ) → ¬ (IsScriptWord word) → ¬ (IsStreamWord word) → ¬ (IsWord grammar word)
+pub no_word_at_all : (grammar : Grammar) (word : List ℕ) → ¬ (IsScriptWord word) → ¬ (IsStreamWord word) → ¬ (IsWord grammar word)
 no_word_at_all Script word script stream = script
 no_word_at_all Stream word script stream = λ is. elim is [ inl one ↦ script one | inr one ↦ stream one ]
 

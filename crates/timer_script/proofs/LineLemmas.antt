@@ -421,19 +421,19 @@ read_sound Stream bytes rest event e = by_either (line_at bytes) (own_line_at by
     (λ read. let (fits, is) = line_sound bytes rest event read in (in_stream event fits, is))
     (own_sound bytes rest event)
 
-stream_first : (bytes : List ℕ) (x : Event × List ℕ) → Some x ≡ line_at bytes → Some x ≡ stream_at bytes
+pub stream_first : (bytes : List ℕ) (x : Event × List ℕ) → Some x ≡ line_at bytes → Some x ≡ stream_at bytes
 unfolding stream_at
 stream_first bytes x e = ap (λ o. or_else o (own_line_at bytes)) e
 
-stream_second : (bytes : List ℕ) (result : Read Event) → None ≡ line_at bytes → result ≡ own_line_at bytes → result ≡ stream_at bytes
+pub stream_second : (bytes : List ℕ) (result : Read Event) → None ≡ line_at bytes → result ≡ own_line_at bytes → result ≡ stream_at bytes
 unfolding stream_at
 stream_second bytes result none e = e ∙ ap (λ o. or_else o (own_line_at bytes)) none
 
-read_in_script : (grammar : Grammar) (bytes : List ℕ) (result : Read Event) → grammar ≡ Script → result ≡ line_at bytes
+pub read_in_script : (grammar : Grammar) (bytes : List ℕ) (result : Read Event) → grammar ≡ Script → result ≡ line_at bytes
     → result ≡ line_in grammar bytes
 read_in_script grammar bytes result is e = e ∙ ap (λ g. line_in g bytes) (sym is)
 
-read_in_stream : (grammar : Grammar) (bytes : List ℕ) (result : Read Event) → grammar ≡ Stream → result ≡ stream_at bytes
+pub read_in_stream : (grammar : Grammar) (bytes : List ℕ) (result : Read Event) → grammar ≡ Stream → result ≡ stream_at bytes
     → result ≡ line_in grammar bytes
 read_in_stream grammar bytes result is e = e ∙ ap (λ g. line_in g bytes) (sym is)
 

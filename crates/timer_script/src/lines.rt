@@ -332,7 +332,7 @@ pub fn read_stream_line(bytes: &[u8]) -> Option<(Event, &[u8])>
     ensures { read_view (λ e. e) result ≡ stream_at bytes.now }
 {
     match read_line(bytes) {
-        Some(read) => Some(read),
+        Some((event, rest)) => Some((event, rest)),
         None => read_own_line(bytes),
     }
 }
