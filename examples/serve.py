@@ -62,7 +62,7 @@ def main(program, tick):
             # The loop sleeps until there is something to do, and then passes all ticks up to it.
             then = min(at, timers.wakeup or at)
             time.sleep(max(0, begin + then * tick - time.monotonic()))
-            timers.say(f"tick {then - now}")
+            timers.say(f"at {then}")
             now = then
         if what == "send":
             timers.start(TIME_OUT, number)

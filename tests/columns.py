@@ -17,7 +17,8 @@ from formats import FIELDS, LIMITS, WORDS, said  # noqa: E402
 LAST, TICKS = LIMITS["LAST"], LIMITS["MAX_TICKS"]
 FORMS = {word: FIELDS[word] for word in WORDS["script"]}
 LONGEST = max((word + f" {LAST}" * len(fields) for word, fields in FORMS.items()), key=len).encode()
-CHANGED = [f"{line}\n".encode() for line in said("script", "example")] + [b"start 10 1 %d 7\n" % LAST, b"tick %d\n" % TICKS]
+CHANGED = [f"{line}\n".encode() for section in ("script", "stream") for line in said(section, "example")]
+CHANGED += [b"start 10 1 %d 7\n" % LAST, b"tick %d\n" % TICKS]
 CHANGED += [b"tick %d\n" % (TICKS - 1), LONGEST + b"\n", b"\xef\xbb\xbfclose\n", b"tick 3\r\n", b"start 0 1 5 %d\n" % (LAST + 1)]
 BYTES = b"\x00\t\r 0159:/-+aeorstSz\x7f\xef\xff"
 

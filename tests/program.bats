@@ -497,6 +497,23 @@ shown() { gives 0 "show $1" "$2" "$(printf '%s\\n' "${@:3}")"; }
     gives "{BAD}" "check" 'close\ntick 0\nclose\n' "line 2, column 6: $reason\n"
 }
 
+@test "lines of a stream alone are read by serve and show, and bad lines of a script" {
+    local lines='start-at 0 1 65 7\nrestart-at 0 2 1 66 8\nat 66\nat 66\n'
+    for scheme in $schemes; do
+        gives 0 "serve --scheme $scheme" "$lines" 'started 0 1 1 65\nrestarted 0 2 1 2 66\nexpired 66 0 2 8\nend 66 0\n'
+    done
+    gives 0 "serve --wakeups" 'start-at 0 1 11 7\nat 11\nat 11\n' \
+        'started 0 1 1 11\nwakeup 11\nexpired 11 0 1 7\nwakeup never\nwakeup never\nend 11 0\n'
+    gives 0 "show --moves" 'start-at 0 1 65 7\nat 65\nat 65\n' "$(printf %s 'started 0 1 1 65\n  now 0\n  wheel 1 slot 1: 1\n' \
+        '  moved at 64 from wheel 1 slot 1 to wheel 0 slot 1: 1\nexpired 65 0 1 7\n  now 65\n  now 65\nend 65 0\n')"
+    gives "{FAILED}" "play" "$lines" '' 'bad line 1\n'
+    gives "{BAD}" "check" "$lines" \
+        'line 1, column 6: {UnknownWord}\nline 2, column 8: {UnknownWord}\nline 3, column 1: {UnknownWord}\nline 4, column 1: {UnknownWord}\n'
+    gives "{SKIPPED}" "serve --keep-going" 'start-in 0 1 5 7\nstart-\natt 5\nat\n' 'end 0 0\n' "$(printf %s \
+        'bad line 1, column 7: {UnknownWord}\nbad line 2, column 7: {UnknownWord}\nbad line 3, column 3: {UnknownWord}\n' \
+        'bad line 4, column 3: tick: {MissingField}\n')"
+}
+
 # over STATUS ARGUMENTS OUTPUT [ERRORS]: a call that reads nothing of standard input has this status and writes these texts
 over() {
     local left
@@ -563,6 +580,10 @@ over() {
     over "{FAILED}" "serve trace" 'closed 0\n' "timers: trace:2: {UnknownWord} 'strat'\n"
     over "{FAILED}" "show --from 1 trace" 'closed 0\n' "timers: trace:2: {UnknownWord} 'strat'\n"
     over "{BAD}" "check trace" 'line 2, column 3: {UnknownWord}\n'
+    printf 'close\nat x\n' > trace
+    over "{FAILED}" trace '' "timers: trace:2: {UnknownWord} 'at'\n"
+    for call in serve show\ --from\ 1; do over "{FAILED}" "$call trace" 'closed 0\n' "timers: trace:2: tick: {NotANumber} 'x'\n"; done
+    printf 'close\nstrat 0 1 3 7\nclose\n' > trace
     over "{SKIPPED}" "serve --keep-going trace" 'closed 0\nclose refused {Closed}\nend 0 0\n' 'bad line 2, column 3: {UnknownWord}\n'
     wrong() {
         printf '%b' "$1" > trace

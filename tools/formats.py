@@ -49,9 +49,9 @@ def reasons():
 
 
 def fields():
-    """The names of the fields of the lines of a script and of the output, by the words with which they begin."""
+    """The names of the fields of the lines of a script, of a stream and of the output, by the words with which they begin."""
     found = {}
-    for line in said("script", "line") + said("output", "line"):
+    for line in said("script", "line") + said("stream", "line") + said("output", "line"):
         found.setdefault(line.split()[0], [name.lower() for name in re.findall(r"[A-Z]+", line)])
     return found
 
@@ -118,10 +118,12 @@ if __name__ == "__main__":
     rows = (f'row("{name}", {name.upper()}, {last})' for name, last in LASTS.items())
     print("#define EACH_SCHEME(row)", " ".join(rows))
     print("#define TABLES_OF_SCHEMES", ", ".join(rows_of_tables()))
-    forms = (f'{{"{word}", {{{", ".join([*(chr(34) + name + chr(34) for name in FIELDS[word]), "0"])}}}}}' for word in WORDS["script"])
+    lines = [*WORDS["script"], *WORDS["stream"]]
+    forms = (f'{{"{word}", {{{", ".join([*(chr(34) + name + chr(34) for name in FIELDS[word]), "0"])}}}}}' for word in lines)
     print("#define FORMS_OF_A_LINE", ", ".join(forms))
-    print("#define KINDS_OF_A_LINE", ", ".join(map(str.upper, WORDS["script"])))
-    print("#define EACH_FIELD(field)", " ".join(dict.fromkeys(f"field({name})" for word in WORDS["script"] for name in FIELDS[word])))
+    print("#define FORMS_OF_A_SCRIPT", len(WORDS["script"]))
+    print("#define KINDS_OF_A_LINE", ", ".join(word.upper().replace("-", "_") for word in lines))
+    print("#define EACH_FIELD(field)", " ".join(dict.fromkeys(f"field({name})" for word in lines for name in FIELDS[word])))
     for scheme, place in PLACES.items():
         print(f'#define {scheme.upper()}_PLACE "{re.sub("[KS]", "%d", place)}"')
     for name, text in {**REFUSALS, **OF_ANY}.items():

@@ -1,11 +1,16 @@
-/* What is wrong with a line, byte by byte: the first byte with which it can no longer become a line of the script. */
+/* What is wrong with a line, byte by byte: the first byte with which it can no longer become a line of the script or stream. */
 #include "model.h"
 
 #include <stdbool.h>
 #include <string.h>
 
 const struct layout FORMS[] = {FORMS_OF_A_LINE};
-static const size_t COUNT_OF_FORMS = sizeof FORMS / sizeof *FORMS;
+
+/* How many of them are read: a script has those of a stream but for the last. */
+static size_t count_of_forms(enum grammar grammar)
+{
+	return grammar == SCRIPT ? FORMS_OF_A_SCRIPT : sizeof FORMS / sizeof *FORMS;
+}
 
 /* In the order of the page's table. */
 enum reason {
@@ -28,22 +33,22 @@ static enum reason in_no_line(const char *line, size_t len, size_t at)
 	return line[at] == '\r' ? CARRIAGE_RETURN : line[at] == '\t' ? TAB : NONE;
 }
 
-const struct layout *form_of(const char *line, size_t len)
+const struct layout *form_of(enum grammar grammar, const char *line, size_t len)
 {
 	size_t letters = 0;
-	while (letters < len && line[letters] >= 'a' && line[letters] <= 'z')
+	while (letters < len && ((line[letters] >= 'a' && line[letters] <= 'z') || line[letters] == '-'))
 		letters++;
-	for (size_t i = 0; i < COUNT_OF_FORMS; i++)
+	for (size_t i = 0; i < count_of_forms(grammar); i++)
 		if (strlen(FORMS[i].word) == letters && !memcmp(line, FORMS[i].word, letters))
 			return &FORMS[i];
 	return NULL;
 }
 
 /* The line begins with the first bytes of no more than these words. */
-static struct wrong in_word(const char *line, size_t len)
+static struct wrong in_word(enum grammar grammar, const char *line, size_t len)
 {
 	size_t at = 0;
-	for (size_t i = 0; i < COUNT_OF_FORMS; i++) {
+	for (size_t i = 0; i < count_of_forms(grammar); i++) {
 		size_t same = 0;
 		while (same < len && FORMS[i].word[same] && line[same] == FORMS[i].word[same])
 			same++;
@@ -94,11 +99,11 @@ static bool reads_field(const char *line, size_t len, size_t *at, const char *fi
 	return false;
 }
 
-struct wrong diagnose(const char *line, size_t len)
+struct wrong diagnose(enum grammar grammar, const char *line, size_t len)
 {
-	const struct layout *form = form_of(line, len);
+	const struct layout *form = form_of(grammar, line, len);
 	if (!form)
-		return in_word(line, len);
+		return in_word(grammar, line, len);
 	size_t at = strlen(form->word);
 	const char *before = NULL;
 	for (int i = 0;; i++) {

@@ -56,7 +56,7 @@ static uint64_t *value_of(struct event *e, const char *field)
 /* The event of a good line. */
 static struct event event_of(const char *line, size_t len)
 {
-	const struct layout *form = form_of(line, len);
+	const struct layout *form = form_of(STREAM, line, len);
 	struct event e = {.kind = (enum kind)(form - FORMS)};
 	char *at = (char *)line + strlen(form->word);
 	for (int i = 0; form->fields[i]; i++)
@@ -106,22 +106,54 @@ static const char *not_taken(const struct facility *f, const struct event *e)
 	return NULL;
 }
 
-/* Why a request that was taken is refused, or NULL. */
+static bool is_start(const struct event *e)
+{
+	return e->kind == START || e->kind == START_AT;
+}
+
+static bool is_for_a_tick(const struct event *e)
+{
+	return e->kind == START_AT || e->kind == RESTART_AT;
+}
+
+/* How many ticks from now a request's timer expires. */
+static uint64_t ticks_until(const struct facility *f, const struct event *e)
+{
+	if (!is_for_a_tick(e))
+		return e->interval;
+	return e->deadline > f->now ? e->deadline - f->now : 0;
+}
+
+/* Why a request that was taken is refused, or NULL. One for a tick that has passed is, as if it were for the next one. */
 static const char *refused(const struct facility *f, const struct event *e)
 {
-	if (e->kind != START && named(f, e->client, e->serial) == f->len)
+	uint64_t interval = ticks_until(f, e);
+	if (is_for_a_tick(e) && interval == 0)
+		interval = 1;
+	if (!is_start(e) && named(f, e->client, e->serial) == f->len)
 		return NO_SUCH;
 	if (e->kind == STOP)
 		return NULL;
-	if (e->interval == 0)
+	if (interval == 0)
 		return ZERO_INTERVAL;
-	if (e->interval > f->is.last_tick - f->now)
+	if (interval > f->is.last_tick - f->now)
 		return TOO_LATE;
 	if (f->next_serial > LAST)
 		return SERIALS_SPENT;
-	if (e->kind == START && f->len == f->is.capacity)
+	if (is_start(e) && f->len == f->is.capacity)
 		return FULL;
 	return NULL;
+}
+
+/* Adds what expires at the tick, and cuts it. */
+static void expire(struct facility *f, uint64_t tick, struct text *out)
+{
+	size_t due = 0;
+	for (; due < f->len && f->pending[due].deadline <= tick; due++) {
+		const struct timer *t = &f->pending[due];
+		add(out, "expired %" PRIu64 " %" PRIu64 " %" PRIu64 " %" PRIu64 "\n", t->deadline, t->client, t->serial, t->action);
+	}
+	cut(f, 0, due);
 }
 
 static void request(struct facility *f, const struct event *e, struct text *out)
@@ -135,22 +167,24 @@ static void request(struct facility *f, const struct event *e, struct text *out)
 		add(out, "refused %" PRIu64 " %" PRIu64 " %s\n", e->client, e->number, why);
 		return;
 	}
-	bool is_smooth = f->is.scheme == SMOOTH && e->kind != STOP;
-	int wheel = is_smooth ? smooth_wheel(f->now, f->now + e->interval, f->pending, f->len) : 0;
-	if (e->kind != START)
+	uint64_t deadline = f->now + ticks_until(f, e);
+	bool is_smooth = f->is.scheme == SMOOTH && e->kind != STOP && deadline > f->now;
+	int wheel = is_smooth ? smooth_wheel(f->now, deadline, f->pending, f->len) : 0;
+	if (!is_start(e))
 		cut(f, named(f, e->client, e->serial), 1);
 	if (e->kind == STOP) {
 		add(out, "stopped %" PRIu64 " %" PRIu64 " %" PRIu64 "\n", e->client, e->number, e->serial);
 		return;
 	}
-	struct timer timer = {f->next_serial++, e->client, f->now + e->interval, e->action, wheel};
+	struct timer timer = {f->next_serial++, e->client, deadline, e->action, wheel};
 	insert(f, timer);
 	f->counts.starts++;
 	f->counts.moves += is_smooth ? smooth_make_way(f->now, &timer, f->pending, f->len) : 0;
-	add(out, "%s %" PRIu64 " %" PRIu64 " ", e->kind == START ? "started" : "restarted", e->client, e->number);
-	if (e->kind == RESTART)
+	add(out, "%s %" PRIu64 " %" PRIu64 " ", is_start(e) ? "started" : "restarted", e->client, e->number);
+	if (!is_start(e))
 		add(out, "%" PRIu64 " ", e->serial);
 	add(out, "%" PRIu64 " %" PRIu64 "\n", timer.serial, timer.deadline);
+	expire(f, f->now, out);
 }
 
 /* How often a pending timer moves to a lower wheel while the clock passes to this tick. */
@@ -184,17 +218,6 @@ static uint64_t next_stop(const struct facility *f, uint64_t tick)
 		stop = next < stop ? next : stop;
 	}
 	return stop;
-}
-
-/* Adds what expires at the tick, and cuts it. */
-static void expire(struct facility *f, uint64_t tick, struct text *out)
-{
-	size_t due = 0;
-	for (; due < f->len && f->pending[due].deadline <= tick; due++) {
-		const struct timer *t = &f->pending[due];
-		add(out, "expired %" PRIu64 " %" PRIu64 " %" PRIu64 " %" PRIu64 "\n", t->deadline, t->client, t->serial, t->action);
-	}
-	cut(f, 0, due);
 }
 
 /* Passes the ticks of a smooth wheel up to this one. */
@@ -248,6 +271,10 @@ static void one(struct facility *f, const struct event *e, struct text *out)
 {
 	if (e->kind == TICK)
 		ticks(f, e->count, out);
+	else if (e->kind == AT && e->tick > f->now)
+		ticks(f, e->tick - f->now, out);
+	else if (e->kind == AT)
+		return;
 	else if (e->kind == CLOSE)
 		close_all(f, out);
 	else
@@ -269,10 +296,15 @@ static struct answer fault(struct answer answer, enum form form, const char *wha
 	return answer;
 }
 
-/* The report of a bad line. */
-static void report(struct text *text, const char *front, uint64_t n, const char *at, size_t len)
+/* What is read: `play` and `check` read scripts. */
+static enum grammar grammar_of(enum form form)
 {
-	struct wrong wrong = diagnose(at, len);
+	return form == PLAY || form == CHECK ? SCRIPT : STREAM;
+}
+
+/* The report of a bad line. */
+static void report(struct text *text, const char *front, uint64_t n, struct wrong wrong)
+{
 	add(text, "%sline %" PRIu64 ", column %zu: ", front, n, wrong.column);
 	if (wrong.field)
 		add(text, "%s: ", wrong.field);
@@ -296,7 +328,7 @@ static bool lines(struct facility *f, const char *script, size_t len, enum form 
 		const char *feed = memchr(at, '\n', (size_t)(end - at));
 		const char *next = feed ? feed + 1 : end;
 		size_t all = (size_t)(next - at);
-		bool good = !diagnose(at, all).reason;
+		bool good = !diagnose(grammar_of(form), at, all).reason;
 		struct event e = good ? event_of(at, all) : (struct event){0};
 		uint64_t serial = f->next_serial;
 		n++;
@@ -307,9 +339,9 @@ static bool lines(struct facility *f, const char *script, size_t len, enum form 
 		if (good && form == SHOW)
 			show(&answer->output, &f->is, &f->counts, serial, f->now, f->pending, f->len);
 		if (!good && form == CHECK)
-			report(&answer->output, "", n, at, all);
+			report(&answer->output, "", n, diagnose(SCRIPT, at, all));
 		if (!good && goes_on)
-			report(&answer->faults, "bad ", n, at, all < MAX_LINE ? all : MAX_LINE);
+			report(&answer->faults, "bad ", n, diagnose(STREAM, at, all < MAX_LINE ? all : MAX_LINE));
 		if (!good && form != CHECK && !goes_on) {
 			*answer = fault(*answer, form, "bad line", n);
 			return false;

@@ -85,14 +85,17 @@ void show_moves(struct text *text, const struct options *is, uint64_t now, uint6
 void show(struct text *text, const struct options *is, const struct counts *counts, uint64_t serial, uint64_t now,
           const struct timer *pending, size_t len);
 
-/* The lines of a script, in the order of their table: a word, and the names of its fields, at most five. */
+/* Which lines are read. */
+enum grammar { SCRIPT, STREAM };
+
+/* The lines of a stream, in the order of their tables: a word, and the names of its fields, at most five. */
 struct layout {
 	const char *word, *fields[6];
 };
 extern const struct layout FORMS[];
 
 /* The one with whose word a line begins, or NULL. */
-const struct layout *form_of(const char *line, size_t len);
+const struct layout *form_of(enum grammar grammar, const char *line, size_t len);
 
 /* What is wrong with a line: the column, the field, if it is in one, and the reason; none if it is good. */
 struct wrong {
@@ -101,7 +104,7 @@ struct wrong {
 };
 
 /* Of a line with its line feed, if it has one. */
-struct wrong diagnose(const char *line, size_t len);
+struct wrong diagnose(enum grammar grammar, const char *line, size_t len);
 
 /* Plays a script, or does as the form says. A wake-up is the line `wakeup NOW FIRST`, with the present tick and the
  * first deadline, or `wakeup never`. The caller frees both texts. */

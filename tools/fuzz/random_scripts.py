@@ -3,7 +3,7 @@
 random_scripts.py                                        writes a dictionary for afl-fuzz
 
 Most lines are such as a client would send, so that timers start, move, expire and are restarted; one in ten
-is wrong in some way. Each script goes to COMPARE, which plays it with every scheme. A script at which they
+is wrong in some way. One script in four has lines of a stream, too. Each script goes to COMPARE, which plays it with every scheme. A script at which they
 differ is kept in FOLDER, and the run ends with status 1. The last line is 'N scripts, M lines'.
 """
 import math
@@ -42,6 +42,8 @@ class Script:
         self.chance = random.Random(seed)
         self.clients = [Client(self.chance) for _ in range(self.chance.choice([1, 2, 2, 5, MOST]))]
         self.serial = 1
+        self.now = 0
+        self.is_stream = self.chance.random() < 0.25
         self.scale = self.chance.choice([4, 64, 300, 5000, 300000])
         self.lines = []
 
@@ -49,6 +51,10 @@ class Script:
         if self.chance.random() < 0.1:
             return self.chance.choice(EDGES)
         return self.chance.randint(1, self.scale)
+
+    def tick(self):
+        """One to come, if the clock began at 0 and no tick was refused, or one that has passed."""
+        return min(LAST, max(0, self.now + self.chance.choice([1, 1, 1, -1]) * self.interval()))
 
     def number(self, client):
         if self.chance.random() < 0.03:
@@ -70,11 +76,24 @@ class Script:
         if self.chance.random() < 0.02:
             c = self.chance.choice([2, MOST - 1, MOST, LAST])
         word = self.chance.choices(list(REQUESTS), REQUESTS.values())[0]
+        makes_timer = "interval" in FIELDS[word]
+        if makes_timer and self.is_stream and self.chance.random() < 0.5:
+            word += "-at"
         number, action = self.number(client), self.chance.randint(0, 9)
-        self.add(word, client=c, number=number, serial=self.old(client), interval=self.interval(), action=action)
-        if "interval" in FIELDS[word]:
+        self.add(word, client=c, number=number, serial=self.old(client), interval=self.interval(), deadline=self.tick(), action=action)
+        if makes_timer:
             client.serials.append(self.serial)
             self.serial += 1
+
+    def pass_ticks(self):
+        if self.is_stream and self.chance.random() < 0.5:
+            tick = self.tick()
+            self.add("at", tick=tick)
+            self.now = max(self.now, tick)
+        else:
+            word, count = self.chance.choice(OTHERS), min(TICKS, max(1, self.interval()))
+            self.add(word, **dict.fromkeys(FIELDS[word], count))
+            self.now += count
 
     def text(self):
         length = self.chance.choice([3, 10, 40, 200, 1500])
@@ -83,8 +102,7 @@ class Script:
             if kind < 0.8:
                 self.request()
             elif kind < 0.999:
-                word = self.chance.choice(OTHERS)
-                self.add(word, **dict.fromkeys(FIELDS[word], min(TICKS, max(1, self.interval()))))
+                self.pass_ticks()
             else:
                 self.add(CLOSE)
         if self.chance.random() < 0.1:
@@ -101,8 +119,8 @@ class Script:
 
 def dictionary():
     """What afl-fuzz puts into scripts: parts of lines, and numbers."""
-    lines = [f"{line}\\x0a" for line in said("script", "example")]
-    words = [f"{word} " for word in WORDS["script"] if FIELDS[word]]
+    lines = [f"{line}\\x0a" for section in ("script", "stream") for line in said(section, "example")]
+    words = [f"{word} " for word in [*WORDS["script"], *WORDS["stream"]] if FIELDS[word]]
     for token in [*words, *lines, "\\x0a", " ", "00", *EDGES, LAST + 1, 2**64 - 1, 2**64]:
         print(f'"{token}"')
 

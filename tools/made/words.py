@@ -16,9 +16,9 @@ def arms(indent, variants, section, quote):
         yield f"{indent}{pattern} => {quote}{named(fact['word'])}\","
 
 
-def lines_in_help():
-    """The lines of a script, and beside each what it does, in 87 columns."""
-    for fact in WORDS["script"].values():
+def lines_in_help(section):
+    """The lines of a script or of a stream alone, and beside each what it does, in 87 columns."""
+    for fact in WORDS[section].values():
         front = f"  {fact['line']}"
         if len(front) > 37:
             yield front
@@ -26,24 +26,33 @@ def lines_in_help():
         yield from wrapped(named(fact["help"]), 87, f"{front:39}", " " * 39)
 
 
+def constant(word):
+    """The name of the constant of a word."""
+    return word.upper().replace("-", "_")
+
+
+def words_of_lines(section):
+    return (f"        b\"{word}\" => Some(&{constant(word)})," for word in WORDS[section])
+
+
 def fields_of_lines():
-    """The fields of the lines of a script, as `rt fmt` lays out arrays."""
-    for word in WORDS["script"]:
+    """The fields of the lines of a script and of a stream, as `rt fmt` lays out arrays."""
+    for word in [*WORDS["script"], *WORDS["stream"]]:
         fields = [f"Field::{name.capitalize()}" for name in FIELDS[word]]
-        front = f"static {word.upper()}: [Field; {len(fields)}] = ["
+        front = f"static {constant(word)}: [Field; {len(fields)}] = ["
         whole, parts = f"{front}{', '.join(fields)}];", [front, *(f"    {name}," for name in fields), "];"]
         yield from (f"/// The fields of `{word}`.", *([whole] if len(whole) <= 100 else parts), "")
 
 
-def known_words():
+def known_words(section):
     """The length of what a line shares with a word, of the word that shares the most."""
-    for at, word in enumerate(WORDS["script"]):
+    for at, word in enumerate(WORDS[section]):
         yield f"    common_len(line, b\"{word}\")" if at == 0 else f"        .max(common_len(line, b\"{word}\"))"
 
 
-def errors_of_fields():
-    """Lines that end with an error, of each kind in each field of a line of a script, and what `check` says of each."""
-    for word in WORDS["script"]:
+def errors_of_fields(section):
+    """Lines that end with an error, of each kind in each field of a line of a section, and what `check` would say of each."""
+    for word in WORDS[section]:
         for at, field in enumerate(FIELDS[word]):
             most, zero, below, above = LIMITS["LAST"], "00", "LeadingZero", "OutOfRange"
             if field == "count":
@@ -54,11 +63,16 @@ def errors_of_fields():
 
 
 LISTS = {
-    "words of lines": lambda: (f"        b\"{word}\" => Some(&{word.upper()})," for word in WORDS["script"]),
-    "known words": known_words,
+    "words of lines": lambda: words_of_lines("script"),
+    "words of lines of a stream": lambda: words_of_lines("stream"),
+    "known words": lambda: known_words("script"),
+    "known words of a stream": lambda: known_words("stream"),
     "fields of lines": fields_of_lines,
-    "lines with errors of fields": lambda: (line for line, _ in errors_of_fields()),
-    "errors of fields": lambda: (f"line {number}, {said}" for number, (_, said) in enumerate(errors_of_fields(), start=1)),
+    "lines with errors of fields": lambda: (line for line, _ in errors_of_fields("script")),
+    "errors of fields": lambda: (f"line {number}, {said}" for number, (_, said) in enumerate(errors_of_fields("script"), start=1)),
+    "lines of a stream with errors of fields": lambda: (line for line, _ in errors_of_fields("stream")),
+    "errors of fields of a stream": lambda: (
+        f"bad line {number}, {said}" for number, (_, said) in enumerate(errors_of_fields("stream"), start=1)),
     "words of check": lambda: arms(" " * 12, "LineReason", "check", '"'),
     "words of refusals": lambda: arms(" " * 8, "Reason", "refused", 'b"'),
     "words of requests that are not taken": lambda: arms(" " * 8, "NotTaken", "not_taken", 'b"'),
@@ -69,8 +83,10 @@ LISTS = {
         ["Reason", "The request was taken and used up its number; nothing else changed"],
         ([f"`{fact['word']}`", f"{fact['of']}: {fact['when']}"] for fact in WORDS["refused"].values())),
     "reasons of check": lambda: markdown(["Reason", "What is at the column"], rows_of("check", "word", "means")),
-    "lines in the help": lines_in_help,
+    "lines in the help": lambda: lines_in_help("script"),
+    "lines of a stream in the help": lambda: lines_in_help("stream"),
     "lines of a script": lambda: markdown(["Line", "Meaning", "Example"], rows_of("script", "line", "means", "example")),
+    "lines of a stream alone": lambda: markdown(["Line", "Meaning", "Example"], rows_of("stream", "line", "means", "example")),
     "lines of the output": lambda: markdown(["Line", "When", "Example"], rows_of("output", "line", "when", "example")),
     "errors": lambda: markdown(["Line", "When"], rows_of("errors", "line", "when")),
 }

@@ -203,12 +203,14 @@ runs-bare s t ps qs e f n =
 
 singles_of-bare : (s : FacilityState) (event : Event) → singles_of (bare_state s) event ≡ singles_of s event
 singles_of-bare s (Events.Ticks count) = refl
+singles_of-bare s (Events.TicksTo tick) = refl
 singles_of-bare s event = refl
 
 ruleset names = (recursion_from_All, All-replicate)
 
 singles_name : (s : FacilityState) (event : Event) → AllByRecursion NamesBySerial (singles_of s event)
 singles_name s (Events.Ticks count) = search names
+singles_name s (Events.TicksTo tick) = search names
 singles_name s event = search names
 
 -- the single events that two places of one list make are the same, and name their timers by serial

@@ -2,7 +2,7 @@
 use Rattle.std.specs.Prelude.{◌≡◌, ℕ, ◌+◌, ◌-◌, min, if◌then◌else◌, false, List, [], ◌∷◌, ◌++◌, length, map, take, replicate}
 use Rattle.timer_facility.specs.Types.{Event, Out}
 use Rattle.timer_facility.specs.declared.event.Event.TheVariants as Events
-use Rattle.timer_facility.specs.State.{FacilityState, After, BySerial, Start, Stop, Restart, SingleEvent, Asked, Tick, Close}
+use Rattle.timer_facility.specs.State.{FacilityState, After, At, BySerial, Start, Stop, Restart, SingleEvent, Asked, Tick, Close}
 use Rattle.timer_facility.specs.Step.{step}
 use Rattle.timer_facility.specs.Run.{PlacedEvent, history, state_after, run, notices}
 use Rattle.timer_facility.specs.Owed.{owed}
@@ -12,14 +12,23 @@ use Rattle.timer_facility.specs.Facility.{MakesTimer}
 abbrev pub ticks_left : FacilityState → ℕ
 ticks_left s = if s.is_closed then 0 else s.last - s.now
 
--- the single events that an event stands for: ticks are cut after the first refused one
+-- so many ticks, cut after the first refused one
+abbrev pub ticks_of : FacilityState → ℕ → List SingleEvent
+ticks_of s count = replicate (min count (ticks_left s + 1)) Tick
+
+-- the single events that an event stands for; ticks up to a tick are those that are left until it, none if it is reached
 abbrev pub singles_of : FacilityState → Event → List SingleEvent
 singles_of s (Events.Start client number interval action) =
     Asked client number (Start (After interval) action) ∷ []
+singles_of s (Events.StartAt client number deadline action) =
+    Asked client number (Start (At deadline) action) ∷ []
 singles_of s (Events.Stop client number serial) = Asked client number (Stop (BySerial serial)) ∷ []
 singles_of s (Events.Restart client number serial interval action) =
     Asked client number (Restart (BySerial serial) (After interval) action) ∷ []
-singles_of s (Events.Ticks count) = replicate (min count (ticks_left s + 1)) Tick
+singles_of s (Events.RestartAt client number serial deadline action) =
+    Asked client number (Restart (BySerial serial) (At deadline) action) ∷ []
+singles_of s (Events.Ticks count) = ticks_of s count
+singles_of s (Events.TicksTo tick) = ticks_of s (tick - s.now)
 singles_of s Events.Close = Close ∷ []
 
 -- the single events of these events, each with some place
@@ -59,16 +68,22 @@ pub record AddsRun (s : FacilityState) (event : Event) (before outs : List Out)
   pub appended : outs ≡ before ++ more
   pub runs : IsRun s (event ∷ []) more after
 
--- the most outs of an event
+-- the most outs of an event: a timer that is due at once comes out after the answer
 abbrev pub most_outs : FacilityState → Event → ℕ
+most_outs s (Events.StartAt client number deadline action) = 2
+most_outs s (Events.RestartAt client number serial deadline action) = 2
 most_outs s (Events.Ticks count) = length s.pending + 1
+most_outs s (Events.TicksTo tick) = length s.pending + 1
 most_outs s Events.Close = length s.pending + 1
 most_outs s event = 1
 
 -- the event may take memory for more than its outs: a timer that it makes, or a close without a reserve
 abbrev pub TakesMemory : FacilityState → Event → Type 0
 TakesMemory s (Events.Start client number interval action) = MakesTimer s client number (Start (After interval) action)
+TakesMemory s (Events.StartAt client number deadline action) = MakesTimer s client number (Start (At deadline) action)
 TakesMemory s (Events.Restart client number serial interval action) =
     MakesTimer s client number (Restart (BySerial serial) (After interval) action)
+TakesMemory s (Events.RestartAt client number serial deadline action) =
+    MakesTimer s client number (Restart (BySerial serial) (At deadline) action)
 TakesMemory s Events.Close = s.has_room ≡ false
 TakesMemory s event = ⊥

@@ -1,4 +1,4 @@
-//! What a player plays, and the outs that it returns.
+//! What a player plays, and what it returns: outs, and where it stopped.
 use crate::request::{Answer, NotTaken, Notice, TickFault};
 
 /// One event of a list that is played. A stop or a restart names its timer by serial.
@@ -9,6 +9,13 @@ pub enum Event {
         client: u64,
         number: u64,
         interval: u64,
+        action: u64,
+    },
+    /// The client's request, under this number, to start a timer that expires at the tick `deadline`.
+    StartAt {
+        client: u64,
+        number: u64,
+        deadline: u64,
         action: u64,
     },
     /// The client's request, under this number, to stop the timer with this serial.
@@ -26,9 +33,21 @@ pub enum Event {
         interval: u64,
         action: u64,
     },
+    /// As `Restart`, and the other timer expires at the tick `deadline`.
+    RestartAt {
+        client: u64,
+        number: u64,
+        serial: u64,
+        deadline: u64,
+        action: u64,
+    },
     /// `count` ticks, one after another, up to the first that is refused.
     Ticks {
         count: u64,
+    },
+    /// As many ticks as are left until this one, none if it is reached: so it may be played again.
+    TicksTo {
+        tick: u64,
     },
     /// The close.
     Close,
@@ -59,4 +78,13 @@ pub enum Out {
     },
     /// A close was refused: the facility was closed already.
     CloseRefused,
+}
+
+/// What was played before memory ran out. The event after it changed nothing.
+#[derive(Debug, Drop)]
+pub struct PlayStop {
+    /// How many events were played.
+    pub done: usize,
+    /// Their outs.
+    pub outs: Vec<Out>,
 }

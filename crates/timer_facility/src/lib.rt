@@ -11,13 +11,14 @@
 mod config;
 mod event;
 mod facility;
+mod handing_out;
 mod handles;
 pub mod laws;
 mod player;
 mod request;
 
 pub use config::{Checked, Config, ConfigFault, MAX_CLIENTS, MAX_PENDING};
-pub use event::{Event, Out};
+pub use event::{Event, Out, PlayStop};
 pub use facility::Facility;
-pub use player::{PlayStop, Player};
+pub use player::Player;
 pub use request::{Answer, CloseFault, NotTaken, Notice, Reason, Request, TickFault};

@@ -3,29 +3,20 @@
 //! Memory for all that an event can produce is reserved before the event: one out for a request, a handle for one that
 //! makes a timer, and one notice for each pending timer. After that only the facility's own call can fail,
 //! which then has changed nothing. So an event is played whole or not at all.
-ghost use Rattle.std.specs.Prelude.{◌≡◌, ◌<◌, ◌≤◌, ◌⊎◌, ◌+◌, ◌*◌, ◌++◌, ◌∷◌, false, [], None, length, map, take, IfSome, IfOk, IfErr, OnErr, OnOk, vec_len, vec_capacity};
-ghost use Rattle.timer_facility.specs.State.{FacilityState, IsSound, Close};
-ghost use Rattle.timer_facility.specs.Facility.{with_nothing_waiting, event_of_request, model_of, is_for_a_tick, MakesTimer};
+ghost use Rattle.std.specs.Prelude.{◌≡◌, ◌<◌, ◌≤◌, ◌⊎◌, ◌+◌, ◌*◌, ◌∷◌, false, [], length, take, IfSome, IfOk, IfErr, OnErr, OnOk, vec_len, vec_capacity};
+ghost use Rattle.timer_facility.specs.Facility.{event_of_request, model_of, is_for_a_tick, MakesTimer};
 ghost use Rattle.timer_facility.specs.Played.{IsPlayed, MakesStep, AddsRun, most_outs, TakesMemory};
-ghost use Rattle.timer_facility.specs.Handles.{HandleList, AreRecorded};
+ghost use Rattle.timer_facility.specs.Handles.{AreRecorded};
 ghost use Rattle.timer_facility.specs.Types.{SPARE};
 
-use crate::event::{Event, Out};
+use crate::event::{Event, Out, PlayStop};
 use crate::facility::Facility;
+use crate::handing_out::{hand_out, make_room, pass_ticks};
 use crate::handles::Handles;
 use crate::request::{CloseFault, NotTaken, Request};
 use std::alloc::Global;
 use std::marker::Model;
 use timer_base::{Handle, OutOfMemory, Wheel};
-
-/// What was played before memory ran out. The event after it changed nothing.
-#[derive(Debug, Drop)]
-pub struct PlayStop {
-    /// How many events were played.
-    pub done: usize,
-    /// Their outs.
-    pub outs: Vec<Out>,
-}
 
 /// A facility whose events are played from lists.
 ///
@@ -124,6 +115,12 @@ impl<W: Wheel + Drop> Player<W> {
                 outs.push_reserved(out);
                 Ok(())
             }
+            Event::StartAt {
+                client,
+                number,
+                deadline,
+                action,
+            } => self.play_for_a_tick(client, number, Request::StartAt { deadline, action }, outs),
             Event::Stop {
                 client,
                 number,
@@ -146,7 +143,15 @@ impl<W: Wheel + Drop> Player<W> {
                 outs.push_reserved(out);
                 Ok(())
             }
+            Event::RestartAt {
+                client,
+                number,
+                serial,
+                deadline,
+                action,
+            } => self.play_restart_at(client, number, serial, deadline, action, outs),
             Event::Ticks { count } => self.play_ticks(count, outs),
+            Event::TicksTo { tick } => self.play_ticks_to(tick, outs),
             Event::Close => self.play_close(outs),
         }
     }
@@ -272,6 +277,87 @@ impl<W: Wheel + Drop> Player<W> {
         }
     }
 
+    /// Plays a restart by deadline.
+    fn play_restart_at(
+        &mut self,
+        client: u64,
+        number: u64,
+        serial: u64,
+        deadline: u64,
+        action: u64,
+        outs: &mut Vec<Out>,
+    ) -> Result<(), OutOfMemory>
+        ensures ok { OnOk result (AddsRun self.old (Event.RestartAt client number serial deadline action)
+            outs.old.items outs.new.items self.new) }
+        ensures state { OnErr result (self.new ≡ self.old) }
+        ensures outs { OnErr result (outs.new.items ≡ outs.old.items) }
+        ensures memory { OnErr result ((vec_capacity outs.old < vec_len outs.old + 2)
+            ⊎ TakesMemory self.old (Event.RestartAt client number serial deadline action)) }
+    {
+        let handle = self.handles.handle_of(serial);
+        let request = Request::RestartAt {
+            handle,
+            deadline,
+            action,
+        };
+        self.play_for_a_tick(client, number, request, outs)
+    }
+
+    /// Plays a request for a tick, and keeps the handle of the timer that it makes. If the tick has passed, the
+    /// timer's notice follows the answer.
+    fn play_for_a_tick(
+        &mut self,
+        client: u64,
+        number: u64,
+        request: Request,
+        outs: &mut Vec<Out>,
+    ) -> Result<(), OutOfMemory>
+        ensures ok { OnOk result (MakesStep self.old (event_of_request client number request)
+            outs.old.items outs.new.items self.new) }
+        ensures state { OnErr result (self.new ≡ self.old) }
+        ensures outs { OnErr result (outs.new.items ≡ outs.old.items) }
+        ensures memory { OnErr result ((vec_capacity outs.old < vec_len outs.old + 2)
+            ⊎ MakesTimer self.old client number (model_of request)) }
+    {
+        outs.reserve(2)?;
+        self.handles
+            .make_room(&self.facility, client, number, request)?;
+        match self.facility.take(client, number, request) {
+            Ok(answer) => {
+                self.handles.record(answer);
+                outs.push_reserved(Out::Answered {
+                    client,
+                    number,
+                    answer,
+                });
+                hand_out(&mut self.facility, outs);
+                self.handles.forget(&self.facility);
+                Ok(())
+            }
+            Err(NotTaken::OutOfMemory) => Err(OutOfMemory),
+            Err(reason) => {
+                outs.push_reserved(Out::NotTaken {
+                    client,
+                    number,
+                    reason,
+                });
+                Ok(())
+            }
+        }
+    }
+
+    /// Plays the ticks that are left until a tick, up to the first that is refused.
+    fn play_ticks_to(&mut self, tick: u64, outs: &mut Vec<Out>) -> Result<(), OutOfMemory>
+        ensures ok { OnOk result (AddsRun self.old
+            (Event.TicksTo tick) outs.old.items outs.new.items self.new) }
+        ensures state { OnErr result (self.new ≡ self.old) }
+        ensures outs { OnErr result (outs.new.items ≡ outs.old.items) }
+        ensures memory { OnErr result (vec_capacity outs.old < vec_len outs.old + (length self.old.pending + 1)) }
+    {
+        let left = tick.saturating_sub(self.facility.now());
+        self.play_ticks(left, outs)
+    }
+
     /// Plays `count` ticks, up to the first that is refused.
     fn play_ticks(&mut self, count: u64, outs: &mut Vec<Out>) -> Result<(), OutOfMemory>
         ensures ok { OnOk result (AddsRun self.old
@@ -308,60 +394,5 @@ impl<W: Wheel + Drop> Player<W> {
             }
             Err(CloseFault::OutOfMemory) => Err(OutOfMemory),
         }
-    }
-}
-
-/// Reserves room for one out and for a notice of each pending timer. Ticks and a close produce no more.
-fn make_room<W: Wheel + Drop>(
-    facility: &Facility<W>,
-    outs: &mut Vec<Out>,
-) -> Result<(), OutOfMemory>
-    ensures items { outs.new.items ≡ outs.old.items }
-    ensures room { OnOk result (vec_len outs.new + length facility.now.state.pending
-        < vec_capacity outs.new) }
-    ensures memory { OnErr result (vec_capacity outs.old
-        < vec_len outs.old + (length facility.now.state.pending + 1)) }
-    ensures sound { IsSound facility.now.state }
-{
-    outs.reserve(facility.pending() + 1)?;
-    Ok(())
-}
-
-/// Passes `count` ticks, up to the first that is refused, each with its notices. Room for them was reserved.
-fn pass_ticks<W: Wheel + Drop>(facility: &mut Facility<W>, count: u64, outs: &mut Vec<Out>)
-    requires sound { IsSound facility.old.state }
-    requires waiting { facility.old.waiting ≡ [] }
-    requires room { vec_len outs.old + length facility.old.state.pending < vec_capacity outs.old }
-    ensures run { AddsRun facility.old.state (Event.Ticks count) outs.old.items outs.new.items
-        facility.new.state }
-    ensures waiting { facility.new.waiting ≡ [] }
-    ensures handles { (handles : HandleList) → AreRecorded handles facility.old.state
-        → AreRecorded handles facility.new.state }
-{
-    let mut left = count;
-    while left > 0 {
-        match facility.ticks(left) {
-            Ok(passed) => {
-                hand_out(facility, outs);
-                left -= passed;
-            }
-            Err(fault) => {
-                outs.push_reserved(Out::TickRefused(fault));
-                return;
-            }
-        }
-    }
-}
-
-/// Hands out every timer that waits. Room for the notices was reserved.
-fn hand_out<W: Wheel + Drop>(facility: &mut Facility<W>, outs: &mut Vec<Out>)
-    requires { vec_len outs.old + length facility.old.waiting ≤ vec_capacity outs.old }
-    ensures facility { facility.new ≡ with_nothing_waiting facility.old.state }
-    ensures outs { outs.new.items ≡ outs.old.items ++ map (λ notice. Out.Notice notice) facility.old.waiting }
-    ensures len { vec_len outs.new ≡ vec_len outs.old + length facility.old.waiting }
-    ensures capacity { vec_capacity outs.new ≡ vec_capacity outs.old }
-{
-    while let Some(notice) = facility.next_out() {
-        outs.push_reserved(Out::Notice(notice));
     }
 }

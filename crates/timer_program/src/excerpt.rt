@@ -2,7 +2,7 @@
 //! `play`, `serve` and `show` keep no line that they read.
 use std::alloc::{AllocError, Global};
 use std::io::{Read, Seek};
-use timer_script::{LineFault, LineReason, fault_in_line};
+use timer_script::{Grammar, LineFault, LineReason, fault_in_line};
 
 /// How many bytes are read at a time.
 const PIECE: usize = 4096;
@@ -42,9 +42,9 @@ pub fn read_line_again<O: Read + Seek>(alloc: Global, file: &mut O, line: u64) -
 }
 
 /// What is wrong with a line: the field, the reason, and what is there if it can be shown. None if memory runs out.
-pub fn reason_of(alloc: Global, line: &[u8]) -> Option<Vec<u8>> {
+pub fn reason_of(alloc: Global, grammar: Grammar, line: &[u8]) -> Option<Vec<u8>> {
     // Who wrote to the file in the meantime may have made the line good.
-    let fault = fault_in_line(line)?;
+    let fault = fault_in_line(grammar, line)?;
     let mut reason = Vec::new(alloc);
     if push_reason(&mut reason, fault).is_err() || push_field(&mut reason, line, fault).is_err() {
         return None;

@@ -97,6 +97,14 @@ is reported. A last line without its line feed is a bad line. With `--keep-going
 stream continues after a bad line. Each one is reported, as `bad` and what `check` says
 of it, and skipped. The others are answered, and the exit status is 1 at the end.
 
+A stream has three more:
+  at TICK                              advances the clock to TICK, if that is later
+  start-at CLIENT NUMBER DEADLINE ACTION
+                                       as start, and the timer expires at DEADLINE
+  restart-at CLIENT NUMBER SERIAL DEADLINE ACTION
+                                       as restart, and the timer expires at DEADLINE
+A timer whose deadline has passed expires at once.
+
 With `--wakeups` the answers to each line are followed by `wakeup TICK`: no timer expires
 before that tick. The line is `wakeup never` if no timer is pending.
 

@@ -19,7 +19,7 @@ use std::alloc::Global;
 use std::io::{Read, Seek, Write};
 use std::mem;
 use timer_commands::{Ending, Fault, Spot, report};
-use timer_script::{Streams, Watched, WriteFault, write_text};
+use timer_script::{Grammar, Streams, Watched, WriteFault, write_text};
 
 /// Writes the line of an error at this spot of the input with this name.
 pub fn write_located<F: Write>(
@@ -102,7 +102,7 @@ fn report_fault<R: Read + Drop, O: Read + Seek + Drop, F: Write>(
         return report(fault, ending, faults);
     }
     let spot = fault.spot();
-    match excerpt(alloc, spot, reader) {
+    match excerpt(alloc, grammar_of(fault), spot, reader) {
         Some(reason) => report_located(name, spot, &reason, faults),
         None => report_located(name, spot, fault.words().as_bytes(), faults),
     }
@@ -119,6 +119,14 @@ fn is_named(fault: Fault) -> bool
     }
 }
 
+/// Which lines were read. `serve` and `show` read streams.
+fn grammar_of(fault: Fault) -> Grammar {
+    match fault {
+        Fault::Serve(_) => Grammar::Stream,
+        _ => Grammar::Script,
+    }
+}
+
 /// Writes the line of an error, unless the writer fails. One that failed before is left alone.
 fn report_located<F: Write>(name: &str, spot: Spot, reason: &[u8], faults: &mut Watched<F>)
     ensures { HasLocated name.now spot F.contents faults.old faults.new }
@@ -131,6 +139,7 @@ fn report_located<F: Write>(name: &str, spot: Spot, reason: &[u8], faults: &mut 
 /// What is wrong with a bad line, if it is in a file that can be read again, and there is memory for it.
 fn excerpt<R: Read + Drop, O: Read + Seek + Drop>(
     alloc: Global,
+    grammar: Grammar,
     spot: Spot,
     reader: &mut Watched<Source<R, O>>,
 ) -> Option<Vec<u8>>
@@ -144,5 +153,5 @@ fn excerpt<R: Read + Drop, O: Read + Seek + Drop>(
         return None;
     };
     let bytes = read_line_again(alloc, &mut file, line)?;
-    reason_of(alloc, &bytes)
+    reason_of(alloc, grammar, &bytes)
 }

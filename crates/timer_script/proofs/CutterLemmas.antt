@@ -7,10 +7,11 @@ use Rattle.std.proofs.lemmas.Grind.{flat_map-append}
 use Rattle.std.proofs.KnownBytes.{Appends-nil, Appends-trans}
 use Rattle.timer_base.proofs.Basics.{either}
 use Rattle.timer_script.specs.Types.{Event, OnBadLine, Cutter, Watched, LineFault, MAX_LINE}
+use Rattle.timer_script.specs.declared.lines.Grammar.TheVariants.{Stream}
 use Rattle.timer_script.specs.declared.cutter.OnBadLine.TheVariants.{Stop, Report}
 use Rattle.timer_script.specs.declared.line_fault.LineReason.TheVariants.{NoLineEnd}
 use Rattle.timer_script.specs.Watched.{inner_of, has_failed}
-use Rattle.timer_script.specs.Script.{AreFieldsInRange, spelling}
+use Rattle.timer_script.specs.Script.{IsIn, spelling}
 use Rattle.timer_script.specs.Diagnosis.{IsFaultOf}
 use Rattle.timer_script.specs.Cutter.{bytes_of, number_next, Complaint, bad_among, IsLastBad, complaint_line, complaints, HasSorted, HasSortedSince, HasReported, BadLines, AreSoFar, AreFirst, HasPassed, HasSeen, HasSeenPart, HasReachedEnd, HasTakenIn, IsStoppedAt, EndsAtBadLine, UnlessStopped}
 use Rattle.timer_script.proofs.Results.{true_false}
@@ -142,7 +143,7 @@ ended {contents = contents} {w = w} {u = u} v clean last h is_last reports stops
           record {
             lines = q.cut.parts ∙ ap (λ t. flat_map bytes_of q.lines ++ t) (stops stop).1 ∙ append-nil (flat_map bytes_of q.lines) ∙ all.0
                 ∙ ap spelling (sym q.events_are);
-            in_range = subst (AllByRecursion AreFieldsInRange) (sym q.events_are) (good_script q.lines q.cut.each);
+            in_range = subst (AllByRecursion (IsIn Stream)) (sym q.events_are) (good_script q.lines q.cut.each);
           };
     }
 
@@ -169,13 +170,13 @@ ended_stopped {o} {cutter = cutter} {came = came} {events = events} h some is =
       stopped = subst (λ z. IsStoppedAt z events cutter.number) (append-nil came)
           (stopped_at q [] (q.left ++ []) cutter.number stop refl
           (omega (arith, ap length h.held_is, length-take MAX_LINE q.left, length-append q.left []))
-          (bare_no_line q.left [] q.cut.unended (inl refl)) h.counted);
+          (bare_no_line Stream q.left [] q.cut.unended (inl refl)) h.counted);
     }
 
 -- it is reported
 pub ended_bad : {F : Type 0} {o : OnBadLine} {contents : F → Option (List ℕ)} {w u : Watched F} {cutter : Cutter} {came : List ℕ}
     {events : List Event} (v : Watched F) (fault : LineFault) (said : List ℕ) → HasTakenIn o cutter contents w u came events
-    → 1 ≤ length cutter.held.items → cutter.on_bad ≡ Report → IsFaultOf fault cutter.held.items
+    → 1 ≤ length cutter.held.items → cutter.on_bad ≡ Report → IsFaultOf Stream fault cutter.held.items
     → said ≡ complaint_line (cutter.number, fault) → HasReported contents u v said → HasReachedEnd o false contents w v came events
 ended_bad {o} {contents} {u = u} {cutter = cutter} v fault said h some report wrong is reports =
     let q = h.passed.passes in
@@ -183,7 +184,7 @@ ended_bad {o} {contents} {u = u} {cutter = cutter} v fault said h some report wr
     let left : 1 ≤ length q.left = omega (arith, ap length h.held_is, length-take MAX_LINE q.left) in
     let said_is : said ≡ complaints last = is ∙ sym (append-nil (complaint_line (cutter.number, fault))) in
     ended v false last h (subst (λ m. IsLastBad m q.left last) h.counted
-    (last_some cutter.number fault q.left left (subst (IsFaultOf fault) h.held_is wrong))) (subst (HasReported contents u v) said_is reports)
+    (last_some cutter.number fault q.left left (subst (IsFaultOf Stream fault) h.held_is wrong))) (subst (HasReported contents u v) said_is reports)
     (λ stop. absurd (stop_report o stop (sym h.kept ∙ report)))
     (λ e. absurd cc, λ e. absurd (let none : last ≡ [] = nil_right h.passed.bad last e in cc))
 

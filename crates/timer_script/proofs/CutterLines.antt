@@ -4,13 +4,14 @@ use Rattle.std.specs.List.{flat_map, enumerate_from, AllByRecursion}
 use Rattle.std.proofs.lemmas.Grind.{flat_map-append}
 use Rattle.std.proofs.lemmas.List.{take_rest, length-take, nil_from_length, take-take, take_min}
 use Rattle.timer_script.specs.Types.{Event, MAX_LINE, LineFault, OnBadLine, Cutter, ScriptFault}
-use Rattle.timer_script.specs.Script.{HasNoFeed, AreFieldsInRange, line, spelling, BeginsNoLine}
-use Rattle.timer_script.specs.Lines.{line_at}
+use Rattle.timer_script.specs.declared.lines.Grammar.TheVariants.{Stream}
+use Rattle.timer_script.specs.Script.{HasNoFeed, IsIn, line, spelling, BeginsNoLine}
+use Rattle.timer_script.specs.Lines.{line_in}
 use Rattle.timer_script.specs.Diagnosis.{IsFaultOf}
 use Rattle.timer_script.specs.declared.cutter.OnBadLine.TheVariants.{Stop, Report}
 use Rattle.timer_script.specs.Cutter.{InputLine, Good, Bad, bytes_of, IsGoodOrBad, event_in, events_of, number_next, Complaint, complaint_of, bad_among, IsLastBad, complaint_line, complaints, PassesEvents, IsStoppedAt, HasEndedLine, StopsLine, HasSorted, HasSortedSince, StopsAt}
 use Rattle.timer_script.specs.declared.fault.ScriptFault.TheVariants as faults
-use Rattle.timer_script.proofs.LineLemmas.{line_sound, line_fed, bare_no_line}
+use Rattle.timer_script.proofs.LineLemmas.{read_sound, read_fed, bare_no_line}
 use Rattle.timer_script.proofs.DiagnosisLemmas.{unread_no_line}
 use Rattle.timer_script.proofs.Results.{all_append}
 use Rattle.timer_script.proofs.FeedLemmas.{IsFed, at_feed, first_feed, no_feed-append, no_feed-take, feed-take}
@@ -30,8 +31,8 @@ among_more n k (y ∷ ys) x is =
     ap (λ t. first ++ t) (among_more (n + 1) k ys x (omega arith))
     ∙ sym (append_assoc first (among (n + 1) ys) (complaint_of (min k (2 ^ 64 - 1)) x))
 
--- the good lines are a script
-pub good_script : (xs : List InputLine) → AllByRecursion IsGoodOrBad xs → AllByRecursion AreFieldsInRange (events_of xs)
+-- the good lines are those of their events
+pub good_script : (xs : List InputLine) → AllByRecursion IsGoodOrBad xs → AllByRecursion (IsIn Stream) (events_of xs)
 good_script [] a = tt
 good_script (Good event ∷ xs) a = (a.0, good_script xs a.1)
 good_script (Bad front fault ∷ xs) a = good_script xs a.1
@@ -54,10 +55,10 @@ nil_left xs ys e = nil_from_length xs (omega (arith, ap length e, length-append 
 
 -- what can be read of the front of a line is all of it
 read_all : (front held after : List ℕ) (event : Event) → HasNoFeed front → held ≡ take MAX_LINE (front ++ 10 ∷ [])
-    → line_at held ≡ Some (event, after) → AreFieldsInRange event × (line event ≡ front ++ 10 ∷ []) × (held ≡ line event)
+    → line_in Stream held ≡ Some (event, after) → IsIn Stream event × (line event ≡ front ++ 10 ∷ []) × (held ≡ line event)
 read_all front held after event none is some =
-    let (fits, parts) = line_sound held after event some in
-    let f : IsFed (line event) = line_fed event fits in
+    let (fits, parts) = read_sound Stream held after event some in
+    let f : IsFed (line event) = read_fed Stream event fits in
     let rest : List ℕ = drop MAX_LINE (front ++ 10 ∷ []) in
     let whole : front ++ 10 ∷ [] ≡ f.front ++ 10 ∷ (after ++ rest) =
     sym (take-append-drop MAX_LINE (front ++ 10 ∷ [])) ∙ ap (λ t. t ++ rest) (sym is ∙ parts) ∙ append_assoc (line event) after rest
@@ -70,19 +71,19 @@ pub stop_report : (on_bad : OnBadLine) → on_bad ≡ Stop → on_bad ≡ Report
 stop_report on_bad a b = cc
 
 -- what can't be read of the front of a line is that of no event, whatever follows
-read_none : (front held more : List ℕ) → HasNoFeed front → held ≡ take MAX_LINE (front ++ 10 ∷ []) → line_at held ≡ None
-    → BeginsNoLine ((front ++ 10 ∷ []) ++ more)
+read_none : (front held more : List ℕ) → HasNoFeed front → held ≡ take MAX_LINE (front ++ 10 ∷ []) → line_in Stream held ≡ None
+    → BeginsNoLine Stream ((front ++ 10 ∷ []) ++ more)
 read_none front held more free is none event after fits e =
-    let f : IsFed (line event) = line_fed event fits in
+    let f : IsFed (line event) = read_fed Stream event fits in
     let same = first_feed front f.front more after free f.no_feed (sym (at_feed front more) ∙ e
     ∙ ap (λ t. t ++ after) f.is ∙ at_feed f.front after) in
     let all : front ++ 10 ∷ [] ≡ line event = ap (λ t. t ++ 10 ∷ []) same.0 ∙ sym f.is in
     let short : length (front ++ 10 ∷ []) ≤ MAX_LINE = (let s = f.short in let l = length-append f.front (10 ∷ [])
     in let w = ap length (all ∙ f.is) in omega arith) in
-    unread_no_line held none (event, fits, is ∙ take_all MAX_LINE (front ++ 10 ∷ []) short ∙ all)
+    unread_no_line Stream held none (event, fits, is ∙ take_all MAX_LINE (front ++ 10 ∷ []) short ∙ all)
 
 pub ended_good : (on_bad : OnBadLine) (front held after : List ℕ) (event : Event) (n : ℕ) (events events' : List Event) (said : List ℕ)
-    → HasNoFeed front → held ≡ take MAX_LINE (front ++ 10 ∷ []) → line_at held ≡ Some (event, after)
+    → HasNoFeed front → held ≡ take MAX_LINE (front ++ 10 ∷ []) → line_in Stream held ≡ Some (event, after)
     → events' ≡ events ++ event ∷ []
     → HasEndedLine on_bad (front ++ 10 ∷ []) n events events' said said
 ended_good on_bad front held after event n events events' said none is read grows =
@@ -97,7 +98,7 @@ ended_good on_bad front held after event n events events' said none is read grow
     }
 
 pub ended_bad : (on_bad : OnBadLine) (front held : List ℕ) (n : ℕ) (fault : LineFault) (events : List Event) (said said' : List ℕ)
-    → on_bad ≡ Report → HasNoFeed front → held ≡ take MAX_LINE (front ++ 10 ∷ []) → line_at held ≡ None → IsFaultOf fault held
+    → on_bad ≡ Report → HasNoFeed front → held ≡ take MAX_LINE (front ++ 10 ∷ []) → line_in Stream held ≡ None → IsFaultOf Stream fault held
     → said' ≡ said ++ complaint_line (n, fault)
     → HasEndedLine on_bad (front ++ 10 ∷ []) n events events said said'
 ended_bad on_bad front held n fault events said said' report none is unread_none wrong grows = record {
@@ -105,8 +106,8 @@ ended_bad on_bad front held n fault events said said' report none is unread_none
   bytes_is = refl;
   is_line = (
     none,
-    subst BeginsNoLine (append-nil (front ++ 10 ∷ [])) (read_none front held [] none is unread_none),
-    subst (IsFaultOf fault) is wrong,
+    subst (BeginsNoLine Stream) (append-nil (front ++ 10 ∷ [])) (read_none front held [] none is unread_none),
+    subst (IsFaultOf Stream fault) is wrong,
   );
   events_are = sym (append-nil events);
   said_is = grows ∙ ap (λ t. said ++ t) (sym (append-nil (complaint_line (n, fault))));
@@ -116,7 +117,7 @@ ended_bad on_bad front held n fault events said said' report none is unread_none
 -- ---- a line that has not ended
 
 -- what is left at the end is a bad line
-pub last_some : (n : ℕ) (fault : LineFault) (front : List ℕ) → 1 ≤ length front → IsFaultOf fault (take MAX_LINE front)
+pub last_some : (n : ℕ) (fault : LineFault) (front : List ℕ) → 1 ≤ length front → IsFaultOf Stream fault (take MAX_LINE front)
     → IsLastBad n front ((n, fault) ∷ [])
 last_some n fault [] some wrong = absurd (omega arith)
 last_some n fault (b ∷ front) some wrong = (fault, wrong, refl)
@@ -237,7 +238,7 @@ since_none new piece kept no_events no_reports h =
 
 -- after lines of which none is bad, and what is left after them, come bytes, so that no line begins there
 pub stopped_at : {o : OnBadLine} {came : List ℕ} {events : List Event} (p : PassesEvents o came events) (more rest : List ℕ) (n : ℕ)
-    → o ≡ Stop → p.left ++ more ≡ rest → 1 ≤ length rest → BeginsNoLine rest → n ≡ number_next p.lines
+    → o ≡ Stop → p.left ++ more ≡ rest → 1 ≤ length rest → BeginsNoLine Stream rest → n ≡ number_next p.lines
     → IsStoppedAt (came ++ more) events n
 stopped_at p more rest n stop parts some bad counted =
     let good = all_good 1 p.lines (p.good stop) in
@@ -295,7 +296,7 @@ long_stops {o} {old} held bytes n stops some within free not joined long h =
       stop,
       stopped_at p bytes (all ++ drop n bytes) old.number stop (around p.left bytes all n refl)
           (omega (arith, length-append all (drop n bytes)))
-          (bare_no_line all (drop n bytes) (no_feed-take p.left bytes n some within p.cut.unended free not) (inr many)) h.sorted.counted,
+          (bare_no_line Stream all (drop n bytes) (no_feed-take p.left bytes n some within p.cut.unended free not) (inr many)) h.sorted.counted,
     )
 
 -- ---- a piece, line after line

@@ -12,13 +12,14 @@ use Rattle.std.specs.Str.Parse.{AllDigits, digits_value}
 use Rattle.std.specs.Net.Reader.{digit_count, read_number}
 use Rattle.std.proofs.NetLemmas.Numbers.{NoDigit, digit_count-append, digit_count_none, read_number_sound}
 use Rattle.std.proofs.NetLemmas.Options.{cond_some, cond_none, and_then_some, same_parts}
-use Rattle.timer_script.specs.Types.{LAST, MAX_TICKS, MAX_LINE, Event}
+use Rattle.timer_script.specs.Types.{LAST, MAX_TICKS, MAX_LINE, Event, Grammar}
+use Rattle.timer_script.specs.declared.lines.Grammar.TheVariants.{Script, Stream}
 use Rattle.timer_facility.specs.declared.event.Event.TheVariants as Events
-use Rattle.timer_script.specs.Script.{AreFieldsInRange, line, HasNoFeed, BeginsNoLine}
+use Rattle.timer_script.specs.Script.{AreFieldsInRange, IsIn, line, HasNoFeed, BeginsNoLine}
 use Rattle.timer_script.proofs.FeedLemmas.{IsFed, fed, no_feed_long, at_feed}
-use Rattle.timer_script.specs.Lines.{◌>>=◌, or_try, has_word, strip, number_at, field_at, tick_count_at, other_at, line_at}
+use Rattle.timer_script.specs.Lines.{Read, ◌>>=◌, or_try, has_word, strip, number_at, field_at, tick_count_at, or_else, other_at, line_at, own_line_at, stream_at, line_in}
 -- made by tools/facts: imports of what readers compute
-use Rattle.timer_script.specs.Lines.{start_at, stop_at, restart_at, tick_at, close_at}
+use Rattle.timer_script.specs.Lines.{start_at, stop_at, restart_at, tick_at, close_at, at_line_at, start_at_line_at, restart_at_line_at}
 
 -- ---- a word
 
@@ -174,20 +175,20 @@ tick_count_then end bytes f y e more =
 -- ---- a line
 
 -- what was read of a line is the event and the rest that were wanted
-same_line : (word bytes rest after : List ℕ) (event read : Event)
-    → ◌≡◌ {A = Option (Event × List ℕ)} (Some (read, after)) (Some (event, rest)) → AreFieldsInRange read
-    → word ++ bytes ≡ line read ++ after → AreFieldsInRange event × (word ++ bytes ≡ line event ++ rest)
-same_line word bytes rest after event read e fits is =
+same_line : (P : Event → Type 0) (word bytes rest after : List ℕ) (event read : Event)
+    → ◌≡◌ {A = Option (Event × List ℕ)} (Some (read, after)) (Some (event, rest)) → P read
+    → word ++ bytes ≡ line read ++ after → P event × (word ++ bytes ≡ line event ++ rest)
+same_line P word bytes rest after event read e fits is =
     let (event_is, rest_is) = same_parts read event after rest e in
-    subst (λ (x : Event). AreFieldsInRange x × (word ++ bytes ≡ line x ++ rest)) event_is
-    (subst (λ (r : List ℕ). AreFieldsInRange read × (word ++ bytes ≡ line read ++ r)) rest_is (fits, is))
+    subst (λ (x : Event). P x × (word ++ bytes ≡ line x ++ rest)) event_is
+    (subst (λ (r : List ℕ). P read × (word ++ bytes ≡ line read ++ r)) rest_is (fits, is))
 
 -- a word is at the front, or not
-by_word : (word bytes rest : List ℕ) (event : Event) (f : List ℕ → Option (Event × List ℕ)) (other : Option (Event × List ℕ))
+by_word : (P : Event → Type 0) (word bytes rest : List ℕ) (event : Event) (f : List ℕ → Option (Event × List ℕ)) (other : Option (Event × List ℕ))
     → or_try (strip word bytes) f other ≡ Some (event, rest)
-    → ((s : List ℕ) → f s ≡ Some (event, rest) → AreFieldsInRange event × (word ++ s ≡ line event ++ rest))
-    → (other ≡ Some (event, rest) → AreFieldsInRange event × (bytes ≡ line event ++ rest)) → AreFieldsInRange event × (bytes ≡ line event ++ rest)
-by_word word bytes rest event f other e some none = elim (cases_Bool (has_word word bytes)) [
+    → ((s : List ℕ) → f s ≡ Some (event, rest) → P event × (word ++ s ≡ line event ++ rest))
+    → (other ≡ Some (event, rest) → P event × (bytes ≡ line event ++ rest)) → P event × (bytes ≡ line event ++ rest)
+by_word P word bytes rest event f other e some none = elim (cases_Bool (has_word word bytes)) [
   | inl begins ↦
       let (fits, is) = some (drop (length word) bytes) (rw begins at e) in
       (fits, has_word_sound word bytes begins ∙ is)
@@ -219,6 +220,9 @@ line_again (Events.Restart client number serial interval action) rest fits = sim
 ) refl)
 line_again (Events.Ticks count) rest fits = simp append_assoc (rw (tick_count_again 10 count _ fits (lit≤ tt)) refl)
 line_again Events.Close rest fits = refl
+line_again (Events.TicksTo tick) rest fits = absurd fits
+line_again (Events.StartAt client number deadline action) rest fits = absurd fits
+line_again (Events.RestartAt client number serial deadline action) rest fits = absurd fits
 
 start_sound : (bytes rest : List ℕ) (event : Event) → start_at bytes ≡ Some (event, rest)
     → AreFieldsInRange event × (codes "start " ++ bytes ≡ line event ++ rest)
@@ -228,7 +232,7 @@ start_sound bytes rest event e =
     field_then 32 r1 _ _ e1 λ number r2 fits2 is2 e2.
     field_then 32 r2 _ _ e2 λ interval r3 fits3 is3 e3.
     field_then 10 r3 _ _ e3 λ action r4 fits4 is4 e4.
-    same_line (codes "start ") bytes rest r4 event (Events.Start client number interval action) e4 (fits1, fits2, fits3, fits4)
+    same_line AreFieldsInRange (codes "start ") bytes rest r4 event (Events.Start client number interval action) e4 (fits1, fits2, fits3, fits4)
     (rw (is1, is2, is3, is4) (simp append_assoc))
 
 stop_sound : (bytes rest : List ℕ) (event : Event) → stop_at bytes ≡ Some (event, rest)
@@ -238,7 +242,7 @@ stop_sound bytes rest event e =
     field_then 32 bytes _ _ e λ client r1 fits1 is1 e1.
     field_then 32 r1 _ _ e1 λ number r2 fits2 is2 e2.
     field_then 10 r2 _ _ e2 λ serial r3 fits3 is3 e3.
-    same_line (codes "stop ") bytes rest r3 event (Events.Stop client number serial) e3 (fits1, fits2, fits3)
+    same_line AreFieldsInRange (codes "stop ") bytes rest r3 event (Events.Stop client number serial) e3 (fits1, fits2, fits3)
     (rw (is1, is2, is3) (simp append_assoc))
 
 restart_sound : (bytes rest : List ℕ) (event : Event) → restart_at bytes ≡ Some (event, rest)
@@ -250,7 +254,7 @@ restart_sound bytes rest event e =
     field_then 32 r2 _ _ e2 λ serial r3 fits3 is3 e3.
     field_then 32 r3 _ _ e3 λ interval r4 fits4 is4 e4.
     field_then 10 r4 _ _ e4 λ action r5 fits5 is5 e5.
-    same_line (codes "restart ") bytes rest r5 event (Events.Restart client number serial interval action) e5 (fits1, fits2, fits3, fits4, fits5)
+    same_line AreFieldsInRange (codes "restart ") bytes rest r5 event (Events.Restart client number serial interval action) e5 (fits1, fits2, fits3, fits4, fits5)
     (rw (is1, is2, is3, is4, is5) (simp append_assoc))
 
 tick_sound : (bytes rest : List ℕ) (event : Event) → tick_at bytes ≡ Some (event, rest)
@@ -258,14 +262,14 @@ tick_sound : (bytes rest : List ℕ) (event : Event) → tick_at bytes ≡ Some 
 unfolding tick_at line
 tick_sound bytes rest event e =
     tick_count_then 10 bytes _ _ e λ count r1 fits1 is1 e1.
-    same_line (codes "tick ") bytes rest r1 event (Events.Ticks count) e1 (fits1)
+    same_line AreFieldsInRange (codes "tick ") bytes rest r1 event (Events.Ticks count) e1 (fits1)
     (rw (is1) (simp append_assoc))
 
 close_sound : (bytes rest : List ℕ) (event : Event) → close_at bytes ≡ Some (event, rest)
     → AreFieldsInRange event × (codes "close\n" ++ bytes ≡ line event ++ rest)
 unfolding close_at line
 close_sound bytes rest event e =
-    same_line (codes "close\n") bytes rest bytes event Events.Close e tt
+    same_line AreFieldsInRange (codes "close\n") bytes rest bytes event Events.Close e tt
     refl
 
 -- what is read is the line of that event
@@ -273,11 +277,11 @@ pub line_sound : (bytes rest : List ℕ) (event : Event) → line_at bytes ≡ S
     → AreFieldsInRange event × (bytes ≡ line event ++ rest)
 unfolding line_at other_at
 line_sound bytes rest event e =
-    by_word (codes "start ") bytes rest event start_at _ e (λ s. start_sound s rest event) λ e1.
-    by_word (codes "stop ") bytes rest event stop_at _ e1 (λ s. stop_sound s rest event) λ e2.
-    by_word (codes "close\n") bytes rest event close_at _ e2 (λ s. close_sound s rest event) λ e3.
-    by_word (codes "tick ") bytes rest event tick_at _ e3 (λ s. tick_sound s rest event) λ e4.
-    by_word (codes "restart ") bytes rest event restart_at _ e4 (λ s. restart_sound s rest event) λ e5.
+    by_word AreFieldsInRange (codes "start ") bytes rest event start_at _ e (λ s. start_sound s rest event) λ e1.
+    by_word AreFieldsInRange (codes "stop ") bytes rest event stop_at _ e1 (λ s. stop_sound s rest event) λ e2.
+    by_word AreFieldsInRange (codes "close\n") bytes rest event close_at _ e2 (λ s. close_sound s rest event) λ e3.
+    by_word AreFieldsInRange (codes "tick ") bytes rest event tick_at _ e3 (λ s. tick_sound s rest event) λ e4.
+    by_word AreFieldsInRange (codes "restart ") bytes rest event restart_at _ e4 (λ s. restart_sound s rest event) λ e5.
     absurd (none-some _ e5)
 
 -- where the line of an event ends
@@ -298,12 +302,154 @@ line_fed (Events.Ticks count) fits =
 line_fed Events.Close fits =
     fed (codes "close") ([]) (line Events.Close) (search rules) (lit≤ tt)
     tt refl
+line_fed (Events.TicksTo tick) fits = absurd fits
+line_fed (Events.StartAt client number deadline action) fits = absurd fits
+line_fed (Events.RestartAt client number serial deadline action) fits = absurd fits
 
 -- by hand
+-- a line of a script is one of a stream
+pub in_stream : (event : Event) → AreFieldsInRange event → IsIn Stream event
+in_stream (Events.StartAt client number deadline action) fits = absurd fits
+in_stream (Events.RestartAt client number serial deadline action) fits = absurd fits
+in_stream (Events.TicksTo tick) fits = absurd fits
+in_stream event fits = fits
+
+-- either may have read what was read
+by_either : {A P : Type 0} (one other : Option A) (x : A) → or_else one other ≡ Some x → (one ≡ Some x → P) → (other ≡ Some x → P) → P
+by_either (Some y) other x e first second = first e
+by_either None other x e first second = second e
+
+-- made by tools/facts: lemmas of lines of a stream
+-- the line of an event is read as that event
+pub stream_again : (event : Event) (rest : List ℕ) → IsIn Stream event
+    → stream_at (line event ++ rest) ≡ Some (event, rest)
+unfolding stream_at line_at other_at own_line_at start_at stop_at restart_at tick_at close_at at_line_at start_at_line_at restart_at_line_at line has_word
+stream_again (Events.TicksTo tick) rest fits = simp append_assoc (rw (field_again 10 tick _ fits (lit≤ tt)) refl)
+stream_again (Events.StartAt client number deadline action) rest fits = simp append_assoc (rw (
+  field_again 32 client _ fits.0 (lit≤ tt),
+  field_again 32 number _ fits.1 (lit≤ tt),
+  field_again 32 deadline _ fits.2 (lit≤ tt),
+  field_again 10 action _ fits.3 (lit≤ tt),
+) refl)
+stream_again (Events.RestartAt client number serial deadline action) rest fits = simp append_assoc (rw (
+  field_again 32 client _ fits.0 (lit≤ tt),
+  field_again 32 number _ fits.1 (lit≤ tt),
+  field_again 32 serial _ fits.2 (lit≤ tt),
+  field_again 32 deadline _ fits.3 (lit≤ tt),
+  field_again 10 action _ fits.4 (lit≤ tt),
+) refl)
+stream_again (Events.Start client number interval action) rest fits = rw (line_again (Events.Start client number interval action) rest fits) refl
+stream_again (Events.Stop client number serial) rest fits = rw (line_again (Events.Stop client number serial) rest fits) refl
+stream_again (Events.Restart client number serial interval action) rest fits = rw (line_again (Events.Restart client number serial interval action) rest fits) refl
+stream_again (Events.Ticks count) rest fits = rw (line_again (Events.Ticks count) rest fits) refl
+stream_again Events.Close rest fits = rw (line_again Events.Close rest fits) refl
+
+at_sound : (bytes rest : List ℕ) (event : Event) → at_line_at bytes ≡ Some (event, rest)
+    → IsIn Stream event × (codes "at " ++ bytes ≡ line event ++ rest)
+unfolding at_line_at line
+at_sound bytes rest event e =
+    field_then 10 bytes _ _ e λ tick r1 fits1 is1 e1.
+    same_line (IsIn Stream) (codes "at ") bytes rest r1 event (Events.TicksTo tick) e1 (fits1)
+    (rw (is1) (simp append_assoc))
+
+start_at_sound : (bytes rest : List ℕ) (event : Event) → start_at_line_at bytes ≡ Some (event, rest)
+    → IsIn Stream event × (codes "start-at " ++ bytes ≡ line event ++ rest)
+unfolding start_at_line_at line
+start_at_sound bytes rest event e =
+    field_then 32 bytes _ _ e λ client r1 fits1 is1 e1.
+    field_then 32 r1 _ _ e1 λ number r2 fits2 is2 e2.
+    field_then 32 r2 _ _ e2 λ deadline r3 fits3 is3 e3.
+    field_then 10 r3 _ _ e3 λ action r4 fits4 is4 e4.
+    same_line (IsIn Stream) (codes "start-at ") bytes rest r4 event (Events.StartAt client number deadline action) e4 (fits1, fits2, fits3, fits4)
+    (rw (is1, is2, is3, is4) (simp append_assoc))
+
+restart_at_sound : (bytes rest : List ℕ) (event : Event) → restart_at_line_at bytes ≡ Some (event, rest)
+    → IsIn Stream event × (codes "restart-at " ++ bytes ≡ line event ++ rest)
+unfolding restart_at_line_at line
+restart_at_sound bytes rest event e =
+    field_then 32 bytes _ _ e λ client r1 fits1 is1 e1.
+    field_then 32 r1 _ _ e1 λ number r2 fits2 is2 e2.
+    field_then 32 r2 _ _ e2 λ serial r3 fits3 is3 e3.
+    field_then 32 r3 _ _ e3 λ deadline r4 fits4 is4 e4.
+    field_then 10 r4 _ _ e4 λ action r5 fits5 is5 e5.
+    same_line (IsIn Stream) (codes "restart-at ") bytes rest r5 event (Events.RestartAt client number serial deadline action) e5 (fits1, fits2, fits3, fits4, fits5)
+    (rw (is1, is2, is3, is4, is5) (simp append_assoc))
+
+-- what is read of a line of a stream alone is the line of that event
+own_sound : (bytes rest : List ℕ) (event : Event) → own_line_at bytes ≡ Some (event, rest)
+    → IsIn Stream event × (bytes ≡ line event ++ rest)
+unfolding own_line_at
+own_sound bytes rest event e =
+    by_word (IsIn Stream) (codes "at ") bytes rest event at_line_at _ e (λ s. at_sound s rest event) λ e1.
+    by_word (IsIn Stream) (codes "start-at ") bytes rest event start_at_line_at _ e1 (λ s. start_at_sound s rest event) λ e2.
+    by_word (IsIn Stream) (codes "restart-at ") bytes rest event restart_at_line_at _ e2 (λ s. restart_at_sound s rest event) λ e3.
+    absurd (none-some _ e3)
+
+-- where the line of an event ends
+pub stream_fed : (event : Event) → IsIn Stream event → IsFed (line event)
+unfolding line
+stream_fed (Events.TicksTo tick) fits =
+    fed (codes "at") (tick ∷ []) (line (Events.TicksTo tick)) (search rules) (lit≤ tt)
+    (fits, tt) (simp append_assoc refl)
+stream_fed (Events.StartAt client number deadline action) fits =
+    fed (codes "start-at") (client ∷ number ∷ deadline ∷ action ∷ []) (line (Events.StartAt client number deadline action)) (search rules) (lit≤ tt)
+    (fits.0, (fits.1, (fits.2, (fits.3, tt)))) (simp append_assoc refl)
+stream_fed (Events.RestartAt client number serial deadline action) fits =
+    fed (codes "restart-at") (client ∷ number ∷ serial ∷ deadline ∷ action ∷ []) (line (Events.RestartAt client number serial deadline action)) (search rules) (lit≤ tt)
+    (fits.0, (fits.1, (fits.2, (fits.3, (fits.4, tt))))) (simp append_assoc refl)
+stream_fed (Events.Start client number interval action) fits = line_fed (Events.Start client number interval action) fits
+stream_fed (Events.Stop client number serial) fits = line_fed (Events.Stop client number serial) fits
+stream_fed (Events.Restart client number serial interval action) fits = line_fed (Events.Restart client number serial interval action) fits
+stream_fed (Events.Ticks count) fits = line_fed (Events.Ticks count) fits
+stream_fed Events.Close fits = line_fed Events.Close fits
+
+-- by hand
+-- ---- in each grammar
+
+-- the line of an event is read as that event
+pub read_again : (grammar : Grammar) (event : Event) (rest : List ℕ) → IsIn grammar event
+    → line_in grammar (line event ++ rest) ≡ Some (event, rest)
+read_again Script event rest fits = line_again event rest fits
+read_again Stream event rest fits = stream_again event rest fits
+
+-- what is read is the line of that event
+pub read_sound : (grammar : Grammar) (bytes rest : List ℕ) (event : Event) → line_in grammar bytes ≡ Some (event, rest)
+    → IsIn grammar event × (bytes ≡ line event ++ rest)
+unfolding stream_at
+read_sound Script bytes rest event e = line_sound bytes rest event e
+read_sound Stream bytes rest event e = by_either (line_at bytes) (own_line_at bytes) (event, rest) e
+    (λ read. let (fits, is) = line_sound bytes rest event read in (in_stream event fits, is))
+    (own_sound bytes rest event)
+
+pub stream_first : (bytes : List ℕ) (x : Event × List ℕ) → Some x ≡ line_at bytes → Some x ≡ stream_at bytes
+unfolding stream_at
+stream_first bytes x e = ap (λ o. or_else o (own_line_at bytes)) e
+
+pub stream_second : (bytes : List ℕ) (result : Read Event) → None ≡ line_at bytes → result ≡ own_line_at bytes → result ≡ stream_at bytes
+unfolding stream_at
+stream_second bytes result none e = e ∙ ap (λ o. or_else o (own_line_at bytes)) none
+
+pub read_in_script : (grammar : Grammar) (bytes : List ℕ) (result : Read Event) → grammar ≡ Script → result ≡ line_at bytes
+    → result ≡ line_in grammar bytes
+read_in_script grammar bytes result is e = e ∙ ap (λ g. line_in g bytes) (sym is)
+
+pub read_in_stream : (grammar : Grammar) (bytes : List ℕ) (result : Read Event) → grammar ≡ Stream → result ≡ stream_at bytes
+    → result ≡ line_in grammar bytes
+read_in_stream grammar bytes result is e = e ∙ ap (λ g. line_in g bytes) (sym is)
+
+-- what a reader of streams, or of either grammar, reads
+pub ruleset stream_reading = (stream_first, stream_second, read_in_script, read_in_stream)
+
+-- where the line of an event ends
+pub read_fed : (grammar : Grammar) (event : Event) → IsIn grammar event → IsFed (line event)
+read_fed Script event fits = line_fed event fits
+read_fed Stream event fits = stream_fed event fits
+
 -- bytes with no line feed begin no line, if they are all, or too many for a line
-pub bare_no_line : (xs more : List ℕ) → HasNoFeed xs → (more ≡ []) ⊎ (MAX_LINE ≤ length xs) → BeginsNoLine (xs ++ more)
-bare_no_line xs more none why event rest fits e =
-    let f : IsFed (line event) = line_fed event fits in
+pub bare_no_line : (grammar : Grammar) (xs more : List ℕ) → HasNoFeed xs → (more ≡ []) ⊎ (MAX_LINE ≤ length xs)
+    → BeginsNoLine grammar (xs ++ more)
+bare_no_line grammar xs more none why event rest fits e =
+    let f : IsFed (line event) = read_fed grammar event fits in
     let whole : xs ++ more ≡ f.front ++ 10 ∷ rest = e ∙ ap (λ t. t ++ rest) f.is ∙ at_feed f.front rest in
     let long = no_feed_long xs f.front more rest none whole in
     let short = f.short in

@@ -7,6 +7,7 @@ use Rattle.std.proofs.lemmas.Bool.{both_ways, cases_lt}
 use Rattle.std.proofs.lemmas.List.{nil_from_length, length-drop, take_rest}
 use Rattle.timer_base.proofs.Basics.{either}
 use Rattle.timer_script.specs.Script.{HasNoFeed, AreFieldsInRange, line, spelling, IsScript}
+use Rattle.timer_script.specs.declared.lines.Grammar.TheVariants.{Script}
 use Rattle.timer_script.specs.Diagnosis.{IsVerdict}
 use Rattle.timer_script.specs.ScriptReport.{push_front, cut_lines, AreVerdicts, verdict_line, is_bad, IsScriptReport}
 use Rattle.timer_script.proofs.FeedLemmas.{no_feed-take, feed-take, IsFed}
@@ -107,7 +108,7 @@ at_most_one (Some fault) = lit≤ tt
 -- one more line has this verdict, and if it is bad its fault is in the text
 pub line_more : (script rest : List ℕ) (n lines bad bad' : ℕ) (text new : List ℕ) (verdict : Option LineFault)
     → HasReportedTo script rest lines bad text → 0 < n → n ≤ length rest → HasNoFeed (take (n - 1) rest)
-    → (n < length rest → get_or rest (n - 1) 0 ≡ 10) → IsVerdict verdict (take n rest)
+    → (n < length rest → get_or rest (n - 1) 0 ≡ 10) → IsVerdict Script verdict (take n rest)
     → new ≡ text ++ verdict_line (lines + 1) verdict → bad' ≡ bad + count_of verdict
     → HasReportedTo script (take (length rest - n) (drop n rest)) (lines + 1) bad' new
 line_more script rest n lines bad bad' text new verdict h some within free whole right joined one_more =

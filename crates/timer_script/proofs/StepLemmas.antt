@@ -4,14 +4,14 @@ use Rattle.std.proofs.lemmas.List.{map-append, replicate-append-replicate}
 use Rattle.std.proofs.lemmas.Grind.{flat_map-append}
 use Rattle.std.proofs.Math.Seq.{take-append_seam}
 use Rattle.timer_script.specs.Types.{TickFault, Event}
-use Rattle.timer_facility.specs.declared.event.Event.TheVariants.{Ticks}
+use Rattle.timer_facility.specs.declared.event.Event.TheVariants.{Ticks, TicksTo}
 use Rattle.timer_facility.specs.State.{FacilityState, Tick}
 use Rattle.timer_facility.specs.Verdict.{tick_refusal}
 use Rattle.timer_facility.specs.Step.{step, step_of_tick}
 use Rattle.timer_facility.specs.Run.{PlacedEvent, state_after}
 use Rattle.timer_facility.specs.Played.{ticks_left, ArePlaced, IsRun}
 use Rattle.timer_facility.proofs.PlayedTicks.{ticks_left-refused, ticks_left-accepted}
-use Rattle.timer_facility.proofs.PlayedLemmas.{IsRun-join}
+use Rattle.timer_facility.proofs.PlayedLemmas.{IsRun-join, IsRun-to}
 use Rattle.timer_script.specs.Text.{out_line, lines_of}
 use Rattle.timer_script.specs.ScriptRun.{AddsLines}
 use Rattle.timer_script.specs.Decorator.{Decoration, IsLawful, HasGrown, HasGrownWithin, HasAnsweredWithin, HasGrownByAnswer}
@@ -137,6 +137,17 @@ grown_answer {E} A d (Ok u) s t events x y z adds h =
         within = subst (λ w. A.Within w (lines ++ h.0)) (append-nil lines) (d.joined lines [] lines h.0 (d.kept adds.outs) h.2);
       },
     )
+
+-- ticks until a tick, as so many ticks
+pub answered_to : {E : Type 0} (A : Decoration) (result : Result Unit E) (f s t : FacilityState) (tick now left : ℕ) (x y : List ℕ)
+    → f ≡ s → now ≡ f.now → left ≡ tick - now → OnOk result (HasGrownByAnswer A s (Ticks left ∷ []) t x y)
+    → OnOk result (HasGrownByAnswer A s (TicksTo tick ∷ []) t x y)
+answered_to {E} A (Err e) f s t tick now left x y same at is h = tt
+answered_to {E} A (Ok u) f s t tick now left x y same at is h =
+    let count : left ≡ tick - s.now = is ∙ ap (λ n. tick - n) (at ∙ ap (λ (u : FacilityState). u.now) same) in
+    let all : HasGrownByAnswer A s (Ticks (tick - s.now) ∷ []) t x y =
+    subst (λ n. HasGrownByAnswer A s (Ticks n ∷ []) t x y) count h in
+    (all.0, all.1, record { outs = all.2.outs; runs = IsRun-to tick all.2.runs; within = all.2.within })
 
 -- the answer to an event that was played at once
 pub kept_answer : {E : Type 0} (A : Decoration) (d : IsLawful A) (result : Result Unit E) (s t : FacilityState)

@@ -3,11 +3,12 @@ use Rattle.std.specs.Prelude.{◌≡◌, ◌↔◌, ℕ, ◌+◌, ◌-◌, ◌^�
 use Rattle.std.specs.List.{flat_map, enumerate_from, AllByRecursion}
 use Rattle.std.specs.Io.KnownBytes.{Appends}
 use Rattle.timer_script.specs.Types.{Event, LineFault, MAX_LINE, ScriptFault, OnBadLine, Cutter, Watched}
+use Rattle.timer_script.specs.declared.lines.Grammar.TheVariants.{Stream}
 use Rattle.timer_script.specs.declared.fault.ScriptFault.TheVariants as faults
 use Rattle.timer_script.specs.declared.cutter.OnBadLine.TheVariants.{Stop}
 use Rattle.timer_script.specs.Watched.{inner_of, has_failed}
-use Rattle.timer_script.specs.Script.{HasNoFeed, AreFieldsInRange, line, BeginsNoLine, IsScript, IsBadLine}
-use Rattle.timer_script.specs.Lines.{line_at}
+use Rattle.timer_script.specs.Script.{HasNoFeed, IsIn, line, BeginsNoLine, AreLinesOf, IsBadLineOf}
+use Rattle.timer_script.specs.Lines.{line_in}
 use Rattle.timer_script.specs.Diagnosis.{IsFaultOf}
 use Rattle.timer_script.specs.ScriptReport.{fault_line}
 
@@ -24,13 +25,13 @@ bytes_of (Bad front fault) = front ++ 10 ∷ []
 
 -- the fault is in these bytes, of which no more are looked at than a line may have
 abbrev pub IsFaultIn : LineFault → List ℕ → Type 0
-IsFaultIn fault bytes = IsFaultOf fault (take MAX_LINE bytes)
+IsFaultIn fault bytes = IsFaultOf Stream fault (take MAX_LINE bytes)
 
 -- the numbers of a good line are in range, and a bad one is the line of no event, and has this fault
 abbrev pub IsGoodOrBad : InputLine → Type 0
-IsGoodOrBad (Good event) = AreFieldsInRange event
+IsGoodOrBad (Good event) = IsIn Stream event
 IsGoodOrBad (Bad front fault) =
-    HasNoFeed front × BeginsNoLine (front ++ 10 ∷ []) × IsFaultIn fault (front ++ 10 ∷ [])
+    HasNoFeed front × BeginsNoLine Stream (front ++ 10 ∷ []) × IsFaultIn fault (front ++ 10 ∷ [])
 
 -- the event of a good line, and those of many, in order
 abbrev pub event_in : InputLine → List Event
@@ -129,17 +130,17 @@ pub record HasPassed {F : Type 0} (on_bad : OnBadLine) (Are : BadLines) (content
   pub untouched : on_bad ≡ Stop → writer' ≡ writer
 
 -- no more bytes come: what was reported is all that is to be, and whether that is nothing; if a bad line ends the
--- stream, the bytes are the script of the events
+-- stream, the bytes are the lines of the events
 pub record HasReachedEnd {F : Type 0} (on_bad : OnBadLine) (clean : Bool) (contents : F → Option (List ℕ))
     (writer writer' : Watched F) (came : List ℕ) (events : List Event) : Type 0 where
   pub passed : HasPassed on_bad (AreAll clean) contents writer writer' came events
-  pub script : on_bad ≡ Stop → IsScript events came
+  pub script : on_bad ≡ Stop → AreLinesOf Stream events came
 
 -- the n-th line (2^64 - 1 stands for any later one) is the first bad one of the bytes, and these are the events
 -- before it
 pub record IsStoppedAt (bytes : List ℕ) (events : List Event) (n : ℕ) : Type 0 where
   pub line : ℕ
-  pub bad : IsBadLine bytes line
+  pub bad : IsBadLineOf Stream bytes line
   pub events_are : events ≡ bad.before
   pub counted : n ≡ min line (2 ^ 64 - 1)
 
@@ -179,7 +180,7 @@ pub record HasEndedLine (on_bad : OnBadLine) (bytes : List ℕ) (n : ℕ) (event
 -- why it was not: it is bad, and ends the stream; or out of memory
 abbrev pub StopsLine : ScriptFault → OnBadLine → ℕ → (held : List ℕ) → (events events' : List Event) → Type 0
 StopsLine (faults.Bad line) on_bad n held events events' =
-    (on_bad ≡ Stop) × (line ≡ n) × (line_at held ≡ None) × (events' ≡ events)
+    (on_bad ≡ Stop) × (line ≡ n) × (line_in Stream held ≡ None) × (events' ≡ events)
 StopsLine faults.OutOfMemory on_bad n held events events' = Unit {0}
 
 -- these bytes came, these events passed, and this is reported; of the line that has not ended, the one of this number,

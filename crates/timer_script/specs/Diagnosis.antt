@@ -1,21 +1,21 @@
 -- Why bytes are not the line of an event, and from which column on.
 use Rattle.std.specs.Prelude.{◌≡◌, ◌≢◌, ◌⊎◌, ℕ, ◌+◌, ◌-◌, ◌<◌, ◌≤◌, List, [], ◌∷◌, length, take, slice_index, Option, Some, None, codes}
-use Rattle.timer_script.specs.Types.{Event, Field, LineReason, LineFault}
-use Rattle.timer_script.specs.Script.{AreFieldsInRange, line, IsWord}
+use Rattle.timer_script.specs.Types.{Event, Field, LineReason, LineFault, Grammar}
+use Rattle.timer_script.specs.Script.{IsIn, line, IsWord}
 use Rattle.timer_script.specs.declared.line_fault.Field.TheVariants as fields
 use Rattle.timer_script.specs.declared.line_fault.LineReason.TheVariants as reasons
 
 -- the bytes are the line of an event
-abbrev pub IsLine : List ℕ → Type 0
-IsLine bytes = (event : Event) × AreFieldsInRange event × (bytes ≡ line event)
+abbrev pub IsLine : Grammar → List ℕ → Type 0
+IsLine grammar bytes = (event : Event) × IsIn grammar event × (bytes ≡ line event)
 
 -- the byte is a digit
 abbrev pub IsDigit : ℕ → Type 0
 IsDigit byte = (48 ≤ byte) × (byte ≤ 57)
 
--- the byte is a lower-case letter
+-- the byte is one from `-` to `z`: words have no others
 abbrev pub IsLetter : ℕ → Type 0
-IsLetter byte = (97 ≤ byte) × (byte ≤ 122)
+IsLetter byte = (45 ≤ byte) × (byte ≤ 122)
 
 -- this byte is at this place, counted from 0
 abbrev pub IsByteAt : ℕ → List ℕ → ℕ → Type 0
@@ -34,20 +34,20 @@ abbrev pub IsAfterSpace : List ℕ → ℕ → Type 0
 IsAfterSpace bytes at = (i : ℕ) × (i < at) × (slice_index bytes i ≡ 32)
 
 -- the word of the line ended before it
-abbrev pub IsPastWord : List ℕ → ℕ → Type 0
-IsPastWord bytes at = IsAfterSpace bytes at ⊎ IsWord (take at bytes)
+abbrev pub IsPastWord : Grammar → List ℕ → ℕ → Type 0
+IsPastWord grammar bytes at = IsAfterSpace bytes at ⊎ IsWord grammar (take at bytes)
 
 -- the line ends after the byte here
 abbrev pub EndsAfter : List ℕ → ℕ → Type 0
 EndsAfter bytes at = (at + 1 ≡ length bytes) ⊎ ((slice_index bytes (at + 1) ≡ 10) ⊎ (slice_index bytes (at + 1) ≡ 13))
 
 -- a byte of no word, or one at which the line would end before it has one
-pub record IsUnknown (bytes : List ℕ) (at : ℕ) : Type 0 where
+pub record IsUnknown (grammar : Grammar) (bytes : List ℕ) (at : ℕ) : Type 0 where
   pub within : at < length bytes
   pub in_word : AreBytesBefore (λ b. b ≡ 32 → ⊥) bytes at
   pub no_return : slice_index bytes at ≡ 13 → ⊥
   pub no_tab : slice_index bytes at ≡ 9 → ⊥
-  pub ends : (slice_index bytes at ≡ 10) ⊎ (slice_index bytes at ≡ 32) → (1 ≤ at) × ¬ (IsWord (take at bytes))
+  pub ends : (slice_index bytes at ≡ 10) ⊎ (slice_index bytes at ≡ 32) → (1 ≤ at) × ¬ (IsWord grammar (take at bytes))
   pub no_mark : at ≡ 0 → take 3 bytes ≡ 239 ∷ 187 ∷ 191 ∷ [] → ⊥
 
 -- a byte of no number
@@ -72,25 +72,25 @@ LeavesRange bytes at = IsDigitAt bytes at × IsAfterSpace bytes at × ¬ (IsAfte
 
 -- what is at this place for each reason: in a line, whose line feed is its last byte, one reason alone, but that the
 -- two ranges are told apart by the field
-abbrev pub IsReasonAt : LineReason → List ℕ → ℕ → Type 0
-IsReasonAt reasons.NoLineEnd bytes at = at ≡ length bytes
-IsReasonAt reasons.EmptyLine bytes at = (at ≡ 0) × IsByteAt 10 bytes at
-IsReasonAt reasons.CarriageReturn bytes at = IsByteAt 13 bytes at
-IsReasonAt reasons.ByteOrderMark bytes at = (at ≡ 0) × (take 3 bytes ≡ 239 ∷ 187 ∷ 191 ∷ [])
-IsReasonAt reasons.Tab bytes at = IsByteAt 9 bytes at
+abbrev pub IsReasonAt : Grammar → LineReason → List ℕ → ℕ → Type 0
+IsReasonAt grammar reasons.NoLineEnd bytes at = at ≡ length bytes
+IsReasonAt grammar reasons.EmptyLine bytes at = (at ≡ 0) × IsByteAt 10 bytes at
+IsReasonAt grammar reasons.CarriageReturn bytes at = IsByteAt 13 bytes at
+IsReasonAt grammar reasons.ByteOrderMark bytes at = (at ≡ 0) × (take 3 bytes ≡ 239 ∷ 187 ∷ 191 ∷ [])
+IsReasonAt grammar reasons.Tab bytes at = IsByteAt 9 bytes at
 -- at the start, after another space, or at the end
-IsReasonAt reasons.Space bytes at =
-    IsByteAt 32 bytes at × ((at ≡ 0) ⊎ (IsByteBefore 32 bytes at ⊎ (IsPastWord bytes at × EndsAfter bytes at)))
-IsReasonAt reasons.UnknownWord bytes at = IsUnknown bytes at
-IsReasonAt reasons.MissingField bytes at = IsByteAt 10 bytes at × IsPastWord bytes at
+IsReasonAt grammar reasons.Space bytes at =
+    IsByteAt 32 bytes at × ((at ≡ 0) ⊎ (IsByteBefore 32 bytes at ⊎ (IsPastWord grammar bytes at × EndsAfter bytes at)))
+IsReasonAt grammar reasons.UnknownWord bytes at = IsUnknown grammar bytes at
+IsReasonAt grammar reasons.MissingField bytes at = IsByteAt 10 bytes at × IsPastWord grammar bytes at
 -- a space, after which more comes; or bytes after a line feed
-IsReasonAt reasons.TooManyFields bytes at =
-    (IsByteAt 32 bytes at × (1 ≤ at) × ¬ (IsByteBefore 32 bytes at) × IsPastWord bytes at × ¬ (EndsAfter bytes at))
+IsReasonAt grammar reasons.TooManyFields bytes at =
+    (IsByteAt 32 bytes at × (1 ≤ at) × ¬ (IsByteBefore 32 bytes at) × IsPastWord grammar bytes at × ¬ (EndsAfter bytes at))
     ⊎ ((at < length bytes) × IsByteBefore 10 bytes at)
-IsReasonAt reasons.NotANumber bytes at = IsForeign bytes at
-IsReasonAt reasons.LeadingZero bytes at = IsDigitAt bytes at × IsAfterZero bytes at
-IsReasonAt reasons.OutOfRange bytes at = LeavesRange bytes at
-IsReasonAt reasons.OutOfTicks bytes at = LeavesRange bytes at
+IsReasonAt grammar reasons.NotANumber bytes at = IsForeign bytes at
+IsReasonAt grammar reasons.LeadingZero bytes at = IsDigitAt bytes at × IsAfterZero bytes at
+IsReasonAt grammar reasons.OutOfRange bytes at = LeavesRange bytes at
+IsReasonAt grammar reasons.OutOfTicks bytes at = LeavesRange bytes at
 
 -- a field is named for these reasons alone: for `OutOfTicks` the count of ticks, for `OutOfRange` another
 abbrev pub NamesField : LineReason → Option Field → Type 0
@@ -102,30 +102,30 @@ NamesField reasons.OutOfTicks field = field ≡ Some fields.Count
 NamesField _ field = field ≡ None
 
 -- the fault is in these bytes, or right after them, and its reason is what is there
-pub record IsFaultOf (fault : LineFault) (bytes : List ℕ) : Type 0 where
+pub record IsFaultOf (grammar : Grammar) (fault : LineFault) (bytes : List ℕ) : Type 0 where
   pub some : 1 ≤ fault.column
   pub within : fault.column ≤ length bytes + 1
-  pub reason : IsReasonAt fault.reason bytes (fault.column - 1)
+  pub reason : IsReasonAt grammar fault.reason bytes (fault.column - 1)
   pub field : NamesField fault.reason fault.field
 
 -- no fault for the line of an event, and a fault for other bytes
-abbrev pub IsVerdict : Option LineFault → List ℕ → Type 0
-IsVerdict None bytes = IsLine bytes
-IsVerdict (Some fault) bytes = ¬ (IsLine bytes) × IsFaultOf fault bytes
+abbrev pub IsVerdict : Grammar → Option LineFault → List ℕ → Type 0
+IsVerdict grammar None bytes = IsLine grammar bytes
+IsVerdict grammar (Some fault) bytes = ¬ (IsLine grammar bytes) × IsFaultOf grammar fault bytes
 
 -- ---- within a line
 
--- what stands before this place: the letters of a word that begins a line, or fields, of which this is the last
-abbrev pub IsBehind : Option Field → List ℕ → ℕ → Type 0
-IsBehind None bytes at = AreBytesBefore IsLetter bytes at × IsWord (take at bytes)
-IsBehind (Some field) bytes at = IsAfterSpace bytes at × ¬ (IsDigitAt bytes at)
+-- what stands before this place: the bytes of a word that begins a line, or fields, of which this is the last
+abbrev pub IsBehind : Grammar → Option Field → List ℕ → ℕ → Type 0
+IsBehind grammar None bytes at = AreBytesBefore IsLetter bytes at × IsWord grammar (take at bytes)
+IsBehind grammar (Some field) bytes at = IsAfterSpace bytes at × ¬ (IsDigitAt bytes at)
 
 -- the word or a field ends here
-pub record IsEndOf (before : Option Field) (bytes : List ℕ) (at : ℕ) : Type 0 where
+pub record IsEndOf (grammar : Grammar) (before : Option Field) (bytes : List ℕ) (at : ℕ) : Type 0 where
   pub some : 1 ≤ at
   pub within : at ≤ length bytes
   pub no_space : slice_index bytes (at - 1) ≡ 32 → ⊥
-  pub behind : IsBehind before bytes at
+  pub behind : IsBehind grammar before bytes at
 
 -- so many digits of a number were read after a space: none, or the next byte is one too
 pub record IsInNumber (bytes : List ℕ) (at len : ℕ) : Type 0 where
@@ -140,6 +140,8 @@ abbrev pub field_words : Field → List ℕ
 field_words fields.Client = codes "client"
 field_words fields.Number = codes "number"
 field_words fields.Serial = codes "serial"
+field_words fields.Tick = codes "tick"
+field_words fields.Deadline = codes "deadline"
 field_words fields.Interval = codes "interval"
 field_words fields.Action = codes "action"
 field_words fields.Count = codes "count"

@@ -5,7 +5,8 @@ use Rattle.std.specs.Cmp.Lexicographic.{pointwise}
 use Rattle.std.specs.Net.Reader.{digit_count}
 use Rattle.std.specs.Str.Parse.{digits_value}
 use Rattle.std.specs.Borrow.{Bor}
-use Rattle.timer_script.specs.Types.{LAST, MAX_TICKS, Event, MOST_DIGITS}
+use Rattle.timer_script.specs.Types.{LAST, MAX_TICKS, Event, MOST_DIGITS, Grammar}
+use Rattle.timer_script.specs.declared.lines.Grammar.TheVariants.{Script, Stream}
 use Rattle.timer_facility.specs.declared.event.Event.TheVariants as Events
 
 -- a value and the bytes after it
@@ -50,6 +51,11 @@ field_at end bytes = number_at bytes >>= λ n. strip (end ∷ []) n.1 >>= λ res
 unfoldable pub tick_count_at : ℕ → List ℕ → Read ℕ
 tick_count_at end bytes =
     field_at end bytes >>= λ n. if (nat_le 1 n.0 && nat_le n.0 MAX_TICKS) then Some n else None
+
+-- what the first reads, or else the second
+abbrev pub or_else : {A : Type 0} → Option A → Option A → Option A
+or_else (Some x) other = Some x
+or_else None other = other
 
 -- made by tools/facts: what readers compute
 -- what follows `start `
@@ -102,3 +108,47 @@ line_at bytes =
     or_try (strip (codes "start ") bytes) start_at
     (or_try (strip (codes "stop ") bytes) stop_at
     (or_try (strip (codes "close\n") bytes) close_at (other_at bytes)))
+
+-- by hand
+-- made by tools/facts: what readers of a stream compute
+-- what follows `at `
+unfoldable pub at_line_at : List ℕ → Read Event
+at_line_at bytes =
+    field_at 10 bytes >>= λ tick.
+    Some (Events.TicksTo tick.0, tick.1)
+
+-- what follows `start-at `
+unfoldable pub start_at_line_at : List ℕ → Read Event
+start_at_line_at bytes =
+    field_at 32 bytes >>= λ client.
+    field_at 32 client.1 >>= λ number.
+    field_at 32 number.1 >>= λ deadline.
+    field_at 10 deadline.1 >>= λ action.
+    Some (Events.StartAt client.0 number.0 deadline.0 action.0, action.1)
+
+-- what follows `restart-at `
+unfoldable pub restart_at_line_at : List ℕ → Read Event
+restart_at_line_at bytes =
+    field_at 32 bytes >>= λ client.
+    field_at 32 client.1 >>= λ number.
+    field_at 32 number.1 >>= λ serial.
+    field_at 32 serial.1 >>= λ deadline.
+    field_at 10 deadline.1 >>= λ action.
+    Some (Events.RestartAt client.0 number.0 serial.0 deadline.0 action.0, action.1)
+
+-- the event of a line of a stream alone
+unfoldable pub own_line_at : List ℕ → Read Event
+own_line_at bytes =
+    or_try (strip (codes "at ") bytes) at_line_at
+    (or_try (strip (codes "start-at ") bytes) start_at_line_at
+    (or_try (strip (codes "restart-at ") bytes) restart_at_line_at None))
+
+-- by hand
+-- the event whose line is at the front of a stream
+unfoldable pub stream_at : List ℕ → Read Event
+stream_at bytes = or_else (line_at bytes) (own_line_at bytes)
+
+-- the event whose line is at the front, in this grammar
+abbrev pub line_in : Grammar → List ℕ → Read Event
+line_in Script bytes = line_at bytes
+line_in Stream bytes = stream_at bytes

@@ -8,6 +8,7 @@ use Rattle.timer_script.specs.Watched.{has_failed}
 use Rattle.timer_script.specs.Streams.{Known, unread_of, taken_by}
 use Rattle.timer_script.specs.Input.{ReadsUpTo, ReadsTooMany}
 use Rattle.timer_script.specs.ScriptRun.{ReadsAs}
+use Rattle.timer_script.specs.declared.lines.Grammar.TheVariants.{Script}
 use Rattle.timer_script.specs.Diagnosis.{IsVerdict, field_words, reason_words}
 
 -- a byte at the front of the first line
@@ -26,7 +27,7 @@ abbrev pub AreVerdicts : List (Option LineFault) → List (List ℕ) → Type 0
 AreVerdicts [] [] = Unit {0}
 AreVerdicts [] (line ∷ lines) = ⊥
 AreVerdicts (verdict ∷ verdicts) [] = ⊥
-AreVerdicts (verdict ∷ verdicts) (line ∷ lines) = IsVerdict verdict line × AreVerdicts verdicts lines
+AreVerdicts (verdict ∷ verdicts) (line ∷ lines) = IsVerdict Script verdict line × AreVerdicts verdicts lines
 
 -- the field before its reason, if it is of one
 abbrev pub of_field : Option Field → List ℕ

@@ -21,6 +21,7 @@ pub use Rattle.timer_script.specs.declared.input.TheConstants.{MAX_BYTES}
 pub use Rattle.timer_script.specs.declared.line_fault.Field.{Field}
 pub use Rattle.timer_script.specs.declared.line_fault.LineFault.{LineFault}
 pub use Rattle.timer_script.specs.declared.line_fault.LineReason.{LineReason}
+pub use Rattle.timer_script.specs.declared.lines.Grammar.{Grammar}
 pub use Rattle.timer_script.specs.declared.lines.TheConstants.{MAX_TICKS, MAX_LINE, MOST_DIGITS}
 pub use Rattle.timer_script.specs.declared.service.TheConstants.{PIECE}
 pub use Rattle.timer_script.specs.declared.streams.Streams.{Streams}

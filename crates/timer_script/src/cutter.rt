@@ -16,7 +16,7 @@ ghost use Rattle.timer_script.specs.Cutter.{Complaint, complaint_line, HasEndedL
 use crate::diagnosis::fault_of_bad;
 use crate::fault::ScriptFault;
 use crate::line_fault::LineFault;
-use crate::lines::{MAX_LINE, line_len, read_line};
+use crate::lines::{Grammar, MAX_LINE, line_len, read_stream_line};
 use crate::output::write_text;
 use crate::script_report::push_fault;
 use crate::watched::Watched;
@@ -75,7 +75,7 @@ fn sort_line(
     ensures stopped { IfErr result (λ fault. StopsLine fault on_bad number held.now
         events.old.items events.new.items) }
 {
-    match read_line(held) {
+    match read_stream_line(held) {
         Some((event, _)) => {
             events.push(event)?;
             Ok(())
@@ -83,7 +83,7 @@ fn sort_line(
         None => match on_bad {
             OnBadLine::Stop => Err(ScriptFault::Bad { line: number }),
             OnBadLine::Report => {
-                push_complaint(reports, number, fault_of_bad(held))?;
+                push_complaint(reports, number, fault_of_bad(Grammar::Stream, held))?;
                 Ok(())
             }
         },
@@ -168,7 +168,7 @@ impl Cutter {
             OnBadLine::Stop => Ok(Some(self.number)),
             OnBadLine::Report => {
                 self.reports.clear();
-                let fault = fault_of_bad(&self.held);
+                let fault = fault_of_bad(Grammar::Stream, &self.held);
                 push_complaint(&mut self.reports, self.number, fault)?;
                 write_report(faults, &self.reports);
                 self.clean = false;

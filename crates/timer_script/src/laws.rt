@@ -1,8 +1,8 @@
 //! Lemmas about scripts and the text that answers them, each the contract of a function that does nothing.
 ghost use Rattle.std.specs.Prelude.{◌≡◌, ◌++◌, ℕ, List, [], length, true, Bool, Some, Result};
-ghost use Rattle.timer_script.specs.Types.{LAST, Event, FacilityState, MAX_BYTES, MAX_TICKS, ServeFault, OnBadLine};
+ghost use Rattle.timer_script.specs.Types.{LAST, Event, FacilityState, MAX_BYTES, MAX_TICKS, ServeFault, OnBadLine, Grammar};
 ghost use Rattle.timer_facility.specs.Run.{bare_state};
-ghost use Rattle.timer_script.specs.Script.{IsScript, IsBadLine};
+ghost use Rattle.timer_script.specs.Script.{AreLinesOf, IsScript, IsBadLineOf};
 ghost use Rattle.timer_script.specs.ScriptReport.{IsScriptReport};
 ghost use Rattle.timer_script.specs.ScriptRun.{IsAnswer};
 ghost use Rattle.timer_script.specs.Decorator.{AddsNothing, AreDecorated};
@@ -19,17 +19,22 @@ pub fn limits()
     ensures bytes_of_a_script { MAX_BYTES ≡ 1048576 }
 {}
 
-/// Bytes spell at most one list of events.
-#[tactic(auto, using(crate::proofs::ScriptLemmas::one_spelling))]
+/// Bytes spell at most one list of events, in a script and in a stream, and what is a script is a stream of the same
+/// events. So `serve` answers a script as `run` does.
+#[tactic(auto, using(crate::proofs::ScriptLemmas::one_spelling, crate::proofs::ScriptLemmas::script_streams))]
 pub fn one_spelling()
-    ensures { (xs ys : List Event) (bytes : List ℕ) → IsScript xs bytes → IsScript ys bytes → xs ≡ ys }
+    ensures stream { (events : List Event) (bytes : List ℕ) → IsScript events bytes
+        → AreLinesOf Grammar.Stream events bytes }
+    ensures one { (grammar : Grammar) (xs ys : List Event) (bytes : List ℕ) → AreLinesOf grammar xs bytes
+        → AreLinesOf grammar ys bytes → xs ≡ ys }
 {}
 
-/// A script has no bad line, and other bytes have at most one first bad line.
+/// A script or a stream of good lines has no bad line, and other bytes have at most one first bad line.
 pub fn one_bad_line()
-    ensures no_script { (xs : List Event) (bytes : List ℕ) (n : ℕ) → IsScript xs bytes → IsBadLine bytes n
-        → ⊥ }
-    ensures one { (bytes : List ℕ) (m n : ℕ) → IsBadLine bytes m → IsBadLine bytes n → m ≡ n }
+    ensures no_script { (grammar : Grammar) (xs : List Event) (bytes : List ℕ) (n : ℕ)
+        → AreLinesOf grammar xs bytes → IsBadLineOf grammar bytes n → ⊥ }
+    ensures one { (grammar : Grammar) (bytes : List ℕ) (m n : ℕ) → IsBadLineOf grammar bytes m
+        → IsBadLineOf grammar bytes n → m ≡ n }
 {}
 
 /// Bytes with no bad line are the script of some events, and their report is empty; a script has no bad line.

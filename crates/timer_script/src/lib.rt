@@ -12,7 +12,7 @@
 //!     runs        `input`, `output`, `script_run`, `text`
 //!     streams     a stream cut into lines (`cutter`), `session`, `steps`, `peer`, `streams`,
 //!                 `service`, `decorator`
-//!     bad lines   `line_fault` and `diagnosis` (one line), `script_report` (those of a script)
+//!     bad lines   `line_fault`, `words` and `diagnosis` (one line), `script_report` (those of a script)
 #![tactic(auto)]
 
 mod cutter;
@@ -34,6 +34,7 @@ mod steps;
 mod streams;
 mod text;
 mod watched;
+mod words;
 
 pub use cutter::OnBadLine;
 pub use decorator::{Decorator, Undecorated};
@@ -41,7 +42,7 @@ pub use diagnosis::fault_in_line;
 pub use fault::{CheckFault, RunFault, ScriptFault, ServeFault, WriteFault};
 pub use input::MAX_BYTES;
 pub use line_fault::{Field, LineFault, LineReason};
-pub use lines::MAX_TICKS;
+pub use lines::{Grammar, MAX_TICKS};
 pub use output::write_text;
 pub use peer::Peer;
 pub use script::parse_script;

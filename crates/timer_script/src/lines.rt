@@ -1,4 +1,4 @@
-//! One line of a script, read from the front of the bytes; and where it ends.
+//! One line of a script or of a stream, read from the front of the bytes; and where it ends.
 //!
 //!     start 0 1 130 7    client 0's request 1 starts a timer that expires after 130 ticks, with action 7
 //!
@@ -12,9 +12,9 @@ ghost use Rattle.std.specs.Int.{from_le_bytes, w32};
 ghost use Rattle.std.specs.Str.Parse.{AllDigits, digits_value};
 ghost use Rattle.timer_script.specs.declared.lines.TheConstants.{MOST_DIGITS};
 ghost use Rattle.timer_script.specs.Script.{HasNoFeed};
-ghost use Rattle.timer_script.specs.Lines.{read_view, has_word, number_at, field_at, tick_count_at, other_at, line_at};
+ghost use Rattle.timer_script.specs.Lines.{read_view, has_word, number_at, field_at, tick_count_at, other_at, line_at, own_line_at, stream_at, line_in};
 // made by tools/facts: imports of readers
-ghost use Rattle.timer_script.specs.Lines.{start_at, stop_at, restart_at, tick_at, close_at};
+ghost use Rattle.timer_script.specs.Lines.{start_at, stop_at, restart_at, tick_at, close_at, at_line_at, start_at_line_at, restart_at_line_at};
 
 use timer_base::LAST;
 use timer_facility::Event;
@@ -22,9 +22,18 @@ use timer_facility::Event;
 /// The most ticks of one line.
 pub const MAX_TICKS: u64 = 1000000;
 
-/// The most bytes of one line, with its line feed: `restart`, five numbers of 19 digits, and a space
+/// The most bytes of one line of a stream, with its line feed: `restart-at`, five numbers of 19 digits, and a space
 /// before each.
-pub const MAX_LINE: usize = 108;
+pub const MAX_LINE: usize = 111;
+
+/// Which lines are read.
+#[derive(Clone, Copy, Debug, PartialEq, Eq)]
+pub enum Grammar {
+    /// Those of a script, which is played or checked as a whole.
+    Script,
+    /// Those, and the lines of a stream alone: by tick in place of by interval.
+    Stream,
+}
 
 /// The most digits of a number.
 const MOST_DIGITS: usize = 19;
@@ -117,6 +126,15 @@ fn has_word(bytes: &[u8], word: &[u8]) -> bool
     bytes[4..].starts_with(&word[4..])
 }
 
+/// Whether the bytes begin with this word, however short it is.
+#[tactic(auto, unfolding(crate::specs::Lines::has_word))]
+fn has_short_word(bytes: &[u8], word: &[u8]) -> bool
+    ensures value { result ≡ has_word word.now bytes.now }
+    ensures within { IsTrue result → length word.now ≤ length bytes.now }
+{
+    bytes.starts_with(word)
+}
+
 // made by tools/facts: readers of lines
 /// The event of a line, from what follows `start `.
 #[inline(always)]
@@ -196,6 +214,57 @@ fn read_close(bytes: &[u8]) -> Option<(Event, &[u8])>
     Some((event, bytes))
 }
 
+/// The event of a line, from what follows `at `.
+#[inline(never)]
+#[tactic(auto, unfolding(crate::specs::Lines::at_line_at))]
+fn read_at(bytes: &[u8]) -> Option<(Event, &[u8])>
+    ensures { read_view (λ e. e) result ≡ at_line_at bytes.now }
+{
+    let (tick, rest) = read_field(bytes, b'\n')?;
+    let event = Event::TicksTo { tick };
+    Some((event, rest))
+}
+
+/// The event of a line, from what follows `start-at `.
+#[inline(never)]
+#[tactic(auto, unfolding(crate::specs::Lines::start_at_line_at))]
+fn read_start_at(bytes: &[u8]) -> Option<(Event, &[u8])>
+    ensures { read_view (λ e. e) result ≡ start_at_line_at bytes.now }
+{
+    let (client, rest) = read_field(bytes, b' ')?;
+    let (number, rest) = read_field(rest, b' ')?;
+    let (deadline, rest) = read_field(rest, b' ')?;
+    let (action, rest) = read_field(rest, b'\n')?;
+    let event = Event::StartAt {
+        client,
+        number,
+        deadline,
+        action,
+    };
+    Some((event, rest))
+}
+
+/// The event of a line, from what follows `restart-at `.
+#[inline(never)]
+#[tactic(auto, unfolding(crate::specs::Lines::restart_at_line_at))]
+fn read_restart_at(bytes: &[u8]) -> Option<(Event, &[u8])>
+    ensures { read_view (λ e. e) result ≡ restart_at_line_at bytes.now }
+{
+    let (client, rest) = read_field(bytes, b' ')?;
+    let (number, rest) = read_field(rest, b' ')?;
+    let (serial, rest) = read_field(rest, b' ')?;
+    let (deadline, rest) = read_field(rest, b' ')?;
+    let (action, rest) = read_field(rest, b'\n')?;
+    let event = Event::RestartAt {
+        client,
+        number,
+        serial,
+        deadline,
+        action,
+    };
+    Some((event, rest))
+}
+
 // by hand
 /// The event of a line whose word is read by a call. Inlined as a function of its own, so that the results of its calls
 /// take no time in lines of other kinds. With all readers in place, `read_line` would be too large to be inlined.
@@ -234,6 +303,49 @@ pub fn read_line(bytes: &[u8]) -> Option<(Event, &[u8])>
     }
     // by hand
     read_other(bytes)
+}
+
+/// The event of a line of a stream alone.
+#[inline(never)]
+#[tactic(auto, unfolding(crate::specs::Lines::own_line_at))]
+fn read_own_line(bytes: &[u8]) -> Option<(Event, &[u8])>
+    ensures { read_view (λ e. e) result ≡ own_line_at bytes.now }
+{
+    // made by tools/facts: words of a stream
+    if has_short_word(bytes, b"at ") {
+        return read_at(&bytes[3..]);
+    }
+    if has_short_word(bytes, b"start-at ") {
+        return read_start_at(&bytes[9..]);
+    }
+    if has_short_word(bytes, b"restart-at ") {
+        return read_restart_at(&bytes[11..]);
+    }
+    // by hand
+    None
+}
+
+/// The event whose line is at the front of a stream, and the bytes after the line.
+#[inline(always)]
+#[tactic(auto, using(crate::proofs::LineLemmas::stream_reading))]
+pub fn read_stream_line(bytes: &[u8]) -> Option<(Event, &[u8])>
+    ensures { read_view (λ e. e) result ≡ stream_at bytes.now }
+{
+    match read_line(bytes) {
+        Some((event, rest)) => Some((event, rest)),
+        None => read_own_line(bytes),
+    }
+}
+
+/// The event whose line is at the front in this grammar, and the bytes after the line.
+#[tactic(auto, using(crate::proofs::LineLemmas::stream_reading))]
+pub fn read_line_in(grammar: Grammar, bytes: &[u8]) -> Option<(Event, &[u8])>
+    ensures { read_view (λ e. e) result ≡ line_in grammar bytes.now }
+{
+    match grammar {
+        Grammar::Script => read_line(bytes),
+        Grammar::Stream => read_stream_line(bytes),
+    }
 }
 
 /// How many bytes at the front belong to one line: all up to the first line feed.

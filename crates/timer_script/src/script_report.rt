@@ -7,7 +7,7 @@ use crate::diagnosis::fault_in_line;
 use crate::fault::CheckFault;
 use crate::input::read_script;
 use crate::line_fault::{Field, LineFault};
-use crate::lines::line_len;
+use crate::lines::{Grammar, line_len};
 use crate::output::write_text;
 use crate::watched::Watched;
 use itoa::Buffer;
@@ -61,7 +61,7 @@ fn report_of(alloc: Global, script: &[u8]) -> Result<(Vec<u8>, u64), OutOfMemory
     while !rest.is_empty() {
         let len = line_len(rest);
         lines += 1;
-        if let Some(fault) = fault_in_line(&rest[..len]) {
+        if let Some(fault) = fault_in_line(Grammar::Script, &rest[..len]) {
             push_fault(&mut text, lines, fault)?;
             bad += 1;
         }

@@ -59,6 +59,10 @@ pub fn play_event<W: Wheel + Drop>(
         } => answer_restart(player, client, number, serial, interval, action, text),
         Event::Ticks { count } => answer_ticks(player, count, outs, text),
         Event::Close => answer_close(player, outs, text),
+        // The lines of a stream alone. In a script they don't come.
+        Event::StartAt { .. } | Event::RestartAt { .. } | Event::TicksTo { .. } => {
+            answer_outs(player, event, outs, text)
+        }
     }
 }
 

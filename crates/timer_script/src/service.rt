@@ -16,7 +16,7 @@ use crate::fault::{ServeFault, TurnFault};
 use crate::input::zeroed_buffer;
 use crate::peer::Peer;
 use crate::session::Session;
-use crate::steps::play_steps;
+use crate::steps::{play_steps, play_steps_to};
 use crate::watched::Watched;
 use std::alloc::Global;
 use std::io::Write;
@@ -63,10 +63,12 @@ fn play<W: Wheel + Drop, D: Decorator<W>>(
         text.old.items text.new.items) }
     ensures nothing { OnErr result (text.new.items ≡ text.old.items) }
 {
-    if decorator.shows_steps()
-        && let Event::Ticks { count } = event
-    {
-        return play_steps(session, decorator, count, text);
+    if decorator.shows_steps() {
+        match event {
+            Event::Ticks { count } => return play_steps(session, decorator, count, text),
+            Event::TicksTo { tick } => return play_steps_to(session, decorator, tick, text),
+            _ => {}
+        }
     }
     session.play_one(event, text)
 }

@@ -38,6 +38,22 @@ pub fn play_steps<W: Wheel + Drop, D: Decorator<W>>(
     Ok(())
 }
 
+/// The same for the ticks that are left until a tick.
+#[tactic(auto, using(crate::proofs::StepLemmas::answered_to))]
+pub fn play_steps_to<W: Wheel + Drop, D: Decorator<W>>(
+    session: &mut Session<W>,
+    decorator: &D,
+    tick: u64,
+    text: &mut Vec<u8>,
+) -> Result<(), OutOfMemory>
+    ensures whole { OnOk result (HasGrownByAnswer (D.adds decorator.now) session.old.player (Event.TicksTo tick ∷ [])
+        session.new.player text.old.items text.new.items) }
+    ensures nothing { OnErr result (text.new.items ≡ text.old.items) }
+{
+    let left = tick.saturating_sub(session.player.facility().now());
+    play_steps(session, decorator, left, text)
+}
+
 /// How many ticks the next step has, if so many are left of the line.
 fn step_of<W: Wheel + Drop>(facility: &Facility<W>, left: u64) -> u64
     ensures within { result ≤ left }

@@ -22,5 +22,5 @@ loop-field-preserved c =
     let line = c.args.line.now in
     let at = c.loop-field.at in
     let space : IsByteAt 32 line at = search rules in
-    end_of_number line _ at c.number_len-len.result _ (take_rest line (at + 1)) space c.number_len-len.ensures.within
+    end_of_number c.args.grammar line _ at c.number_len-len.result _ (take_rest line (at + 1)) space c.number_len-len.ensures.within
     c.number_len-len.ensures.digits c.if-len-eq0.false (search rules)

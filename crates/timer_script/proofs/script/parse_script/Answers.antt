@@ -1,4 +1,5 @@
 use Rattle.std.proofs.Common.{sym, ◌∙◌, arith, subst}
+use Rattle.timer_script.specs.declared.lines.Grammar.TheVariants.{Script}
 use Rattle.timer_script.proofs.Results.{emptied}
 use Rattle.timer_script.proofs.ScriptLemmas.{HasReadTo, one_spelling, read_more, read_all, line_shorter}
 use Rattle.timer_script.proofs.script.parse_script.Goals as goal
@@ -17,4 +18,4 @@ loop-rest-preserved c =
 pub returns-clause-only : goal.returns-clause-only
 returns-clause-only c = λ others script.
     let own = read_all _ _ _ c.loop-rest.invariant.read (emptied c.loop-rest.rest.now (sym c.is_empty.ensures ∙ c.loop-rest-test.false)) in
-    one_spelling others c.loop-rest.events.items c.args.bytes.now script own
+    one_spelling Script others c.loop-rest.events.items c.args.bytes.now script own

@@ -1,4 +1,4 @@
-use Rattle.std.proofs.Common.{◌∙◌, ap, sym, subst}
+use Rattle.std.proofs.Common.{[], ◌∙◌, ap, sym, subst}
 use Rattle.timer_facility.specs.State.{FacilityState}
 use Rattle.timer_facility.specs.Facility.{model_of, MakesTimer, WhyNotTaken}
 use Rattle.timer_facility.specs.Handles.{HandleList, AreRecorded, with_answer}
@@ -26,7 +26,7 @@ pub returns-in-Ok-clause-ok : goal.returns-in-Ok-clause-ok
 returns-in-Ok-clause-ok g c = MakesStep-taken c.self.view_is c.in-Ok.ensures.taken (c.take.ensures.quiet c.requires)
 
 pub returns-in_default-clause-ok : goal.returns-in_default-clause-ok
-returns-in_default-clause-ok g c = MakesStep-not_taken c.self.view_is c.in-Err.ensures.taken c.in_default.not-OutOfMemory
+returns-in_default-clause-ok g c = MakesStep-not_taken [] c.self.view_is c.in-Err.ensures.taken c.in_default.not-OutOfMemory
 
 pub returns-in-OutOfMemory-clause-memory : goal.returns-in-OutOfMemory-clause-memory
 returns-in-OutOfMemory-clause-memory g c =

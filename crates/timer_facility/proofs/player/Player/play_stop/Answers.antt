@@ -1,4 +1,4 @@
-use Rattle.std.proofs.Common.{◌≡◌, refl, subst}
+use Rattle.std.proofs.Common.{◌≡◌, [], refl, subst}
 use Rattle.timer_facility.specs.declared.request.NotTaken.TheVariants as NotTakens
 use Rattle.timer_facility.specs.declared.request.Request.TheVariants as Requests
 use Rattle.timer_facility.specs.State.{FacilityState}
@@ -32,4 +32,4 @@ returns-in-Err g c =
     (subst (WhyNotTaken s client number (Requests.Stop handle)) is c.in-Err.ensures.taken.why)) in
     AddsRun-stop client number recorded
     (record { same_serial = c.handle_of-handle.ensures.serial; same_place = c.handle_of-handle.ensures.place })
-    (MakesStep-not_taken c.self.view_is c.in-Err.ensures.taken other)
+    (MakesStep-not_taken [] c.self.view_is c.in-Err.ensures.taken other)

@@ -1,5 +1,5 @@
 use Rattle.timer_script.specs.Diagnosis.{IsLetter, AreBytesBefore}
-use Rattle.timer_script.proofs.diagnosis.word_len.Given as goal
+use Rattle.timer_script.proofs.words.common_len.Given as goal
 
 abbrev pub invariant-loop-i : goal.invariant-loop-i
 invariant-loop-i l = AreBytesBefore IsLetter l.line l.i

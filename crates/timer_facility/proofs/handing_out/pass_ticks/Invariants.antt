@@ -2,7 +2,7 @@ use Rattle.std.proofs.Common.{◌≡◌, ◌<◌, ◌≤◌, ◌+◌, ◌-◌, [
 use Rattle.std.specs.Prelude.{vec_capacity}
 use Rattle.timer_facility.specs.Handles.{HandleList, AreRecorded}
 use Rattle.timer_facility.proofs.PlayedTicks.{HasTicked}
-use Rattle.timer_facility.proofs.player.pass_ticks.Given as goal
+use Rattle.timer_facility.proofs.handing_out.pass_ticks.Given as goal
 
 -- the ticks so far were accepted, and there is room for a notice of each timer still pending
 abbrev pub invariant-loop-left : goal.invariant-loop-left

@@ -5,7 +5,7 @@ use Rattle.timer_facility.specs.Handles.{AreRecorded}
 use Rattle.timer_facility.specs.Ticked.{AreTicked}
 use Rattle.timer_facility.proofs.PlayedTicks.{HasTicked, HasTicked-many, AddsRun-all, AddsRun-refused, length-many}
 use Rattle.timer_facility.proofs.HandlesLemmas.{AreRecorded-ticks}
-use Rattle.timer_facility.proofs.player.pass_ticks.Goals as goal
+use Rattle.timer_facility.proofs.handing_out.pass_ticks.Goals as goal
 
 pub hand_out-requires : goal.hand_out-requires
 hand_out-requires g c = omega (

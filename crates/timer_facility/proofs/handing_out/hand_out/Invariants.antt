@@ -1,7 +1,7 @@
 use Rattle.std.proofs.Common.{◌≡◌, ◌+◌, ◌++◌, length, map, vec_len}
 use Rattle.std.specs.Prelude.{vec_capacity}
 use Rattle.timer_facility.specs.declared.event.Out.TheVariants as Outs
-use Rattle.timer_facility.proofs.player.hand_out.Given as goal
+use Rattle.timer_facility.proofs.handing_out.hand_out.Given as goal
 
 -- what was handed out, followed by what still waits, is what waited at the beginning
 abbrev pub invariant-loop-notice : goal.invariant-loop-notice
