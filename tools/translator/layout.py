@@ -5,7 +5,9 @@ import re
 
 from translator.expressions import declared, opposite
 from translator.hints import Hints
-from translator.statements import Likeness, ends, labels_wanted, splice
+from translator.statements import Likeness, ends, labels_wanted, splice, within
+
+EFFECT = re.compile(r'\b(?!load)\w+\(')            # a call of anything but what reads memory
 
 
 class Layout:
@@ -16,7 +18,7 @@ class Layout:
         splice(body, self.labels)
         self.fixed = {*writer.parameters, *[name for name, _, _ in writer.memory]}
         self.note_all(body)
-        while self.join(body):
+        while self.join(body) or self.drop(body):
             self.note_all(body)
         for name, size, alignment in writer.memory:
             self.lines.append(f'\tALIGN({alignment}) byte {name}[{size}];')
@@ -37,6 +39,17 @@ class Layout:
                     return True
             if any(map(self.join, s.bodies)):
                 return True
+        return False
+
+    def drop(self, body):
+        """Drops what reads a variable that nothing asks for: one that chose between two arms that are one now. Whether there was one."""
+        wanted = {name for s in within(body) if s.e for name in s.e.variables} | self.fixed
+        for one in [body, *[inner for s in within(body) for inner in s.bodies]]:
+            for place, s in enumerate(one[:-1]):
+                if s.kind == 'set' and s.name not in wanted and not EFFECT.search(s.e.text):
+                    one[place + 1].begins += s.begins
+                    del one[place]
+                    return True
         return False
 
     def note_all(self, body):

@@ -20,9 +20,10 @@
 //! wheel.
 //!
 //!     files      the buckets, their bits, and what changes them between ticks
+//!     leaps      ticks, and leaps over those at which nothing happens
 //!     filing     one bucket is emptied
 ghost use Rattle.std.specs.Prelude.{◌≡◌, ◌<◌, ◌≤◌, ◌+◌, ◌-◌, ◌*◌, [], length, IfOk, IfErr, IfSome, OnOk, OnErr, MatchOption, MatchResult};
-ghost use Rattle.timer_base.specs.WakeUps.{IsQuietUntil, next_deadline};
+ghost use Rattle.timer_base.specs.WakeUps.{IsQuietUntil};
 ghost use Rattle.timer_base.specs.WheelState.{empty_wheel, held_at, held_count, old_timer, first_due, after_reserve, after_held_start, after_removal, after_replacement, after_tick, after_expiry, after_clear, Advances};
 ghost use Rattle.timer_base.specs.declared.limits.TheConstants.{LAST};
 ghost use Rattle.timer_wheels.specs.HeldPlaces.{IsFirstHeld};
@@ -38,6 +39,7 @@ use timer_links::{Kept, Links};
 
 mod files;
 mod filing;
+mod leaps;
 
 /// Wheels with the slots of a table, in which a restart for a deadline that is not before the old one touches no link.
 ///
@@ -46,18 +48,6 @@ mod filing;
 #[derive(Drop)]
 pub struct LazyWheel<N: Kept = Timer> {
     files: Files<N>,
-    counts: FilingCounts,
-    ghost few_starts: { counts.starts ≤ files.buckets.last_serial },
-    ghost paid: { counts.filings ≤ length (radices files.table) * counts.starts },
-}
-
-/// What a lazy wheel did since it was made.
-#[derive(Clone, Copy, Drop)]
-pub struct FilingCounts {
-    /// Timers that were started or restarted.
-    pub starts: u64,
-    /// Timers that were filed anew, at a visit of their bucket. They are not counted yet: it stays 0.
-    pub filings: u64,
 }
 
 impl LazyWheel {
@@ -105,13 +95,7 @@ impl<N: Kept> LazyWheel<N> {
         let Ok(files) = Files::new(alloc, table, first_tick) else {
             return Err(MakeFault::OutOfMemory);
         };
-        Ok(LazyWheel {
-            files,
-            counts: FilingCounts {
-                starts: 0,
-                filings: 0,
-            },
-        })
+        Ok(LazyWheel { files })
     }
 
     /// The buckets, then 35 lists that are empty, and the list of due timers.
@@ -137,17 +121,17 @@ impl<N: Kept> LazyWheel<N> {
     pub fn starts(&self) -> u64
         ensures { result ≡ (lazy_counts self.now).starts }
     {
-        self.counts.starts
+        self.files.counts.starts
     }
 
     /// How many times a timer was filed anew, at a visit of its bucket, since the wheel was made. Does not allocate.
     ///
-    /// They are not counted yet: it is 0. Each is at most one in each wheel after a start or restart.
+    /// At most once in each wheel after a start or restart: ten times in `Table::Wide`.
     pub fn filings(&self) -> u64
         ensures value { result ≡ (lazy_counts self.now).filings }
         ensures at_most { result ≤ length (radices (lazy_table self.now)) * (lazy_counts self.now).starts }
     {
-        self.counts.filings
+        self.files.counts.filings
     }
 
     /// Whether a node is ready for the next timer. Nothing depends on it but how a start is compiled.
@@ -177,8 +161,8 @@ impl<N: Kept> LazyWheel<N> {
 }
 
 impl<N: Kept> Wheel for LazyWheel<N> {
-    ghost use Rattle.timer_wheels.specs.Files.{StaysInPlace};
-    ghost use Rattle.timer_wheels.specs.LazyWheel.{lazy_state, lazy_lists, lazy_counts, with_start, lazy-well_formed};
+    ghost use Rattle.timer_wheels.specs.Files.{StaysInPlace, with_start, with_filings};
+    ghost use Rattle.timer_wheels.specs.LazyWheel.{lazy_state, lazy_lists, lazy_counts, lazy_left, lazy_filed_next, lazy-well_formed};
 
     ghost state = { λ wheel. lazy_state wheel };
 
@@ -221,10 +205,7 @@ impl<N: Kept> Wheel for LazyWheel<N> {
         ensures counts { MatchResult result (λ _. lazy_counts self.new ≡ with_start (lazy_counts self.old))
             (λ _. lazy_counts self.new ≡ lazy_counts self.old) }
     {
-        let handle = self.files.start(timer)?;
-        let counts = &mut self.counts;
-        counts.starts += 1;
-        Ok(handle)
+        self.files.start(timer)
     }
 
     fn reserve(&mut self, most: usize) -> Result<(), OutOfMemory>
@@ -264,29 +245,32 @@ impl<N: Kept> Wheel for LazyWheel<N> {
         ensures counts { MatchOption result (lazy_counts self.new ≡ lazy_counts self.old)
             (λ _. lazy_counts self.new ≡ with_start (lazy_counts self.old)) }
     {
-        let restarted = self.files.restart(handle, timer)?;
-        let counts = &mut self.counts;
-        counts.starts += 1;
-        Some(restarted)
+        self.files.restart(handle, timer)
     }
 
     /// Of the bucket that it visits, each timer that is not due is filed anew.
+    #[inline(always)]
     fn per_tick(&mut self)
         requires nothing_due { (lazy_state self.old).due ≡ [] }
         requires before_last { (lazy_state self.old).now < (lazy_state self.old).last_tick }
         ensures ticked { lazy_state self.new ≡ after_tick (lazy_state self.old) }
-        ensures counts { lazy_counts self.new ≡ lazy_counts self.old }
+        ensures counts { lazy_counts self.new ≡ with_filings (lazy_filed_next self.old) (lazy_counts self.old) }
+        ensures counted { (lazy_counts self.new).filings + lazy_left self.new
+            ≤ (lazy_counts self.old).filings + lazy_left self.old }
     {
         self.files.next_tick();
     }
 
-    /// As many timers are filed anew as by single ticks.
+    /// Each bucket with timers that is visited on the way is emptied, as by `per_tick`.
+    #[inline(always)]
     fn advance(&mut self, most: u64) -> u64
         requires nothing_due { (lazy_state self.old).due ≡ [] }
         requires some { 0 < most }
         requires before_last { most ≤ (lazy_state self.old).last_tick - (lazy_state self.old).now }
         ensures advances { Advances most result (lazy_state self.old) (lazy_state self.new) }
         ensures starts { (lazy_counts self.new).starts ≡ (lazy_counts self.old).starts }
+        ensures counted { (lazy_counts self.new).filings + lazy_left self.new
+            ≤ (lazy_counts self.old).filings + lazy_left self.old }
     {
         self.files.advance(most)
     }
