@@ -1,8 +1,8 @@
 -- How often the timers of a lazy hierarchy may still be filed anew: what a start, a push back, a stop, ticks and a visit make
 -- of it.
-use Rattle.std.proofs.Common.{◌≡◌, ◌≢◌, ◌<◌, ◌≤◌, ◌+◌, ◌*◌, ◌/◌, ◌==◌, ◌⊎◌, ℕ, zero, suc, List, [], ◌∷◌, ◌++◌, length, refl, sym, ◌∙◌, ap, subst, inl, inr, arith, true, false, map, not, slice_set, length-set, get_or-set_same, get_or-set_other, if◌then◌else◌, Some}
+use Rattle.std.proofs.Common.{◌≡◌, ◌≢◌, ◌<◌, ◌≤◌, ◌+◌, ◌*◌, ◌/◌, ◌==◌, ◌⊎◌, ℕ, suc, List, [], ◌∷◌, ◌++◌, length, refl, sym, ◌∙◌, ap, subst, inl, inr, arith, true, false, map, not, slice_set, length-set, get_or-set_same, get_or-set_other, Some}
 use Rattle.std.specs.List.{AllByRecursion}
-use Rattle.std.proofs.lemmas.Bool.{cases_eq, cases_lt, eq-eqb, ne_eqb}
+use Rattle.std.proofs.lemmas.Bool.{cases_eq, eq-eqb, ne_eqb}
 use Rattle.std.proofs.lemmas.Nat.{mul-le}
 use Rattle.timer_base.proofs.Basics.{is_not_due, is_due}
 use Rattle.timer_base.proofs.OrderLaws.{All-weaken}
@@ -22,7 +22,7 @@ use Rattle.timer_wheels.specs.Migration.{target, migrate_rows, migrated, left_ro
 use Rattle.timer_wheels.specs.Tables.{radices}
 use Rattle.timer_wheels.specs.declared.buckets.Buckets.{Buckets}
 use Rattle.timer_wheels.proofs.AllLemmas.{all-both}
-use Rattle.timer_wheels.proofs.DigitLaws.{IsHierTable, level_near, level_far, quotient_mono, bucket_at_tick, digits_down, emptied_in_range, level_in_table}
+use Rattle.timer_wheels.proofs.DigitLaws.{level_near, level_far, quotient_mono, bucket_at_tick, digits_down, emptied_in_range, level_in_table}
 use Rattle.timer_wheels.proofs.FiledLemmas.{visited_later}
 use Rattle.timer_wheels.proofs.FilesLemmas.{IsKnownFile, is_table, last_digits, known_files}
 use Rattle.timer_wheels.proofs.Handles.{held_node}
@@ -42,8 +42,12 @@ level_mono (r ∷ rs) a b d t h k =
     let high : b / r ≤ d / r = quotient_mono r b d t.0 k in
     elim (cases_eq (b / r) (d / r)) [
       | inl q ↦ omega (arith, level_near r rs b d q)
-      | inr q ↦ omega (arith, level_far r rs b d q, level_far r rs a d (λ (e : a / r ≡ d / r). q (omega arith)),
-          level_mono rs (a / r) (b / r) (d / r) t.1 low high)
+      | inr q ↦ omega (
+        arith,
+        level_far r rs b d q,
+        level_far r rs a d (λ (e : a / r ≡ d / r). q (omega arith)),
+        level_mono rs (a / r) (b / r) (d / r) t.1 low high,
+      )
     ]
 
 in_own : (table : List ℕ) (now s : ℕ) (row : Row) → bucket table now (row_timer row).deadline ≡ s
@@ -295,8 +299,8 @@ module _ {N : Type 0} {kept : Ghosts N} {t : Table} {b : Buckets N kept} {words 
           arith,
           after,
           emptied_pays (radices t) b.tick l (list_at l b.links.lists) base
-          (omega (arith, length-set b.links.lists l [], h.has_slots, b.sound.has_lists))
-          (All-weaken (Known l) (IsPaidAt (radices t) b.tick l) (list_at l b.links.lists) paid_row (known_files h l (in_slots l l_in))),
+              (omega (arith, length-set b.links.lists l [], h.has_slots, b.sound.has_lists))
+              (All-weaken (Known l) (IsPaidAt (radices t) b.tick l) (list_at l b.links.lists) paid_row (known_files h l (in_slots l l_in))),
           sums-mono f g (slots (radices t)) base base base_at,
           sums-set f (slots (radices t)) l [] b.links.lists l_in l_there,
         )

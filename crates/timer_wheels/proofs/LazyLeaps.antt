@@ -6,7 +6,6 @@ use Rattle.std.proofs.lemmas.Bool.{cases_eq, cases_lt}
 use Rattle.timer_base.proofs.OrderLaws.{All-weaken}
 use Rattle.timer_base.specs.WheelState.{Advances, IsPassing, after_tick, after_ticks}
 use Rattle.timer_wheels.specs.Types.{WheelState, Ghosts, list_at, Row, Rows, Table}
-use Rattle.timer_wheels.specs.Buckets.{state_of}
 use Rattle.timer_wheels.specs.Digits.{IsTable, HasDigits, slots, emptied, lowest_radix}
 use Rattle.timer_wheels.specs.Files.{AreFiles, AreVisitedFrom}
 use Rattle.timer_wheels.specs.Leap.{list_visit}

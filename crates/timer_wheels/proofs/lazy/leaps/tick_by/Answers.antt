@@ -14,7 +14,7 @@ use Rattle.timer_wheels.proofs.WheelUpdates.{in_word}
 use Rattle.timer_wheels.proofs.lazy.leaps.tick_by.Goals as goal
 
 pub has-requires : goal.has-requires
-has-requires g c = in_word c.args.table c.emptied_at-list.result c.emptied_at-list.ensures.in_range
+has-requires g c = (omega arith, in_word c.args.table c.emptied_at-list.result c.emptied_at-list.ensures.in_range)
 
 pub visit-requires-clause-emptied : goal.visit-requires-clause-emptied
 visit-requires-clause-emptied g c =

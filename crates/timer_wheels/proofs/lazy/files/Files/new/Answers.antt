@@ -27,5 +27,5 @@ invariant_of-result-clause-paid g c =
     omega (
       arith,
       sums-none (filings_of (radices c.args.table) b.tick) (slots (radices c.args.table)) b.links.lists
-      (λ s h. ap (list_at s) c.in_ok-buckets.ensures.lists ∙ no_rows_at (c.buckets_of-slots.result + 35 + 1) s),
+          (λ s h. ap (list_at s) c.in_ok-buckets.ensures.lists ∙ no_rows_at (c.buckets_of-slots.result + 35 + 1) s),
     )

@@ -1,4 +1,4 @@
-use Rattle.std.proofs.Common.{◌≡◌, ◌<◌, ◌≤◌, ◌+◌, ◌-◌, ℕ, sym, ◌∙◌, ap, subst, arith, Some}
+use Rattle.std.proofs.Common.{◌≡◌, ◌<◌, ◌+◌, ◌-◌, ℕ, sym, ◌∙◌, ap, subst, arith, Some}
 use Rattle.timer_base.specs.WheelState.{IsPassing}
 use Rattle.timer_wheels.specs.Types.{WheelState, Ghosts, Table}
 use Rattle.timer_wheels.specs.Buckets.{state_of}
