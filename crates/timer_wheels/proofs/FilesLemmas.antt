@@ -132,7 +132,7 @@ module _ {N : Type 0} {kept : Ghosts N} {t : Table} {b : Buckets N kept} {words 
     first_in : l < b.slots
     first_in = omega (arith, first_in_table, less_slots)
 
-    filled_there : filled (list_at l b.links.lists) ≡ 1
+    pub filled_there : filled (list_at l b.links.lists) ≡ 1
     filled_there = sym (h.marked.0 l first_in_table) ∙ f.1
 
     later_there : (rows : Rows) → filled rows ≡ 1 → AllByRecursion (Known l) rows → b.tick < list_visit (radices t) l b.tick
@@ -253,12 +253,10 @@ module _ {N : Type 0} {kept : Ghosts N} {t : Table} {b : Buckets N kept} {words 
     abbrev node : Node
     node = record { timer = timer; rounds = 0 }
 
-    pub pushed_back : (new : Buckets N kept) (o : Option Timer) → IsSameFrame b new → IfSome o (λ old. held_at handle (state_of b) ≡ Some old)
-        → IfSome o (λ old. (b.tick < old.deadline) × (old.deadline ≤ timer.deadline))
-        → IfSome o (λ old. SetsNode handle.place (record { timer = timer; rounds = 0 }) b.links.lists new.links.lists)
-        → IfNone o (new ≡ b) → AreFiles t new words
-    pushed_back new None frame found ahead set same = rw same h
-    pushed_back new (Some old) frame found ahead set same = record {
+    pub pushed_back : (new : Buckets N kept) (old : Timer) → IsSameFrame b new → held_at handle (state_of b) ≡ Some old
+        → (b.tick < old.deadline) × (old.deadline ≤ timer.deadline)
+        → SetsNode handle.place (record { timer = timer; rounds = 0 }) b.links.lists new.links.lists → AreFiles t new words
+    pushed_back new old frame found ahead set = record {
       has_slots = frame.slots ∙ h.has_slots;
       clock = frame.last_tick ∙ h.clock;
       filed = rw (frame.tick, frame.slots) (postponed_each b.sound apart handle old found ahead.0 node new.links.lists set (IsFiled (radices t) b.tick)

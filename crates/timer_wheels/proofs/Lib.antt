@@ -55,8 +55,11 @@ pub mod FiledLemmas
 pub mod LazyTicks
 pub mod FilingLemmas
 pub mod BitLemmas
+pub mod RowSums
 pub mod FilesLemmas
+pub mod FilingCounts
 pub mod LazyDeadlines
+pub mod LazyLeaps
 pub mod MergeLemmas
 pub mod BinLemmas
 pub mod SortLemmas

@@ -1,17 +1,19 @@
--- The invariant of the buckets of a lazy hierarchy and of their bits.
-use Rattle.std.specs.Prelude.{◌≡◌, ◌<◌, ◌≤◌, ◌+◌, ℕ, List, Option, Some, None}
+-- The invariant of the buckets of a lazy hierarchy and of their bits, and what was counted.
+use Rattle.std.specs.Prelude.{◌≡◌, ◌<◌, ◌≤◌, ◌+◌, ◌*◌, ℕ, List, Option, Some, None, length}
 use Rattle.std.proofs.Props.{props}
 use Rattle.timer_base.specs.WheelState.{held_at}
 use Rattle.timer_links.specs.Lists.{SetsNode}
-use Rattle.timer_wheels.specs.Types.{Handle, Timer, WheelState, Ghosts, KeyedLists, Table}
+use Rattle.timer_wheels.specs.Types.{Handle, Timer, WheelState, Ghosts, list_at, KeyedLists, Table}
 use Rattle.timer_wheels.specs.BucketLaws.{EachRow-prop}
 use Rattle.timer_wheels.specs.BucketLists.{EachRow}
-use Rattle.timer_wheels.specs.Digits.{slots, last_of}
-use Rattle.timer_wheels.specs.Filed.{IsFiled, IsFiled-prop}
+use Rattle.timer_wheels.specs.Digits.{slots, last_of, emptied}
+use Rattle.timer_wheels.specs.Filed.{IsFiled, IsFiled-prop, filings_of, sum_below}
 use Rattle.timer_wheels.specs.Leap.{list_visit}
+use Rattle.timer_wheels.specs.Migration.{left_rows}
 use Rattle.timer_wheels.specs.Occupied.{AreMarked, AreMarked-prop}
 use Rattle.timer_wheels.specs.Tables.{radices}
 use Rattle.timer_wheels.specs.declared.buckets.Buckets.{Buckets}
+use Rattle.timer_wheels.specs.declared.lazy.files.FilingCounts.{FilingCounts}
 
 -- each row is in a bucket that is visited by its deadline
 abbrev pub RowsAreFiled : {N : Type 0} {kept : Ghosts N} → Table → Buckets N kept → Type 0
@@ -44,3 +46,24 @@ AreVisitedFrom table visit now n lists = EachRow (λ s row. visit ≤ list_visit
 abbrev pub IsBy : ℕ → Option ℕ → Type 0
 IsBy tick None = ⊥
 IsBy tick (Some deadline) = deadline ≤ tick
+
+-- the counts after one more start or restart
+abbrev pub with_start : FilingCounts → FilingCounts
+with_start counts = record counts { starts = counts.starts + 1 }
+
+-- the counts after n timers were filed anew
+abbrev pub with_filings : ℕ → FilingCounts → FilingCounts
+with_filings n counts = record counts { filings = counts.filings + n }
+
+-- how often the pending timers may still be filed anew
+abbrev pub filings_left : {N : Type 0} {kept : Ghosts N} → Table → Buckets N kept → ℕ
+filings_left table b = sum_below (filings_of (radices table) b.tick) (slots (radices table)) b.links.lists
+
+-- how many timers the next tick files anew: those of the bucket that it visits, but for what is due then
+abbrev pub filed_next : {N : Type 0} {kept : Ghosts N} → Table → Buckets N kept → ℕ
+filed_next table b = length (left_rows (b.tick + 1) (list_at (emptied (radices table) (b.tick + 1)) b.links.lists))
+
+-- A start allows one filing for each wheel: each files a timer into a lower wheel, or after a push back into its own bucket.
+-- So what is left to file is paid for, too.
+abbrev pub ArePaid : {N : Type 0} {kept : Ghosts N} → Table → Buckets N kept → FilingCounts → Type 0
+ArePaid table b counts = counts.filings + filings_left table b ≤ length (radices table) * counts.starts

@@ -7,8 +7,10 @@ use Rattle.timer_wheels.specs.BucketLists.{entries_of, rows_below, pending_in, E
 use Rattle.timer_wheels.specs.Buckets.{state_of, state_of-well_formed}
 use Rattle.timer_wheels.specs.Digits.{slots}
 use Rattle.timer_wheels.specs.Filed.{IsFiled}
+use Rattle.timer_wheels.specs.Files.{filings_left, filed_next}
 use Rattle.timer_wheels.specs.Tables.{layout_of_table}
 use Rattle.timer_wheels.specs.declared.lazy.LazyWheel.{LazyWheel}
+use Rattle.timer_wheels.specs.declared.lazy.files.FilingCounts.{FilingCounts}
 
 -- the state of the wheel
 abbrev pub lazy_state : {N : Type 0} {kept : Ghosts N} → LazyWheel N kept → WheelState
@@ -25,6 +27,19 @@ lazy_table wheel = wheel.files.table
 -- its lists: the buckets, lists that are empty, and the due timers
 abbrev pub lazy_lists : {N : Type 0} {kept : Ghosts N} → LazyWheel N kept → KeyedLists
 lazy_lists wheel = wheel.files.buckets.links.lists
+
+-- what it counted: how many timers were started or restarted, and how many times one was filed anew
+abbrev pub lazy_counts : {N : Type 0} {kept : Ghosts N} → LazyWheel N kept → FilingCounts
+lazy_counts wheel = wheel.files.counts
+
+-- how often its pending timers may still be filed anew: each of them once in each wheel below that of its deadline, and once more
+-- if it doesn't stand in its deadline's bucket
+abbrev pub lazy_left : {N : Type 0} {kept : Ghosts N} → LazyWheel N kept → ℕ
+lazy_left wheel = filings_left wheel.files.table wheel.files.buckets
+
+-- how many timers the next tick files anew: those of the bucket that it visits, but for what is due then
+abbrev pub lazy_filed_next : {N : Type 0} {kept : Ghosts N} → LazyWheel N kept → ℕ
+lazy_filed_next wheel = filed_next wheel.files.table wheel.files.buckets
 
 -- each pending timer stands in a bucket that is visited by its deadline, and the last list has what is due
 pub record ShowsFiled (table : List ℕ) (w : WheelState) (lists : KeyedLists) : Type 0 where

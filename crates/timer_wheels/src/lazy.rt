@@ -16,14 +16,15 @@
 //!      133        133   the due list
 //!
 //! The timers of a bucket stand in no order. What is due at a tick is put in the order of starting, if it isn't (`sorts`):
-//! a tick with k timers due may take k log k steps. A timer is visited at most once in each wheel after each start or
-//! restart.
+//! a tick with k timers due may take k log k steps. After each start or restart a timer is filed anew at most once in each
+//! wheel.
 //!
-//!     files      the buckets, their bits, and every change of them
+//!     files      the buckets, their bits, and what changes them between ticks
+//!     leaps      ticks, and leaps over those at which nothing happens
 //!     filing     one bucket is emptied
-ghost use Rattle.std.specs.Prelude.{◌≡◌, ◌<◌, ◌≤◌, IfOk, IfErr, IfSome, OnOk, OnErr};
-ghost use Rattle.timer_base.specs.WakeUps.{IsQuietUntil};
-ghost use Rattle.timer_base.specs.WheelState.{empty_wheel, held_at, old_timer, after_reserve, after_replacement};
+ghost use Rattle.std.specs.Prelude.{◌≡◌, ◌<◌, ◌≤◌, ◌+◌, ◌-◌, ◌*◌, [], length, IfOk, IfErr, IfSome, OnOk, OnErr, MatchOption, MatchResult};
+ghost use Rattle.timer_base.specs.WakeUps.{IsQuietUntil, next_deadline};
+ghost use Rattle.timer_base.specs.WheelState.{empty_wheel, held_at, held_count, old_timer, first_due, after_reserve, after_held_start, after_removal, after_replacement, after_tick, after_expiry, after_clear, Advances};
 ghost use Rattle.timer_base.specs.declared.limits.TheConstants.{LAST};
 ghost use Rattle.timer_wheels.specs.HeldPlaces.{IsFirstHeld};
 ghost use Rattle.timer_wheels.specs.Tables.{radices, last_of_table, layout_of_table};
@@ -37,6 +38,7 @@ use timer_links::{Kept, Links};
 
 mod files;
 mod filing;
+mod leaps;
 
 /// Wheels with the slots of a table, in which a restart for a deadline that is not before the old one touches no link.
 ///
@@ -49,7 +51,7 @@ pub struct LazyWheel<N: Kept = Timer> {
 
 impl LazyWheel {
     ghost use Rattle.timer_wheels.specs.HierWheel.{IsHierFault};
-    ghost use Rattle.timer_wheels.specs.LazyWheel.{lazy_state, lazy_table};
+    ghost use Rattle.timer_wheels.specs.LazyWheel.{lazy_state, lazy_table, lazy_counts};
 
     /// An empty wheel at its first tick.
     ///
@@ -58,6 +60,10 @@ impl LazyWheel {
     pub fn with_table(alloc: Global, table: Table, first_tick: u64) -> Result<LazyWheel, MakeFault>
         ensures state { IfOk result (λ wheel. lazy_state wheel
             ≡ empty_wheel (layout_of_table table) (last_of_table table) first_tick) }
+        ensures counts { IfOk result (λ wheel. lazy_counts wheel ≡ record {
+          starts = 0;
+          filings = 0;
+        }) }
         ensures table { IfOk result (λ wheel. lazy_table wheel ≡ table) }
         ensures in_range { IfOk result (λ wheel. first_tick ≤ last_of_table table) }
         ensures fault { IfErr result (λ fault. IsHierFault (last_of_table table) first_tick fault) }
@@ -68,12 +74,16 @@ impl LazyWheel {
 
 impl<N: Kept> LazyWheel<N> {
     ghost use Rattle.timer_wheels.specs.HierWheel.{IsHierFault};
-    ghost use Rattle.timer_wheels.specs.LazyWheel.{lazy_state, lazy_table, ShowsFiled};
+    ghost use Rattle.timer_wheels.specs.LazyWheel.{lazy_state, lazy_table, lazy_counts, ShowsFiled};
 
     /// The same as `with_table`, whose lists keep of a timer what `N` says.
     pub fn keeping(alloc: Global, table: Table, first_tick: u64) -> Result<LazyWheel<N>, MakeFault>
         ensures state { IfOk result (λ wheel. lazy_state wheel
             ≡ empty_wheel (layout_of_table table) (last_of_table table) first_tick) }
+        ensures counts { IfOk result (λ wheel. lazy_counts wheel ≡ record {
+          starts = 0;
+          filings = 0;
+        }) }
         ensures table { IfOk result (λ wheel. lazy_table wheel ≡ table) }
         ensures in_range { IfOk result (λ wheel. first_tick ≤ last_of_table table) }
         ensures fault { IfErr result (λ fault. IsHierFault (last_of_table table) first_tick fault) }
@@ -106,6 +116,23 @@ impl<N: Kept> LazyWheel<N> {
         self.files.table
     }
 
+    /// How many timers were started or restarted since the wheel was made. Does not allocate.
+    pub fn starts(&self) -> u64
+        ensures { result ≡ (lazy_counts self.now).starts }
+    {
+        self.files.counts.starts
+    }
+
+    /// How many times a timer was filed anew, at a visit of its bucket, since the wheel was made. Does not allocate.
+    ///
+    /// At most once in each wheel after a start or restart: ten times in `Table::Wide`.
+    pub fn filings(&self) -> u64
+        ensures value { result ≡ (lazy_counts self.now).filings }
+        ensures at_most { result ≤ length (radices (lazy_table self.now)) * (lazy_counts self.now).starts }
+    {
+        self.files.counts.filings
+    }
+
     /// The handle of the timer, pending or due, at this place or the first later one that has a timer, or
     /// None when there is none. Does not allocate.
     ///
@@ -119,8 +146,8 @@ impl<N: Kept> LazyWheel<N> {
 }
 
 impl<N: Kept> Wheel for LazyWheel<N> {
-    ghost use Rattle.timer_wheels.specs.Files.{StaysInPlace};
-    ghost use Rattle.timer_wheels.specs.LazyWheel.{lazy_state, lazy_lists, lazy-well_formed};
+    ghost use Rattle.timer_wheels.specs.Files.{StaysInPlace, with_start, with_filings};
+    ghost use Rattle.timer_wheels.specs.LazyWheel.{lazy_state, lazy_lists, lazy_counts, lazy_left, lazy_filed_next, lazy-well_formed};
 
     ghost state = { λ wheel. lazy_state wheel };
 
@@ -149,7 +176,20 @@ impl<N: Kept> Wheel for LazyWheel<N> {
     }
 
     #[inline(always)]
-    fn start(&mut self, timer: Timer) -> Result<Handle, OutOfMemory> {
+    fn start(&mut self, timer: Timer) -> Result<Handle, OutOfMemory>
+        requires not_past { (lazy_state self.old).now ≤ timer.deadline }
+        requires deadline { timer.deadline ≤ (lazy_state self.old).last_tick }
+        requires fresh { (lazy_state self.old).last_serial < timer.serial }
+        requires serial { timer.serial ≤ LAST }
+        requires keeps { N.keeps (record { timer = timer; rounds = 0 }) }
+        ensures named { IfOk result (λ handle. handle.serial ≡ timer.serial) }
+        ensures started { IfOk result (λ handle. lazy_state self.new
+            ≡ after_held_start handle.place timer (lazy_state self.old)) }
+        ensures full { OnErr result ((lazy_state self.old).room ≤ held_count (lazy_state self.old)) }
+        ensures err { OnErr result (lazy_state self.new ≡ lazy_state self.old) }
+        ensures counts { MatchResult result (λ _. lazy_counts self.new ≡ with_start (lazy_counts self.old))
+            (λ _. lazy_counts self.new ≡ lazy_counts self.old) }
+    {
         self.files.start(timer)
     }
 
@@ -157,6 +197,7 @@ impl<N: Kept> Wheel for LazyWheel<N> {
         ensures ok { OnOk result (lazy_state self.new ≡ after_reserve most (lazy_state self.old)) }
         ensures more { OnErr result ((lazy_state self.old).room < most) }
         ensures err { OnErr result (lazy_state self.new ≡ lazy_state self.old) }
+        ensures counts { lazy_counts self.new ≡ lazy_counts self.old }
     {
         self.files.reserve(most)
     }
@@ -165,7 +206,11 @@ impl<N: Kept> Wheel for LazyWheel<N> {
         self.files.buckets.look(handle)
     }
 
-    fn stop(&mut self, handle: Handle) -> Option<Timer> {
+    fn stop(&mut self, handle: Handle) -> Option<Timer>
+        ensures timer { result ≡ held_at handle (lazy_state self.old) }
+        ensures stopped { lazy_state self.new ≡ after_removal handle (lazy_state self.old) }
+        ensures counts { lazy_counts self.new ≡ lazy_counts self.old }
+    {
         self.files.stop(handle)
     }
 
@@ -182,15 +227,36 @@ impl<N: Kept> Wheel for LazyWheel<N> {
         ensures place { IfSome result (λ r. r.0.place ≡ handle.place) }
         ensures restarted { lazy_state self.new ≡ after_replacement result handle timer (lazy_state self.old) }
         ensures in_place { StaysInPlace handle timer (lazy_state self.old) (lazy_lists self.old) (lazy_lists self.new) }
+        ensures counts { MatchOption result (lazy_counts self.new ≡ lazy_counts self.old)
+            (λ _. lazy_counts self.new ≡ with_start (lazy_counts self.old)) }
     {
         self.files.restart(handle, timer)
     }
 
-    fn per_tick(&mut self) {
+    /// Of the bucket that it visits, each timer that is not due is filed anew.
+    #[inline(always)]
+    fn per_tick(&mut self)
+        requires nothing_due { (lazy_state self.old).due ≡ [] }
+        requires before_last { (lazy_state self.old).now < (lazy_state self.old).last_tick }
+        ensures ticked { lazy_state self.new ≡ after_tick (lazy_state self.old) }
+        ensures counts { lazy_counts self.new ≡ with_filings (lazy_filed_next self.old) (lazy_counts self.old) }
+        ensures counted { (lazy_counts self.new).filings + lazy_left self.new
+            ≤ (lazy_counts self.old).filings + lazy_left self.old }
+    {
         self.files.next_tick();
     }
 
-    fn advance(&mut self, most: u64) -> u64 {
+    /// Each bucket with timers that is visited on the way is emptied, as by `per_tick`.
+    #[inline(always)]
+    fn advance(&mut self, most: u64) -> u64
+        requires nothing_due { (lazy_state self.old).due ≡ [] }
+        requires some { 0 < most }
+        requires before_last { most ≤ (lazy_state self.old).last_tick - (lazy_state self.old).now }
+        ensures advances { Advances most result (lazy_state self.old) (lazy_state self.new) }
+        ensures starts { (lazy_counts self.new).starts ≡ (lazy_counts self.old).starts }
+        ensures counted { (lazy_counts self.new).filings + lazy_left self.new
+            ≤ (lazy_counts self.old).filings + lazy_left self.old }
+    {
         self.files.advance(most)
     }
 
@@ -208,7 +274,19 @@ impl<N: Kept> Wheel for LazyWheel<N> {
         self.files.next_deadline()
     }
 
-    fn expire(&mut self) -> Option<Timer> {
+    /// As `next_deadline`: nothing is kept.
+    fn find_next(&mut self) -> Option<u64>
+        ensures first { result ≡ next_deadline (lazy_state self.old).pending }
+        ensures same { self.new ≡ self.old }
+    {
+        self.next_deadline()
+    }
+
+    fn expire(&mut self) -> Option<Timer>
+        ensures first { result ≡ first_due (lazy_state self.old) }
+        ensures rest { lazy_state self.new ≡ after_expiry (lazy_state self.old) }
+        ensures counts { lazy_counts self.new ≡ lazy_counts self.old }
+    {
         self.files.expire()
     }
 
@@ -220,7 +298,10 @@ impl<N: Kept> Wheel for LazyWheel<N> {
         self.files.buckets.list_into(timers)
     }
 
-    fn clear(&mut self) {
+    fn clear(&mut self)
+        ensures cleared { lazy_state self.new ≡ after_clear (lazy_state self.old) }
+        ensures counts { lazy_counts self.new ≡ lazy_counts self.old }
+    {
         self.files.clear();
     }
 

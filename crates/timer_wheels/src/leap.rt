@@ -156,7 +156,7 @@ fn leap_by<N: Kept>(table: Table, wheels: &mut Wheels<N>, end: u64) -> u64
 
 /// Whether a tick is within the lowest wheel's revolution of this moment, and no bucket of the wheel up to it has a timer.
 #[inline(always)]
-fn is_clear_to(table: Table, occupied: &Occupied, now: u64, end: u64) -> bool
+pub fn is_clear_to(table: Table, occupied: &Occupied, now: u64, end: u64) -> bool
     ensures within { IsTrue result → end / lowest_radix (radices table) ≡ now / lowest_radix (radices table) }
     ensures clear { IsTrue result → (s : ℕ) → s ≤ end % lowest_radix (radices table) → bit_of occupied.now s ≡ 0 }
 {

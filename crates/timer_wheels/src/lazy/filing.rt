@@ -14,7 +14,7 @@ ghost use Rattle.timer_links.specs.Lists.{list_at};
 ghost use Rattle.timer_wheels.specs.Digits.{slots};
 ghost use Rattle.timer_wheels.specs.Filing.{EmptiesBucket};
 ghost use Rattle.timer_wheels.specs.Merges.{AreSorted, Sorts};
-ghost use Rattle.timer_wheels.specs.Migration.{MayMigrate, migrated};
+ghost use Rattle.timer_wheels.specs.Migration.{MayMigrate, migrated, left_rows};
 ghost use Rattle.timer_wheels.specs.Occupied.{bit_of, AreMarked, AreMarkedBut};
 ghost use Rattle.timer_wheels.specs.Tables.{radices};
 
@@ -28,17 +28,27 @@ use timer_links::{Kept, Links};
 /// sorted.
 pub const SPARE_LISTS: usize = 35;
 
+/// What became of the timers of a bucket.
+#[derive(Clone, Copy, Drop)]
+struct Refiled {
+    /// How many were filed anew.
+    filed: u64,
+    /// Whether those that are due stand in order of starting.
+    is_sorted: bool,
+}
+
 /// Empties a bucket: what is due at this tick goes to the list of due timers, by serial, and each other timer to the back of
 /// its bucket.
 ///
-/// Takes a step for each timer, and if they have to be sorted k log k steps for k that are due. Does not allocate.
+/// Returns how many were filed anew. Takes a step for each timer, and if they have to be sorted k log k steps for k that are
+/// due. Does not allocate.
 pub fn empty_bucket<N: Kept>(
     table: Table,
     links: &mut Links<N>,
     occupied: &mut Occupied,
     list: usize,
     tick: u64,
-)
+) -> u64
     requires lists { length links.old.lists ≡ slots (radices table) + 36 }
     requires list { list < slots (radices table) }
     requires rows { AllByRecursion (MayMigrate (radices table) tick list) (list_at list links.old.lists) }
@@ -46,29 +56,28 @@ pub fn empty_bucket<N: Kept>(
     requires marked { AreMarked (slots (radices table)) occupied.old links.old.lists }
     ensures emptied { EmptiesBucket (radices table) (slots (radices table) + 35) tick list links.old.lists
         links.new.lists }
+    ensures filed { result ≡ length (left_rows tick (list_at list links.old.lists)) }
     ensures room { links.new.room ≡ links.old.room }
     ensures marked { AreMarked (slots (radices table)) occupied.new links.new.lists }
 {
-    if links.is_empty(list) {
-        return;
-    }
     occupied.remove(list);
     let gathered = buckets_of(table);
-    let is_sorted = refile(table, links, occupied, list, tick);
-    put_in_order(links, gathered, is_sorted);
+    let refiled = refile(table, links, occupied, list, tick);
+    put_in_order(links, gathered, refiled.is_sorted);
     links.append(gathered, gathered + SPARE_LISTS);
+    refiled.filed
 }
 
 /// Empties a bucket from its front, timer by timer: what is due at this tick is gathered in the list after the buckets.
 ///
-/// Returns whether that list is in order of starting. Does not allocate.
+/// Does not allocate.
 fn refile<N: Kept>(
     table: Table,
     links: &mut Links<N>,
     occupied: &mut Occupied,
     list: usize,
     tick: u64,
-) -> bool
+) -> Refiled
     requires lists { slots (radices table) < length links.old.lists }
     requires list { list < slots (radices table) }
     requires rows { AllByRecursion (MayMigrate (radices table) tick list) (list_at list links.old.lists) }
@@ -76,12 +85,15 @@ fn refile<N: Kept>(
     requires clear { bit_of occupied.old list ≡ 0 }
     requires marked { AreMarkedBut (slots (radices table)) list occupied.old links.old.lists }
     ensures migrated { links.new.lists ≡ migrated (radices table) tick list links.old.lists }
+    ensures filed { result.filed ≡ length (left_rows tick (list_at list links.old.lists)) }
     ensures room { links.new.room ≡ links.old.room }
-    ensures sorted { IsTrue result → AreSorted 0 (list_at (slots (radices table)) links.new.lists) }
+    ensures sorted { IsTrue result.is_sorted → AreSorted 0 (list_at (slots (radices table)) links.new.lists) }
     ensures spare { (s : ℕ) → slots (radices table) < s → list_at s links.new.lists ≡ list_at s links.old.lists }
     ensures marked { AreMarked (slots (radices table)) occupied.new links.new.lists }
 {
     let due = buckets_of(table);
+    links.lemma_countable();
+    let mut filed = 0;
     let mut newest = 0;
     let mut is_sorted = true;
     let mut next = front_timer(links, list);
@@ -96,9 +108,10 @@ fn refile<N: Kept>(
             let to = bucket_of(table, tick, timer.deadline);
             links.move_front(list, to);
             occupied.insert(to);
+            filed += 1;
         }
     }
-    is_sorted
+    Refiled { filed, is_sorted }
 }
 
 /// Whether serials that may be sorted are so with one more behind them.

@@ -2,35 +2,29 @@ use Rattle.std.proofs.Common.{◌+◌, ℕ, length, sym, ◌∙◌, ap, arith}
 use Rattle.timer_wheels.specs.Digits.{slots}
 use Rattle.timer_wheels.specs.Tables.{radices}
 use Rattle.timer_links.specs.Lists.{list_at, KeyedLists}
-use Rattle.timer_wheels.proofs.FilingLemmas.{migrated-length, emptied_none, emptied_all}
+use Rattle.timer_wheels.proofs.FilingLemmas.{migrated-length, emptied_all}
 use Rattle.timer_wheels.proofs.OccupiedLemmas.{marked_same}
 use Rattle.timer_wheels.proofs.WheelUpdates.{in_word}
 use Rattle.timer_wheels.proofs.lazy.filing.empty_bucket.Goals as goal
-
-pub returns-then-is_empty-clause-emptied : goal.returns-then-is_empty-clause-emptied
-returns-then-is_empty-clause-emptied g c =
-    let n = slots (radices c.args.table) in
-    emptied_none (radices c.args.table) (n + 35) c.args.tick c.args.list c.args.links.now.lists (c.is_empty.ensures.0 c.if-is_empty.true)
-    (c.requires.none n (omega arith)) (c.requires.none (n + 35) (omega arith))
 
 pub remove-requires : goal.remove-requires
 remove-requires g c = (omega arith, in_word c.args.table c.args.list c.requires.list)
 
 pub put_in_order-requires : goal.put_in_order-requires
 put_in_order-requires g c =
-    let len = ap (λ (y : KeyedLists). length y) c.refile-is_sorted.ensures.migrated
+    let len = ap (λ (y : KeyedLists). length y) c.refile-refiled.ensures.migrated
     ∙ migrated-length (radices c.args.table) c.args.tick c.args.list c.args.links.now.lists in
     let at = c.buckets_of-gathered.ensures.value in
     record {
       spare = omega (arith, len, at, c.requires.lists);
       few = omega (arith, c.buckets_of-gathered.ensures.in_range);
-      none = λ s h. c.refile-is_sorted.ensures.spare s (omega (arith, at)) ∙ c.requires.none s (omega (arith, at));
-      sorted = λ y. rw at (c.refile-is_sorted.ensures.sorted y);
+      none = λ s h. c.refile-refiled.ensures.spare s (omega (arith, at)) ∙ c.requires.none s (omega (arith, at));
+      sorted = λ y. rw at (c.refile-refiled.ensures.sorted y);
     }
 
 pub append-requires : goal.append-requires
 append-requires g c =
-    let len = ap (λ (y : KeyedLists). length y) c.refile-is_sorted.ensures.migrated
+    let len = ap (λ (y : KeyedLists). length y) c.refile-refiled.ensures.migrated
     ∙ migrated-length (radices c.args.table) c.args.tick c.args.list c.args.links.now.lists in
     let at = c.buckets_of-gathered.ensures.value in
     let same = c.put_in_order.ensures.sorted.same_length in
@@ -43,7 +37,7 @@ append-requires g c =
 pub returns-clause-emptied : goal.returns-clause-emptied
 returns-clause-emptied g c =
     let n = slots (radices c.args.table) in
-    let r = c.refile-is_sorted in
+    let r = c.refile-refiled in
     let s = c.put_in_order.ensures.sorted in
     let at = c.buckets_of-gathered.ensures.value in
     emptied_all (radices c.args.table) (n + 35) c.args.tick c.args.list c.args.links.now.lists r.new.links.lists c.put_in_order.new.links.lists
@@ -56,6 +50,6 @@ pub returns-clause-marked : goal.returns-clause-marked
 returns-clause-marked g c =
     let n = slots (radices c.args.table) in
     let e = returns-clause-emptied g c in
-    marked_same n c.refile-is_sorted.new.occupied c.refile-is_sorted.new.links.lists c.append.new.self.lists
-    (λ s h. e.others s (λ q. omega arith) (λ q. omega arith) ∙ ap (list_at s) (sym c.refile-is_sorted.ensures.migrated))
-    c.refile-is_sorted.ensures.marked
+    marked_same n c.refile-refiled.new.occupied c.refile-refiled.new.links.lists c.append.new.self.lists
+    (λ s h. e.others s (λ q. omega arith) (λ q. omega arith) ∙ ap (list_at s) (sym c.refile-refiled.ensures.migrated))
+    c.refile-refiled.ensures.marked

@@ -1,4 +1,4 @@
-use Rattle.std.proofs.Common.{◌≡◌, ◌<◌, ◌+◌, ◌++◌, ◌∷◌, [], ℕ, length, refl, sym, ◌∙◌, ap, subst, arith}
+use Rattle.std.proofs.Common.{◌≡◌, ◌<◌, ◌+◌, ◌++◌, ◌∷◌, [], ℕ, length, refl, sym, ◌∙◌, ap, subst, arith, rules}
 use Rattle.timer_wheels.specs.Types.{Rows}
 use Rattle.timer_links.specs.Lists.{list_at}
 use Rattle.timer_wheels.specs.Digits.{slots}
@@ -6,7 +6,7 @@ use Rattle.timer_wheels.specs.Merges.{serial_of}
 use Rattle.timer_wheels.specs.Occupied.{filled}
 use Rattle.timer_wheels.specs.Tables.{radices}
 use Rattle.timer_wheels.proofs.FilingLemmas.{AreSortedTo, sorted_none, sorted_more, front_serial}
-use Rattle.timer_wheels.proofs.MigrationLoop.{first_row, front_deadline_is, no_front, next_due, next_left, due_target, left_target, goes_elsewhere, next_timer, gone_to, gone_past, shorter, ended_none, emptying_begun}
+use Rattle.timer_wheels.proofs.MigrationLoop.{first_row, front_deadline_is, no_front, next_due, next_left, due_target, left_target, goes_elsewhere, next_timer, gone_to, gone_past, shorter, moves_fit, ended_none, emptying_begun}
 use Rattle.timer_wheels.proofs.OccupiedLemmas.{marked_due, marked_left, marked_all}
 use Rattle.timer_wheels.proofs.lazy.filing.refile.Goals as goal
 
@@ -23,8 +23,7 @@ loop-next-preserved-then-timer-tick g c =
     let serial : serial_of f.row ≡ c.in-Some.timer.serial =
     front_serial (list_at c.args.list lists) f.rest f.row c.in-Some.timer c.loop-next.next i.next c.in-Some.is f.at in
     record {
-      moves = i.moves;
-      emptying = next_due after i.emptying f due.result i.moves due.ensures.value c.if-timer-tick.true m.ensures.moved refl;
+      emptying = next_due after i.emptying f due.result c.loop-next.filed due.ensures.value c.if-timer-tick.true m.ensures.moved refl;
       room = m.ensures.room ∙ i.room;
       next = next_timer after i.emptying f due.result c.second_timer-next.result to m.ensures.moved c.second_timer-next.ensures;
       sorted = λ y.
@@ -55,8 +54,7 @@ loop-next-preserved g c =
     let away = goes_elsewhere after i.emptying f to.result is in
     let inside : to.result < length lists = omega (arith, to.ensures.in_range, c.requires.lists, i.emptying.has_lists) in
     record {
-      moves = i.moves + 1;
-      emptying = next_left after i.emptying f to.result (i.moves + 1) to.ensures.value c.if-timer-tick.false m.ensures.moved refl;
+      emptying = next_left after i.emptying f to.result (c.loop-next.filed + 1) to.ensures.value c.if-timer-tick.false m.ensures.moved refl;
       room = m.ensures.room ∙ i.room;
       next = next_timer after i.emptying f to.result c.second_timer-next.result is m.ensures.moved c.second_timer-next.ensures;
       sorted = λ y. subst (λ (r : Rows). AreSortedTo c.loop-next.newest r) (sym (gone_past after i.emptying f to.result n m.ensures.moved
@@ -88,7 +86,6 @@ loop-next-smaller g c =
 
 pub loop-next-init : goal.loop-next-init
 loop-next-init g c = record {
-  moves = 0;
   emptying = emptying_begun (radices c.args.table) c.args.list c.args.tick c.args.links.now.lists
       (omega (arith, c.requires.list, c.requires.lists)) c.requires.rows;
   room = refl;
@@ -103,6 +100,19 @@ pub returns-clause-migrated : goal.returns-clause-migrated
 returns-clause-migrated g c =
     let i = c.loop-next.invariant in
     (ended_none i.emptying (no_front (list_at c.args.list c.loop-next.links.lists) (sym c.in_default.is ∙ i.next))).lists_are
+
+pub returns-clause-filed : goal.returns-clause-filed
+returns-clause-filed g c =
+    let i = c.loop-next.invariant in
+    (ended_none i.emptying (no_front (list_at c.args.list c.loop-next.links.lists) (sym c.in_default.is ∙ i.next))).moves_are
+
+pub overflow_add-filed : goal.overflow_add-filed
+overflow_add-filed g c =
+    let i = c.loop-next.invariant in
+    let h : c.loop-next.filed + 1 < 18446744073709551616 = moves_fit c.loop-next.links.lists i.emptying (first_row i.emptying
+    (front_deadline_is (list_at c.args.list c.loop-next.links.lists) c.loop-next.next c.in-Some.timer i.next c.in-Some.is))
+    (omega (arith, c.lemma_countable.ensures)) in
+    search rules
 
 pub returns-clause-sorted : goal.returns-clause-sorted
 returns-clause-sorted g c = λ y. (c.loop-next.invariant.sorted y).sorted

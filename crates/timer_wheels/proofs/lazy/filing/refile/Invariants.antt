@@ -10,8 +10,7 @@ use Rattle.timer_wheels.proofs.lazy.filing.refile.Given as goal
 
 abbrev pub invariant-loop-next : goal.invariant-loop-next
 invariant-loop-next g l = record {
-  moves : ℕ;
-  emptying : IsEmptying (radices l.table) l.list l.tick moves l.initial.links.lists l.links.lists;
+  emptying : IsEmptying (radices l.table) l.list l.tick l.filed l.initial.links.lists l.links.lists;
   room : l.links.room ≡ l.initial.links.room;
   next : l.next ≡ timer_in_front (list_at l.list l.links.lists);
   sorted : IsTrue l.is_sorted → AreSortedTo l.newest (list_at (slots (radices l.table)) l.links.lists);

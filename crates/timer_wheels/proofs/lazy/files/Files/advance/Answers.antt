@@ -1,28 +1,21 @@
-use Rattle.std.proofs.Common.{◌-◌, ◌∙◌, ap, arith}
-use Rattle.timer_base.proofs.TickLaws.{after_ticks-last, not_due}
-use Rattle.timer_wheels.specs.Types.{WheelState}
+use Rattle.std.proofs.Common.{◌≡◌, ◌+◌, ◌-◌, ℕ, ap, subst, arith}
+use Rattle.timer_base.specs.WheelState.{IsPassing}
 use Rattle.timer_wheels.specs.Buckets.{state_of}
-use Rattle.timer_wheels.proofs.SmoothLeaps.{passing_pass, advance_stops}
+use Rattle.timer_wheels.specs.declared.lazy.files.FilingCounts.{FilingCounts}
+use Rattle.timer_wheels.proofs.LazyLeaps.{passing_advances}
 use Rattle.timer_wheels.proofs.lazy.files.Files.advance.Goals as goal
 
-pub returns-then-has_due-clause-advances : goal.returns-then-has_due-clause-advances
-returns-then-has_due-clause-advances g c =
-    let w = c.loop-self.invariant in
-    advance_stops c.args.most (state_of c.args.self.now.buckets) (state_of c.loop-self.self.buckets) (state_of c.pass.new.self.buckets) w.later
-    w.passing c.pass.ensures.passes c.pass.ensures.end (c.has_due.ensures.0 c.if-has_due.true)
+pub skip_to-requires-clause-ahead : goal.skip_to-requires-clause-ahead
+skip_to-requires-clause-ahead g c = c.is_quiet_to.ensures c.if-is_quiet_to.true
 
-pub loop-self-preserved : goal.loop-self-preserved
-loop-self-preserved g c =
-    let w = c.loop-self.invariant in
-    let old = state_of c.args.self.now.buckets in
-    let mid = state_of c.loop-self.self.buckets in
-    let new = state_of c.pass.new.self.buckets in
-    let p = c.pass.ensures.passes in
-    let a = p.later in
-    record {
-      later = omega (arith, w.later);
-      at_most = c.pass.ensures.end;
-      passing = passing_pass old mid new w.later w.passing p (not_due new.due c.has_due.result c.has_due.ensures c.if-has_due.false);
-      last_tick = (ap (λ (u : WheelState). u.last_tick) p.ticked ∙ after_ticks-last (new.now - mid.now) mid) ∙ w.last_tick;
-      table = c.pass.ensures.table ∙ w.table;
-    }
+pub returns-then-is_quiet_to-clause-advances : goal.returns-then-is_quiet_to-clause-advances
+returns-then-is_quiet_to-clause-advances g c =
+    let b = c.args.self.now.buckets in
+    let most = c.args.most in
+    let new = state_of c.skip_to.new.self.buckets in
+    let n : b.tick + most - b.tick ≡ most = omega arith in
+    passing_advances most (state_of b) new c.requires.some (subst (λ (x : ℕ). IsPassing x (state_of b) new) n c.skip_to.ensures.passing)
+
+pub returns-then-is_quiet_to-clause-counted : goal.returns-then-is_quiet_to-clause-counted
+returns-then-is_quiet_to-clause-counted g c =
+    omega (arith, ap (λ (n : FilingCounts). n.filings) c.skip_to.ensures.counts, c.skip_to.ensures.left)

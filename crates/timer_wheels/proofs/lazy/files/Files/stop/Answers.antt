@@ -1,4 +1,4 @@
-use Rattle.std.proofs.Common.{◌≡◌, ◌<◌, sym, ◌∙◌, ap, Some}
+use Rattle.std.proofs.Common.{◌≡◌, ◌<◌, sym, ◌∙◌, ap, arith, Some}
 use Rattle.timer_base.specs.WheelState.{held_at}
 use Rattle.timer_wheels.specs.Buckets.{state_of, taken_timer}
 use Rattle.timer_wheels.specs.Digits.{slots}
@@ -7,6 +7,7 @@ use Rattle.timer_wheels.specs.Tables.{radices}
 use Rattle.timer_wheels.specs.declared.table.TheConstants.{MOST_BUCKETS}
 use Rattle.timer_wheels.proofs.BitLemmas.{of_emptied, left_marked}
 use Rattle.timer_wheels.proofs.BucketLemmas.{each-without_key}
+use Rattle.timer_wheels.proofs.FilingCounts.{gone_from}
 use Rattle.timer_wheels.proofs.FilesLemmas.{row_in_table, within, less_slots}
 use Rattle.timer_wheels.proofs.lazy.files.Files.stop.Goals as goal
 
@@ -18,8 +19,8 @@ leave-requires g c =
     rw c.take.ensures.frame.slots (of_emptied b.sound c.args.handle c.lemma_keys_unique.ensures c.in_ok-timer.timer found c.in_ok-timer.emptied
     c.in_ok-timer.ensures.emptied (λ l. l < b.slots → l < MOST_BUCKETS) (row_in_table w.files))
 
-pub invariant_of-self-2 : goal.invariant_of-self-2
-invariant_of-self-2 g c =
+pub invariant_of-self-2-clause-files : goal.invariant_of-self-2-clause-files
+invariant_of-self-2-clause-files g c =
     let w = c.args.self.now in
     let b = w.buckets in
     let handle = c.args.handle in
@@ -29,10 +30,13 @@ invariant_of-self-2 g c =
     let marked = left_marked b.sound handle c.lemma_keys_unique.ensures c.in_ok-timer.timer found c.in_ok-timer.emptied
     c.in_ok-timer.ensures.emptied (slots (radices w.table)) (less_slots w.files) (within w.files) w.occupied c.leave.new.occupied w.files.marked (rw (← f.slots) c.leave.ensures) in
     record {
-      files = record {
-        has_slots = f.slots ∙ w.files.has_slots;
-        clock = f.last_tick ∙ w.files.clock;
-        filed = rw (f.tick, f.slots, e) (each-without_key (IsFiled (radices w.table) b.tick) b.slots handle.place b.links.lists w.files.filed);
-        marked = rw e marked;
-      };
+      has_slots = f.slots ∙ w.files.has_slots;
+      clock = f.last_tick ∙ w.files.clock;
+      filed = rw (f.tick, f.slots, e) (each-without_key (IsFiled (radices w.table) b.tick) b.slots handle.place b.links.lists w.files.filed);
+      marked = rw e marked;
     }
+
+pub invariant_of-self-2-clause-paid : goal.invariant_of-self-2-clause-paid
+invariant_of-self-2-clause-paid g c =
+    let w = c.args.self.now in
+    omega (arith, gone_from w.files c.args.handle.place c.take.new.self c.take.ensures.frame.tick c.in_ok-timer.ensures.lists, w.paid)
