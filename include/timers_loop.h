@@ -198,8 +198,10 @@ TIMERS_CHECKED
 static inline enum timers_status
 timers_event_file(struct timers_loop *loop, struct timers_event *event, uint64_t at)
 {
-	const enum timers_status status =
-		timers_set_at(&loop->timers, &event->handle, at, (uint64_t)(uintptr_t)event);
+	const uint64_t action = (uint64_t)(uintptr_t)event;
+	const enum timers_status status = event->handle.serial == 0
+		? timers_start_at(&loop->timers, at, action, &event->handle)
+		: timers_restart_at(&loop->timers, event->handle, at, action, &event->handle);
 
 	if (status == TIMERS_OK)
 		event->filed = at;
@@ -262,12 +264,15 @@ timers_event_arm(struct timers_loop *loop, struct timers_event *event, uint64_t 
 static inline void
 timers_event_again(struct timers_loop *loop, struct timers_event *event, uint64_t tick, bool pushed_back)
 {
-	const uint64_t at = tick > TIMERS_LAST ? TIMERS_NEVER : timers_event_joined(tick, event->slack);
+	if (tick <= TIMERS_LAST) {
+		const uint64_t at = timers_event_joined(tick, event->slack);
 
-	if (timers_event_file(loop, event, pushed_back ? timers_loop_visit(loop, at) : at) == TIMERS_OK)
-		event->want = tick;
-	else
-		loop->alive -= !event->background;
+		if (timers_event_file(loop, event, pushed_back ? timers_loop_visit(loop, at) : at) == TIMERS_OK) {
+			event->want = tick;
+			return;
+		}
+	}
+	loop->alive -= !event->background;
 }
 
 /* The tick at which a periodic event is due after the one at which it was. It looks at the clock, since the callbacks
