@@ -7,8 +7,8 @@
  *     resend    one of 16 stops its time-out, the others set it to 200 to 3,000 ticks; one that expires doubles it
  *     expire    SETS timers are started, and all expire: some TIMERS of them are pending
  *
- * Prints nanoseconds of processor time for a set, a stop or an expiry, how many there were of each, how many turns, and a sum
- * of the order of expiries. Aborts if sleeping until the next deadline leads to no timer, or past one. */
+ * Prints nanoseconds of processor time for a set, a stop or an expiry, how many there were of each, at how many ticks a loop
+ * has to wake up, and a sum of the order of expiries. Aborts if sleeping until the next deadline leads to no timer, or past one. */
 #ifndef _GNU_SOURCE
 #define _GNU_SOURCE
 #endif
@@ -28,7 +28,7 @@ struct owner {
 static struct owner *owners, **spare;        /* spare: those without a timer, in another order than that of memory */
 static size_t timers_in_all, spares;
 static unsigned sets_a_tick;
-static uint64_t seed = 88172645463325252, sets, stops, takes, turns, sum;
+static uint64_t seed = 88172645463325252, sets, stops, takes, wakes, sum;
 
 static inline uint64_t draw(void)
 {
@@ -83,7 +83,7 @@ __attribute__((noinline)) static void run(char load, uint64_t ticks)
 		expire(load, now);
 		for (unsigned i = 0; i < sets_a_tick; i++)
 			touch(load, now);
-		turns += 1 + (next() == 1);          /* which it never is */
+		wakes += next() == now + 1;
 	}
 }
 
@@ -141,7 +141,7 @@ int main(int argc, char **argv)
 	uint64_t begin = processor(), ticks = strtoull(argv[3], NULL, 10);
 	run(load, ticks);
 	printf("%.1f %llu %llu %llu %llu %016llx\n", (double)(processor() - begin) / (double)(sets + stops + takes),
-	       (unsigned long long)sets, (unsigned long long)stops, (unsigned long long)takes, (unsigned long long)turns,
+	       (unsigned long long)sets, (unsigned long long)stops, (unsigned long long)takes, (unsigned long long)wakes,
 	       (unsigned long long)sum);
 	if (HAS_NEXT && takes > 0 && !IS_COUNTED)   /* its calls would be counted */
 		sleep_once(ticks);

@@ -54,29 +54,39 @@
  *
  * ORDER
  *     Events run in the order of their ticks, in a late loop too. Events of one tick run in the order in which they
- *     were armed. An event for a tick that has passed comes after those that are due already. One that is armed for a
- *     later tick while it is armed or paused keeps its timer. When the old tick comes, it is armed anew, which sets its
- *     place in the order. If the call has to set the place, cancel the event first.
+ *     were armed, and one that is armed again for its tick takes a new place. An event for a tick that has passed at the
+ *     last look comes after those that are due already: at once, in the same turn. If `catches_up` is set, the order of
+ *     ticks holds there too.
+ *
+ *     One that is armed for a tick after that of its timer, while it is armed or paused, keeps its timer. It is filed
+ *     anew when that comes, and maybe again, which sets its place in the order. If the call has to set the place,
+ *     cancel the event first.
  *
  * STALLS
- *     A loop that was late, since the program was stopped or busy, has to handle input before it acts on time-outs. So
- *     a dispatch runs what was due when the loop began to poll. If the poll filled its array, it runs nothing more,
- *     since more input may wait. What a callback or input arms for a tick that has passed runs all the same. When an
- *     event runs, all input that had come by its tick was handed out. For that read a datagram socket until it is
- *     empty, and send to it only afterwards. If you stop after n messages, call timers_loop_polled(loop, n, n), with
- *     `loop.watched` the most messages that its buffer holds. So where input pushes a time-out back, no connection is
- *     closed while its input waits, however long the stall. Answer first, and push back afterwards: a client's silence
- *     begins when the answer is sent.
+ *     A loop that was late, since the program was stopped or busy, has to handle input before it acts on time-outs.
+ *     So a dispatch runs what was due when the loop began to poll. If the poll filled its array, it runs nothing
+ *     more, since more input may wait. What a callback or input arms for a tick that has passed, also since the poll
+ *     began, runs all the same, after what an earlier dispatch had to leave. When any other runs, all input that had
+ *     come by its tick was handed out. For that read a datagram socket until it is empty, and send to it only
+ *     afterwards. If you stop after n messages, call timers_loop_polled(loop, n, n), with `loop.watched` the most
+ *     messages that its buffer holds. So where input pushes a time-out back, no connection is closed while its input
+ *     waits, however long the stall. Answer first, and push back afterwards: a client's silence begins when the
+ *     answer is sent.
  *
  *     This costs one more poll when a timer wakes the loop. A second look at the clock would spare it, but miss input
  *     that comes in a stall between the two.
  *
  * COSTS
  *     Arming is timers_start_at, and cancelling timers_stop. Arming an event for a later tick while it is armed or
- *     paused is a store. A time-out that is pushed back a thousand times is filed anew once, when its first tick comes.
- *     So the loop may wake up for nothing. timers_event_after and timers_event_push_back look at the clock. A program
- *     that can't pay for that gives timers_event_at `loop.later` plus the ticks, which count from the last look. Then a
- *     stall between that look and the call makes the event early by as much.
+ *     paused is a store, in the event itself. So it saves the line of memory that a call of timers.h would touch. A
+ *     time-out that is pushed back a thousand times is filed anew once, when its first tick comes, and then at the
+ *     ticks at which the wheel moves timers: at most once for each wheel. So the loop may wake up for nothing.
+ *     timers_event_after and timers_event_push_back look at the clock. A program that can't pay for that gives
+ *     timers_event_at `loop.later` plus the ticks, which count from the last look. Then a stall between that look and
+ *     the call makes the event early by as much.
+ *
+ *     If NDEBUG is not defined, a dispatch asserts that the timer is the event's. So a program ends that has freed an
+ *     armed event, and used its memory again.
  *
  *     Of the calls on events only arming allocates, if the event is neither armed nor paused, unless
  *     timers_reserve(&loop.timers, most) made room. An event has 56 bytes where pointers have 64 bits, besides those of
@@ -89,6 +99,7 @@
 #ifndef TIMERS_LOOP_H
 #define TIMERS_LOOP_H
 
+#include <assert.h>
 #include <limits.h>
 #include <time.h>
 #include "timers.h"
@@ -140,7 +151,7 @@ struct timers_event {
 	bool catches_up;              /* a period runs for each tick that was missed */
 	bool background;              /* it keeps no loop alive */
 	uint64_t want;                /* the tick for which it is armed; TIMERS_NEVER while it is paused */
-	uint64_t filed;               /* the tick of its timer: at most want + slack */
+	uint64_t filed;               /* the tick of its timer, at most want + slack; it runs there unless `want` is later */
 	struct timers_handle handle;  /* of its timer; the serial is 0 if there is none */
 };
 
@@ -185,9 +196,9 @@ timers_event_joined(uint64_t tick, uint64_t slack)
 /* Starts the event's timer, or restarts it. */
 TIMERS_CHECKED
 static inline enum timers_status
-timers_event_file(struct timers_loop *loop, struct timers_event *event, uint64_t tick)
+timers_event_file(struct timers_loop *loop, struct timers_event *event, uint64_t at)
 {
-	const uint64_t at = timers_event_joined(tick, event->slack), action = (uint64_t)(uintptr_t)event;
+	const uint64_t action = (uint64_t)(uintptr_t)event;
 	const enum timers_status status = event->handle.serial == 0
 		? timers_start_at(&loop->timers, at, action, &event->handle)
 		: timers_restart_at(&loop->timers, event->handle, at, action, &event->handle);
@@ -195,6 +206,27 @@ timers_event_file(struct timers_loop *loop, struct timers_event *event, uint64_t
 	if (status == TIMERS_OK)
 		event->filed = at;
 	return status;
+}
+
+/* The tick up to which the next dispatch runs what is due. */
+static inline uint64_t
+timers_loop_reach(const struct timers_loop *loop)
+{
+	return loop->full ? loop->due : loop->seen;
+}
+
+/* The tick at which a wheel of 64 slots comes to the bucket of this tick: its lower digits are 0. */
+static inline uint64_t
+timers_loop_visit(const struct timers_loop *loop, uint64_t tick)
+{
+	const uint64_t now = timers_now(&loop->timers);
+	uint64_t lower = 0;
+
+	if (tick <= now)
+		return tick;
+	while ((tick ^ now) >> 6 > lower)
+		lower = lower << 6 | 63;
+	return tick & ~lower;
 }
 
 /* Whether the event is armed, and not paused. */
@@ -208,15 +240,18 @@ TIMERS_CHECKED TIMERS_APART
 static enum timers_status
 timers_event_arm(struct timers_loop *loop, struct timers_event *event, uint64_t tick)
 {
-	const bool armed = timers_event_armed(event);
+	const bool armed = timers_event_armed(event), passed = tick <= loop->now;
 
 	if (tick > TIMERS_LAST)
 		return TIMERS_TOO_LATE;
-	if (event->handle.serial == 0 || tick + event->slack < event->filed) {
-		const enum timers_status status = timers_event_file(loop, event, tick);
+	if (event->handle.serial == 0 || tick + event->slack <= event->filed || passed) {
+		const uint64_t at = passed ? timers_loop_reach(loop) : timers_event_joined(tick, event->slack);
+		const enum timers_status status = timers_event_file(loop, event, at);
 
 		if (status != TIMERS_OK)
 			return status;
+		if (passed)
+			event->filed = tick;   /* its timer may be for an earlier tick */
 	}
 	event->want = tick;
 	loop->alive += !armed && !event->background;
@@ -224,14 +259,20 @@ timers_event_arm(struct timers_loop *loop, struct timers_event *event, uint64_t 
 }
 
 /* Files anew an event whose timer was taken. That allocates nothing, and fails only after 2^60 starts, or at the last
- * tick of the clock. */
+ * tick of the clock. One that was pushed back gets a timer for the tick at which the wheel would move it anyway: until then
+ * each further push back is a store, and few timers come out in vain. */
 static inline void
-timers_event_again(struct timers_loop *loop, struct timers_event *event, uint64_t tick)
+timers_event_again(struct timers_loop *loop, struct timers_event *event, uint64_t tick, bool pushed_back)
 {
-	if (tick <= TIMERS_LAST && timers_event_file(loop, event, tick) == TIMERS_OK)
-		event->want = tick;
-	else
-		loop->alive -= !event->background;
+	if (tick <= TIMERS_LAST) {
+		const uint64_t at = timers_event_joined(tick, event->slack);
+
+		if (timers_event_file(loop, event, pushed_back ? timers_loop_visit(loop, at) : at) == TIMERS_OK) {
+			event->want = tick;
+			return;
+		}
+	}
+	loop->alive -= !event->background;
 }
 
 /* The tick at which a periodic event is due after the one at which it was. It looks at the clock, since the callbacks
@@ -306,13 +347,13 @@ static inline void timers_loop_free(struct timers_loop *loop)
 	loop->alive = 0;
 }
 
-/* Arms the event for a tick, whatever it was armed for. If the tick has passed, it is due at once.
+/* Arms the event for a tick, whatever it was armed for. If the tick has passed (`now`), it is due at once.
  * TIMERS_TOO_LATE (also if the clock is at its last tick), TIMERS_NOT_OPEN, TIMERS_SERIALS_SPENT, TIMERS_NO_MEMORY: then it
  * is as it was. */
 TIMERS_CHECKED
 static inline enum timers_status timers_event_at(struct timers_loop *loop, struct timers_event *event, uint64_t tick)
 {
-	if (!timers_event_armed(event) || tick > TIMERS_LAST || tick + event->slack < event->filed)
+	if (!timers_event_armed(event) || tick > TIMERS_LAST || tick + event->slack <= event->filed || tick <= loop->now)
 		return timers_event_arm(loop, event, tick);
 	event->want = tick;
 	return TIMERS_OK;
@@ -415,21 +456,22 @@ static inline struct timers_event *timers_loop_take(struct timers_loop *loop, si
 		struct timers_event *const event = (struct timers_event *)(uintptr_t)expired.action;
 
 		--*most;
+		assert(event->handle.serial == expired.serial && "an armed event was freed, moved or set to 0");
 		event->handle.serial = 0;
-		if (event->want <= expired.deadline) {
+		if (event->want <= event->filed) {
 			*tick = event->want;
-			timers_event_again(loop, event, timers_event_next(loop, event));
+			timers_event_again(loop, event, timers_event_next(loop, event), false);
 			return event;
 		}
 		if (event->want != TIMERS_NEVER)
-			timers_event_again(loop, event, event->want);
+			timers_event_again(loop, event, event->want, true);
 	}
 	return NULL;
 }
 
 /* Takes events as timers_loop_take, and calls their `run`. Events that `most` leaves come first in the next call, and
  * until then timers_loop_timeout returns 0. Returns how many events it took. An event that arms itself for a tick that
- * has passed is taken again. */
+ * has passed is taken again, behind the others. */
 static inline size_t timers_loop_dispatch(struct timers_loop *loop, size_t most)
 {
 	struct timers_event *event;

@@ -81,6 +81,8 @@ agrees() {
 
 @test "events of a loop run as a sorted list says" { build loop_model.c && runs $((10 * calls)) 1; }
 @test "so they do in C++" { build loop_model.cpp && runs $calls 2; }
+@test "what passed, what was left and what is armed again runs as the header says" { build loop_promises.c && runs; }
+@test "an armed event that was freed is noticed" { build loop_promises.c -DFORGETS && notices; }
 @test "a server that stalls anywhere hangs up on no client that talks, and on each that is silent" {
     build loop_stalls.c
     for seed in 0 1 2 3 4 5; do runs $((calls / 4)) $seed; done

@@ -22,7 +22,7 @@ static struct owner {
 
 /* The model of each event, by its number. */
 static struct model {
-	bool armed, held;                /* held: it has a timer */
+	bool armed, held, at_once;       /* held: it has a timer; at_once: armed for a tick that had passed */
 	uint64_t want, key, order;       /* key: the tick at which the timer comes out, or did when it was too late */
 	uint64_t filed;
 	uint64_t earliest;               /* in nanoseconds */
@@ -82,16 +82,15 @@ static uint64_t joined(uint64_t want, uint64_t slack)
 	return ((want + slack) >> k) << k;
 }
 
-/* The event gets a timer, or another one. */
-static void file(size_t number, uint64_t want)
+/* The event gets a timer for a tick, or another one. */
+static void file(size_t number, uint64_t at)
 {
 	struct model *m = &models[number];
 	size_t i;
 
 	unlist(number);
-	m->filed = joined(want, owners[number]->event.slack);
-	CHECK(m->filed >= want && m->filed - want <= owners[number]->event.slack);
-	m->key = m->filed > wheel ? m->filed : wheel;
+	m->filed = at;
+	m->key = at > wheel ? at : wheel;
 	m->order = ++orders;
 	m->held = true;
 	for (i = held++; i > 0 && models[list[i - 1]].key > m->key; i--)
@@ -99,14 +98,40 @@ static void file(size_t number, uint64_t want)
 	list[i] = number;
 }
 
+/* The same for the tick that is wanted, or one within its slack. */
+static void file_for(size_t number, uint64_t want)
+{
+	const uint64_t slack = owners[number]->event.slack, at = joined(want, slack);
+
+	CHECK(at >= want && at - want <= slack);
+	file(number, at);
+}
+
+/* The first tick after the wheel's whose digits, to the base of 64, are those of a tick down to some digit, and then 0. */
+static uint64_t visit(uint64_t tick)
+{
+	uint64_t unit = 1, found = tick;
+
+	for (; unit <= tick; unit *= 64)
+		if (tick / unit * unit > wheel)
+			found = tick / unit * unit;
+	return found;
+}
+
 /* The loop was asked to arm it for a tick. */
 static void arm(size_t number, uint64_t want)
 {
 	struct model *m = &models[number];
+	const bool passed = want <= highest / length;
 
-	if (!m->held || want + owners[number]->event.slack < m->filed)
-		file(number, want);
+	if (passed) {
+		file(number, full ? due : seen);
+		m->filed = want;
+	} else if (!m->held || want + owners[number]->event.slack <= m->filed) {
+		file_for(number, want);
+	}
 	m->armed = true;
+	m->at_once = passed;
 	m->want = want;
 	m->earliest = 0;
 }
@@ -127,10 +152,10 @@ static size_t next_run(size_t *left)
 		e = &owners[number]->event;
 		wheel = m->key;
 		unlist(number);
-		if (m->armed && m->want <= wheel)
+		if (m->armed && m->want <= m->filed)
 			return number;
 		if (m->armed) {
-			file(number, m->want);
+			file(number, visit(joined(m->want, owners[number]->event.slack)));
 			CHECK(e->filed <= e->want + e->slack);
 			refiled++;
 		}
@@ -192,10 +217,10 @@ static void operate(size_t number)
 	case 3:                           /* at a tick, that may have passed */
 		configure(e, m->armed);
 		tick = highest / length + n;
-		if (depth == 0)
+		if (depth == 0 || below(4) == 0)
 			tick = tick > 2000 ? tick - below(2000) : tick;
 		if (below(4) == 0 && m->held && m->filed > highest / length + e->slack)
-			tick = m->filed - e->slack;   /* the last one for which its timer may stay */
+			tick = m->filed - e->slack + below(2);   /* the last one for which it gets another, and the next */
 		CHECK(timers_event_at(&loop, e, tick) == TIMERS_OK);
 		arm(number, tick);
 		break;
@@ -294,14 +319,18 @@ static void ran(struct timers_loop *of, struct timers_event *event, uint64_t tic
 
 	CHECK(of == &loop && depth > 0 && event == &owners[number]->event);
 	CHECK(next_run(most) == number && m->armed && tick == m->want);
-	CHECK(tick * length <= highest && tick <= due && m->earliest <= highest);      /* never early */
+	CHECK(tick * length <= highest && (tick <= due || m->at_once) && m->earliest <= highest);      /* never early */
 	m->armed = false;
 	if (event->period > 0) {
 		next = tick + event->period;
 		look();
 		while (next <= highest / length && !event->catches_up)
 			next += event->period;
-		arm(number, next);
+		file_for(number, next);
+		m->armed = true;
+		m->want = next;
+		m->earliest = 0;
+		m->at_once = false;
 	}
 	check(number);
 	runs++;
