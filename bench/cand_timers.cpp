@@ -6,7 +6,7 @@ namespace {
 struct Timers {
   struct timers held = TIMERS_INIT;
   // The caller knows the tick, and the deadline of each owner's last timer: a stop hands back the action alone.
-  uint64_t present = 0, jumped = 0;
+  uint64_t present = 0;
   std::vector<uint64_t> deadlines;
   bool failed = false;
   explicit Timers(size_t ids) : deadlines(ids) { failed = timers_new(&held, TIMERS_WIDE, 0) != TIMERS_OK; }
@@ -14,10 +14,8 @@ struct Timers {
   Timers(const Timers &) = delete;
   Timers &operator=(const Timers &) = delete;
   uint64_t now() const { return present; }
-  // A refusal, or a clock that went another way or past a bucket at a single tick, shows as a wrong count.
+  // A refusal, or a clock that went another way, shows as a wrong count.
   uint64_t len() {
-    struct timers_counters counts = {0, 0, 0};
-    failed |= timers_counts(&held, &counts) != TIMERS_OK || counts.visits < present - jumped;
     return !failed && timers_now(&held) == present ? timers_len(&held) : ~0ull;
   }
   Handle start(const Timer &t) {
@@ -49,7 +47,6 @@ struct Timers {
     uint64_t passed = 0;
     failed |= timers_advance(&held, k, &passed) != TIMERS_OK;
     present += passed;
-    jumped += passed;
     return passed ? passed : k;
   }
   bool expire(Timer &out) {

@@ -61,9 +61,9 @@
  *
  *     The functions were proved, and then translated into C. Each meets the contract that the sources state for it
  *     (crates/timer_c/src/exports.rt), for every call that keeps the rules below. Nothing checks that a caller keeps
- *     them. The compiler of the sources is trusted. A checker, which is trusted too, shows of each translated function
- *     that on x86-64 it does what that compiler wrote. Tests alone cover the C around them, which allocates, accepts NULL for results that nobody wants, and has
- *     timers_set_allocator and timers_message.
+ *     them. The compiler of the sources is trusted. A checker, which is trusted too, shows of each translated
+ *     function that on x86-64 it does what that compiler wrote. Tests alone cover the C around them, which allocates,
+ *     accepts NULL for results that nobody wants, and has timers_set_allocator and timers_message.
  *
  * COSTS
  *     The timers are in arrays, and each is in the bucket of a wheel. A bucket of the lowest wheel has one tick. One of
@@ -75,8 +75,8 @@
  *         set_at                  as restart_at if the handle names a timer, else as start_at
  *         stop, look, expire      constant
  *         expire_batch            each timer that it takes
- *         tick                    constant; at a multiple of a revolution, each timer of one bucket
- *         advance, advance_to     each bucket with timers on the way; above the lowest wheel each timer in it
+ *         tick                    each timer of the buckets that it empties
+ *         advance, advance_to     each bucket with timers on the way, and each timer in it
  *         take                    as advance_to
  *         clear                   each timer that is held, and the buckets
  *         wakeup, has_due, now    constant
@@ -87,8 +87,14 @@
  *         reserve                 the most timers that were held at once
  *         new, free               constant: the buckets, at most four blocks of memory
  *
- *     A move takes a timer to a lower wheel. A tick moves the timers of its bucket, unless they expire. The costs of
- *     TIMERS_SMOOTH are below, under WHICH TABLE.
+ *     A bucket is emptied at its first tick. Its timers expire, or move to another bucket, mostly of a lower wheel. A
+ *     restart for a tick that is not before the old one pushes the timer back in place: it stays in its bucket, and no
+ *     other timer is touched. As the bucket is emptied, it moves to where one that is started then would be. So a timer
+ *     moves at most once in each wheel after each start or restart.
+ *
+ *     The timers of one tick are put in the order of their starts if they are not. So a tick with k of them may take
+ *     k log k steps: with a million that were pushed back in random order some 1.4 s, with 100,000 some 70 ms (measured).
+ *     The costs of TIMERS_SMOOTH, which does none of this, are below, under WHICH TABLE.
  *
  * WHICH TABLE
  *         table          is for
@@ -97,7 +103,7 @@
  *                        tick moves all timers of a bucket
  *         TIMERS_SMALL   machines with little memory
  *
- *     The clock of TIMERS_SMALL is short, and a timer moves five times at most. Above the lowest wheel its calls look
+ *     The clock of TIMERS_SMALL is short, and a timer moves six times at most. Above the lowest wheel its calls look
  *     at one digit after another, so some take a little longer. TIMERS_SMOOTH is for a loop that passes a tick or a
  *     few at a time.
  *
@@ -110,9 +116,9 @@
  *         advance, take           at most that for each tick that they pass, and no more than 9 for each timer
  *         start, restart, set_at  at most two timers
  *
- *     In all there are at most 9 moves for each start and restart, as before, and the order of expiry is the same.
- *     This is proved of the wheel (crates/timer_wheels/src/smooth.rt), and tested of this library. Only the 9 moves
- *     are in a contract here, of timers_counts.
+ *     In all there are at most 9 moves for each start and restart, and the order of expiry is the same. A restart moves
+ *     the timer at once. This is proved of the wheel (crates/timer_wheels/src/smooth.rt), and tested of this library.
+ *     Only the 9 moves are in a contract here, of timers_counts.
  *
  *     A loop that sleeps until timers_wakeup and then passes thousands of ticks at once makes the moves of all these
  *     ticks in one call. It gains nothing. One that wakes at each tick, or at each 16th, does.
@@ -125,10 +131,10 @@
  *
  * PROOFS
  *     Of these costs two are proved. No start returns TIMERS_NO_MEMORY while fewer timers are held than
- *     timers_reserve made room for. And there are at most 9 moves for each start and restart. (With fewer
- *     wheels there are fewer, which is proved of the wheel and not of timers_counts.) The other
- *     costs are in no contract: they follow from the code. Tests count the allocations and moves of each call, and
- *     what it runs with a hundred timers and with 100,000, over each table.
+ *     timers_reserve made room for. And for each start and restart there is at most one move for each wheel (of
+ *     TIMERS_SMOOTH, for each above the lowest). The other costs are in no contract: they follow from the code. Tests
+ *     count the allocations and moves of each call, and what it runs with a hundred timers and with 100,000, over
+ *     each table.
  *
  * MEMORY
  *     Only timers_new, timers_reserve, timers_start and timers_start_at allocate, and timers_set_at if no
@@ -136,10 +142,9 @@
  *     timers_reserve made room for. One that re-arms a timer which was just taken does not.
  *
  *     timers_new allocates the buckets, and the first start some KB more, unless timers_reserve made room: enum
- *     timers_table has both numbers. Most of the first one is for first deadlines; TIMERS_SMOOTH keeps none, and has
- *     twice the buckets. A timer takes 40 bytes, in two arrays. An array that is full grows, the larger one to twice
- *     its length. So above some 1,000 timers they have 40 to 82 bytes for each, of the most that were ever held. With a
- *     timers_reserve before the first start they have 40 for each, up to its room.
+ *     timers_table has both numbers. A timer takes 40 bytes, in two arrays. An array that is full grows, the larger
+ *     one to twice its length. So above some 1,000 timers they have 40 to 83 bytes for each, of the most that were
+ *     ever held. With a timers_reserve before the first start they have 40 for each, up to its room.
  *
  *     No block has more than SIZE_MAX / 2 bytes. A call that needed one returns TIMERS_NO_MEMORY.
  *
@@ -300,9 +305,9 @@ enum timers_status {
 /* The slots of the wheels, and when their timers move: see WHICH TABLE. The KB: see MEMORY. */
 enum timers_table {
 	/* made by tools/facts: tables */
-	TIMERS_WIDE = 0,    /* ten wheels of 64 slots: the last tick is TIMERS_LAST; 15 + 5 KB */
+	TIMERS_WIDE = 0,    /* ten wheels of 64 slots: the last tick is TIMERS_LAST; 6 + 6 KB */
 	TIMERS_SMOOTH = 1,  /* as TIMERS_WIDE, with twice the slots, and a few moves at a tick; 11 + 10 KB */
-	TIMERS_SMALL = 2    /* six wheels of 16 slots: the last tick is TIMERS_SMALL_LAST; 2.7 + 1.0 KB */
+	TIMERS_SMALL = 2    /* six wheels of 16 slots: the last tick is TIMERS_SMALL_LAST; 1.5 + 1.2 KB */
 };
 
 /* made by tools/facts: last ticks */
@@ -337,8 +342,7 @@ struct timers_expired {
 /* What the wheels have done since timers_new. */
 struct timers_counters {
 	uint64_t starts;     /* timers that were started or restarted */
-	uint64_t moves;      /* how often a timer moved to a lower wheel */
-	uint64_t visits;     /* buckets that ticks came to, empty ones too: see timers_counts */
+	uint64_t moves;      /* how often a timer moved, as its bucket was emptied or before */
 };
 
 /* Sets the allocator: from now on the library calls these functions instead of malloc, realloc and free. They must
@@ -400,7 +404,7 @@ enum timers_status timers_start_at(struct timers *t, uint64_t deadline, uint64_t
 
 /* Stops the timer with this handle, as timers_stop, and starts another in its place, as timers_start. On
  * failure the old one stays as it is. Writes `*restarted`, the new handle, at TIMERS_OK: `handle` is dead
- * then. Does not allocate.
+ * then. If it expires no earlier than the old one, it is pushed back in place (COSTS). Does not allocate.
  * TIMERS_NOT_OPEN, TIMERS_NOT_PENDING, TIMERS_ZERO_INTERVAL, TIMERS_TOO_LATE, TIMERS_SERIALS_SPENT. */
 TIMERS_CHECKED
 enum timers_status timers_restart(struct timers *t, struct timers_handle handle, uint64_t interval,
@@ -447,7 +451,8 @@ TIMERS_CALL
 bool timers_each(const struct timers *t, uint64_t *cursor, struct timers_handle *handle,
                  struct timers_expired *out);
 
-/* Advances the clock by one tick. The timers with that deadline expire, and wait for timers_expire.
+/* Advances the clock by one tick. The timers with that deadline expire, and wait for timers_expire. If many were pushed
+ * back to it, they are sorted here (COSTS).
  * TIMERS_NOT_OPEN, TIMERS_DUE, TIMERS_CLOCK_END. */
 TIMERS_CALL
 enum timers_status timers_tick(struct timers *t);
@@ -501,18 +506,17 @@ size_t timers_len(const struct timers *t);
 
 /* The tick until which the caller may sleep. It is the present one if an expired timer waits to be taken,
  * and TIMERS_NEVER if nothing is pending or `t` is not open. Otherwise it is the first tick after the present
- * one at which a timer expires or moves to a lower wheel; with TIMERS_SMOOTH, which also moves timers before, the
- * tick at which TIMERS_WIDE would. That is at most the first deadline, and nothing expires before it. Call it
- * again once the clock is there: if it is before the first deadline, nothing has expired. Constant time. */
+ * one at which a bucket with a timer is emptied; with TIMERS_SMOOTH, which also moves timers before, the one at which
+ * the first timer expires or would move to a lower wheel. That is at most the first deadline, and nothing expires
+ * before it. Call it again once the clock is there: if it is before the first deadline, nothing has expired. So a loop
+ * wakes up for nothing only as a bucket is emptied in which nothing is due: once for all its timers, however often they
+ * were pushed back. Constant time. */
 TIMERS_CALL
 uint64_t timers_wakeup(const struct timers *t);
 
 /* Writes `*counts`, what the wheels have done since timers_new, at TIMERS_OK. `starts` counts each start and
- * restart that returned TIMERS_OK. `moves` is at most as many times `starts` as there are wheels above the lowest: 9
- * times with TIMERS_WIDE. How many one call makes with TIMERS_SMOOTH is above, under WHICH TABLE, and there `visits`
- * is always 0. With the others `visits` counts one for each tick of timers_tick. Of timers_advance,
- * timers_advance_to and timers_take it counts one for each multiple of a revolution (COSTS) that is passed. It also
- * counts their last tick if that is no such multiple and a timer expires there. A stop and taking expired timers
+ * restart that returned TIMERS_OK. `moves` is at most as many times `starts` as there are wheels, with TIMERS_WIDE 10
+ * times. How many one call makes with TIMERS_SMOOTH is above, under WHICH TABLE. A stop and taking expired timers
  * count nothing, and timers_clear changes no count. Constant time. Does not allocate. TIMERS_NOT_OPEN. */
 TIMERS_CHECKED
 enum timers_status timers_counts(const struct timers *t, struct timers_counters *counts);
@@ -564,9 +568,8 @@ TIMERS_ASSERT(sizeof(struct timers_handle) == 16 && offsetof(struct timers_handl
 TIMERS_ASSERT(sizeof(struct timers_expired) == 24 && offsetof(struct timers_expired, deadline) == 0
               && offsetof(struct timers_expired, serial) == 8 && offsetof(struct timers_expired, action) == 16,
               "struct timers_expired");
-TIMERS_ASSERT(sizeof(struct timers_counters) == 24 && offsetof(struct timers_counters, starts) == 0
-              && offsetof(struct timers_counters, moves) == 8 && offsetof(struct timers_counters, visits) == 16,
-              "struct timers_counters");
+TIMERS_ASSERT(sizeof(struct timers_counters) == 16 && offsetof(struct timers_counters, starts) == 0
+              && offsetof(struct timers_counters, moves) == 8, "struct timers_counters");
 #undef TIMERS_ASSERT
 #undef TIMERS_CALL
 #undef TIMERS_CHECKED

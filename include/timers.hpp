@@ -347,7 +347,7 @@ public:
 	/* A time until which the caller may sleep: it may be before the first deadline. Nothing if no timer is held. */
 	std::optional<time_point> wakeup() const noexcept { return unless_never(timers_wakeup(&raw_)); }
 
-	/* timers_counts: the starts, moves and visits since the timers were made. Throws error: TIMERS_NOT_OPEN. */
+	/* timers_counts: the starts and moves since the timers were made. Throws error: TIMERS_NOT_OPEN. */
 	timers_counters counts() const
 	{
 		timers_counters so_far;

@@ -133,7 +133,7 @@ no_more_code() {
     nm --size-sort -t d "$work/bare" | awk '
         $2 !~ /[tT]/ { next }
         $3 ~ /^__/ { sum["division"] += $1; next }
-        $3 ~ /take|migrat|advance/ { sum["ticks"] += $1; next }
+        $3 ~ /take|tick|sorts|advance/ { sum["ticks"] += $1; next }
         $3 ~ /start/ { sum["start"] += $1; next }
         $3 ~ /stop/ { sum["stop"] += $1; next }
         $3 ~ /timers_new|Buckets_new/ { sum["new"] += $1; next }

@@ -1,5 +1,5 @@
-/* How often timers were started and moved to a lower wheel, and how many buckets were visited. The numbers in
- * counts.stdout were worked out by hand from the rule of the wheels. A timer is in the wheel of the highest digit in which
+/* How often timers were started, and moved to another bucket. The numbers in counts.stdout were worked out by hand from
+ * the rule of the wheels. A timer is in the wheel of the highest digit in which
  * its deadline differs from now. When the lower digits of now become 0, its bucket is emptied: it expires then, or moves
  * to a lower wheel.
  *
@@ -9,7 +9,8 @@
  *     4097 = 1 * 4096 + 0 * 64 + 1        to wheel 0 at tick 4096
  *     4161 = 1 * 4096 + 1 * 64 + 1        to wheel 1 at tick 4096, to wheel 0 at tick 4160
  *
- * On the clock, from 10:24:30: 11:15:15 moves to the minutes at 11:00:00, and to the seconds at 11:15:00. */
+ * A timer that is pushed back stays in its bucket. When that is emptied, it goes to where one that is started then would.
+ */
 #include <inttypes.h>
 #include <stdio.h>
 #include <stdlib.h>
@@ -54,7 +55,7 @@ static void show(const char *run)
 {
 	struct timers_counters c;
 	check(timers_counts(&t, &c));
-	printf("%s: %" PRIu64 " starts, %" PRIu64 " moves, %" PRIu64 " visits\n", run, c.starts, c.moves, c.visits);
+	printf("%s: %" PRIu64 " starts, %" PRIu64 " moves\n", run, c.starts, c.moves);
 	timers_free(&t);
 }
 
@@ -63,7 +64,6 @@ int main(void)
 	struct timers_handle handle;
 	uint64_t action;
 
-	/* timers_tick visits a bucket at each tick. */
 	check(timers_new(&t, TIMERS_WIDE, 0));
 	start_at(64);
 	start_at(65);
@@ -74,7 +74,6 @@ int main(void)
 	}
 	show("tick by tick");
 
-	/* timers_advance counts the 65 multiples of 64 up to 4161, and the ticks 65 and 4161. */
 	check(timers_new(&t, TIMERS_WIDE, 0));
 	start_at(64);
 	start_at(65);
@@ -82,13 +81,13 @@ int main(void)
 	advance_to_the_end();
 	show("many ticks at once");
 
-	/* It counts the 18 multiples of 16 up to 291, which is 1 * 256 + 2 * 16 + 3, and the latter. */
+	/* 291 = 1 * 256 + 2 * 16 + 3 */
 	check(timers_new(&t, TIMERS_SMALL, 0));
 	start_at(291);
 	advance_to_the_end();
 	show("wheels of 16 slots");
 
-	/* A restart counts as a start. What was stopped did not move. 64 multiples of 64, and tick 4097. */
+	/* A restart counts as a start: pushed back, it moves at tick 64 and at 4096. What was stopped did not move. */
 	check(timers_new(&t, TIMERS_WIDE, 0));
 	check(timers_restart_at(&t, start_at(65), 4097, 0, &handle));
 	check(timers_stop(&t, start_at(200), &action));

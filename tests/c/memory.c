@@ -61,7 +61,7 @@ static void is_within(const char *what, size_t timers, size_t got, size_t least,
 	}
 }
 
-/* From 1,000 timers on each takes 40 to 82 bytes, beside what the table takes. */
+/* From 1,000 timers on each takes 40 to 83 bytes, beside what the table takes. */
 static void grow(uint32_t table, size_t most)
 {
 	const size_t buckets = TABLES[table].buckets, more = TABLES[table].more;
@@ -77,7 +77,7 @@ static void grow(uint32_t table, size_t most)
 		if (count == 1)
 			is_within("first start", 1, held - made, more / 10 * 8, more / 10 * 12);
 		if (count >= 1000)
-			is_within("starts", count, held - made, 40 * count, 82 * count);
+			is_within("starts", count, held - made, 40 * count, 83 * count);
 	}
 	size_t kept = held;
 	timers_clear(&t);

@@ -108,7 +108,7 @@ static numbers catch_up(const numbers &n)
 static numbers counts(const numbers &)
 {
 	const timers_counters counted = timers.counts();
-	return { TIMERS_OK, counted.starts, counted.moves, counted.visits };
+	return { TIMERS_OK, counted.starts, counted.moves };
 }
 
 /* A desk, its clients' ends, and the handles that clients were told, by serial. */

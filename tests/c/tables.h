@@ -11,9 +11,9 @@ static const struct table {
 	size_t buckets, more; /* bytes: of the wheels, and with the first timer */
 } TABLES[TIMERS_TABLES] = {
 	/* made by tools/facts: tables in tests */
-	{ { 64, 64, 64, 64, 64, 64, 64, 64, 64, 64 }, 1, 15300, 5300 },
+	{ { 64, 64, 64, 64, 64, 64, 64, 64, 64, 64 }, 1, 5800, 5500 },
 	{ { 64, 64, 64, 64, 64, 64, 64, 64, 64, 64 }, 2, 10700, 10500 },
-	{ { 16, 16, 16, 16, 16, 16 }, 1, 2700, 1000 },
+	{ { 16, 16, 16, 16, 16, 16 }, 1, 1460, 1180 },
 };
 
 #endif

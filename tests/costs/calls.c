@@ -98,14 +98,14 @@ static uint64_t bound(void) { return 2 * (pending + EXTRA) / 63 + 18; }
 static uint64_t waiting(void) { return held - timers_len(&t); }
 
 /* How many timers the ticks from this one on may have walked, of which they moved some. Of smooth wheels, which move a few at
- * a tick, the ticks that moved some count as well. */
+ * a tick, the ticks that moved some count as well. Others may sort what is due. */
 static uint64_t walked_from(uint64_t from, uint64_t moved)
 {
 	const uint64_t ticks = timers_now(&t) - from;
 
 	if (smooth)
 		return moved + (ticks < moved ? ticks : moved);
-	return from / scale->slots == timers_now(&t) / scale->slots ? 0 : moved + waiting();
+	return moved + waiting();
 }
 
 static uint64_t below(uint64_t limit)

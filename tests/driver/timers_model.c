@@ -53,7 +53,7 @@ static void set_units(struct timers_model *m, uint32_t table)
 
 void model_open(struct timers_model *m, uint32_t table, uint64_t tick)
 {
-	static const struct timers_counters none = { 0, 0, 0 };
+	static const struct timers_counters none = { 0, 0 };
 
 	m->open = true;
 	m->smooth = TABLES[table].revolutions > 1;
@@ -92,31 +92,33 @@ size_t model_find(const struct timers_model *m, struct timers_handle handle)
 	return m->count;
 }
 
-/* How often a timer has moved by now. Its bucket in a wheel is emptied at its deadline, rounded down to the unit of that
- * wheel. It is in the highest wheel in which that is not the present slot. */
-static uint64_t moves_of(const struct timers_model *m, const struct held *e)
+/* When the bucket is emptied of a timer that is filed at a tick: at its deadline, rounded down to the unit of the highest
+ * wheel in which that is not the present slot. */
+static uint64_t emptied_at(const struct timers_model *m, uint64_t now, uint64_t deadline)
 {
-	uint64_t at = e->from, moves = 0, i;
+	uint64_t i;
 
 	for (i = 0; i < m->wheels; i++) {
-		const uint64_t emptied = e->deadline / m->units[i] * m->units[i];
-		if (emptied == at / m->units[i] * m->units[i])
-			continue;
-		if (emptied > m->now)
-			break;
-		at = emptied;
-		moves += emptied != e->deadline;
+		const uint64_t emptied = deadline / m->units[i] * m->units[i];
+		if (emptied != now / m->units[i] * m->units[i])
+			return emptied;
 	}
-	return moves;
+	return deadline;
 }
 
 void model_remove(struct timers_model *m, size_t index)
 {
-	if (!m->smooth)
-		m->counted.moves += moves_of(m, &m->list[index]);
 	m->due -= index < m->due;
 	m->count--;
 	memmove(m->list + index, m->list + index + 1, (m->count - index) * sizeof *m->list);
+}
+
+void model_replace(struct timers_model *m, size_t index)
+{
+	const struct held e = m->list[index];
+
+	model_remove(m, index);
+	m->replaced = e;
 }
 
 void model_clear(struct timers_model *m)
@@ -167,11 +169,14 @@ static void keep_deadline(struct timers_model *m, uint64_t deadline)
 	m->last_serial++;
 }
 
-/* A timer that was accepted: one whose deadline is not after now is due at once, behind the others. */
+/* A timer that was accepted: one whose deadline is not after now is due at once, behind the others. One that is pushed back
+ * stays in its bucket. */
 void model_add(struct timers_model *m, struct when when, struct timers_handle handle, uint64_t action)
 {
 	const uint64_t deadline = !when.at_tick ? m->now + when.number : has_passed(m, when) ? m->now : when.number;
-	const struct held e = { deadline, handle.serial, action, handle.place, m->now };
+	const bool stays = m->replaced.serial != 0 && m->replaced.deadline > m->now && deadline >= m->replaced.deadline;
+	const uint64_t emptied = stays ? m->replaced.emptied : emptied_at(m, m->now, deadline);
+	const struct held e = { deadline, handle.serial, action, handle.place, emptied };
 	const size_t index = index_of(m, deadline, handle.serial);
 
 	if (m->count == m->room) {
@@ -182,6 +187,7 @@ void model_add(struct timers_model *m, struct when when, struct timers_handle ha
 	memmove(m->list + index + 1, m->list + index, (m->count - index) * sizeof *m->list);
 	m->list[index] = e;
 	m->count++;
+	m->replaced.serial = 0;
 	m->due += deadline == m->now;
 	m->held_most = m->count > m->held_most ? m->count : m->held_most;
 	m->counted.starts++;
@@ -201,45 +207,40 @@ uint64_t stop_before(const struct timers_model *m, uint64_t tick)
 	return m->count > 0 && m->list[0].deadline < stop ? m->list[0].deadline : stop;
 }
 
-static void come_to(struct timers_model *m, uint64_t tick)
+/* What isn't due as its bucket is emptied moves to another one. */
+void model_pass_to(struct timers_model *m, uint64_t tick)
 {
+	size_t i;
+
+	if (tick == m->now)
+		return;
 	m->now = tick;
 	for (m->due = 0; m->due < m->count && m->list[m->due].deadline == tick;)
 		m->due++;
-}
-
-void model_pass_to(struct timers_model *m, uint64_t tick)
-{
-	const uint64_t slots = m->units[m->wheels - 2], before = m->now;
-
-	if (tick == before)
-		return;
-	come_to(m, tick);
-	if (!m->smooth)
-		m->counted.visits += tick / slots - before / slots + (m->due > 0 && tick % slots > 0);
-}
-
-void model_pass_tick(struct timers_model *m)
-{
-	come_to(m, m->now + 1);
-	m->counted.visits += !m->smooth;
+	for (i = 0; !m->smooth && i < m->count; i++) {
+		struct held *const e = &m->list[i];
+		for (; e->emptied <= tick && e->emptied < e->deadline; m->counted.moves++)
+			e->emptied = emptied_at(m, e->emptied, e->deadline);
+	}
 }
 
 bool model_has_due(const struct timers_model *m) { return m->open && m->due > 0; }
 uint64_t model_now(const struct timers_model *m) { return m->open ? m->now : 0; }
 size_t model_len(const struct timers_model *m) { return m->open ? m->count - m->due : 0; }
 
-/* The tick at which the first timer expires or moves to a lower wheel: that at which its bucket is emptied. */
+/* The tick at which the first bucket with a timer is emptied. Of smooth wheels it is that of the first timer, wherever it is. */
 uint64_t model_wakeup(const struct timers_model *m)
 {
-	uint64_t i;
+	uint64_t first = TIMERS_NEVER;
+	size_t i;
 
-	for (i = 0; m->open && m->count > 0 && i < m->wheels; i++) {
-		const uint64_t emptied = m->list[0].deadline / m->units[i] * m->units[i];
-		if (emptied != m->now / m->units[i] * m->units[i])
-			return emptied;
-	}
-	return m->open && m->count > 0 ? m->now : TIMERS_NEVER;
+	if (!m->open || m->count == 0 || m->due > 0)
+		return m->open && m->due > 0 ? m->now : TIMERS_NEVER;
+	if (m->smooth)
+		return emptied_at(m, m->now, m->list[0].deadline);
+	for (i = 0; i < m->count; i++)
+		first = m->list[i].emptied < first ? m->list[i].emptied : first;
+	return first;
 }
 
 uint64_t model_next(const struct timers_model *m)
@@ -256,24 +257,17 @@ static void want_few_moves(struct timers_model *m, const struct timers_counters 
 	WANT("no move is taken back", counts->moves >= m->looked_at.moves, true);
 	if (passed < UINT64_MAX / of_tick - 1)
 		WANT("moves within the bound", more <= passed * of_tick + 2 * (counts->starts - m->looked_at.starts), true);
-	WANT("moves of all timers", counts->moves <= 9 * counts->starts, true);
 	m->looked_at = *counts;
 	m->looked_when = m->now;
 }
 
 void want_counts(struct timers_model *m, const struct timers_counters *counts)
 {
-	uint64_t moves = m->counted.moves;
-	size_t i;
-
 	WANT("starts counted", counts->starts, m->counted.starts);
-	WANT("visits counted", counts->visits, m->counted.visits);
 	OCCURS("counts with moves", counts->moves > 0);
-	if (m->smooth) {
+	if (m->smooth)
 		want_few_moves(m, counts);
-		return;
-	}
-	for (i = 0; i < m->count; i++)
-		moves += moves_of(m, &m->list[i]);
-	WANT("moves counted", counts->moves, moves);
+	else
+		WANT("moves counted", counts->moves, m->counted.moves);
+	WANT("moves of all timers", counts->moves <= m->wheels * counts->starts, true);
 }

@@ -537,8 +537,7 @@ static PyObject *timers_object_counts(PyObject *self, PyObject *unused)
 	(void)unused;
 	if (status != TIMERS_OK)
 		return refused(self, status);
-	return Py_BuildValue("(KKK)", (unsigned long long)counts.starts, (unsigned long long)counts.moves,
-	                     (unsigned long long)counts.visits);
+	return Py_BuildValue("(KK)", (unsigned long long)counts.starts, (unsigned long long)counts.moves);
 }
 
 CALL(PyObject, timers_object_pending, timers_len, held_by, PyLong_FromSize_t)
@@ -711,9 +710,9 @@ static PyMethodDef timers_methods[] = {
 	  "wakeup($self, /)\n--\n\n"
 	  "A tick until which nothing expires, at most the next deadline, or None if no timer is held. Constant time.\n\n"
 	  "For a loop that sleeps. At that tick maybe nothing has expired: then ask again." },
-	{ "counts", timers_object_counts, METH_NOARGS, /* -> tuple[int, int, int] */
+	{ "counts", timers_object_counts, METH_NOARGS, /* -> tuple[int, int] */
 	  "counts($self, /)\n--\n\n"
-	  "What the wheels did since they were made, as (starts, moves, visits)." },
+	  "What the wheels did since they were made, as (starts, moves)." },
 	{ "close", timers_object_close, METH_NOARGS, /* -> None */
 	  "close($self, /)\n--\n\n"
 	  "Frees all timers, and releases their actions. From then on each call that starts, stops, looks up or takes timers,\n"

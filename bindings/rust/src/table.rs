@@ -6,7 +6,7 @@ use crate::Tick;
 #[derive(Clone, Copy, Debug, Default, Eq, Hash, PartialEq)]
 pub enum Table {
     // made by tools/facts: tables in Rust
-    /// Ten wheels of 64 slots. They take some 15 KB, and are for all but the cases below. The last tick is [`LAST`].
+    /// Ten wheels of 64 slots. They take some 6 KB, and are for all but the cases below. The last tick is [`LAST`].
     #[default]
     Wide = 0,
     /// As `Wide`, with twice the slots, and a few moves at a tick. They take some 11 KB, and are for a loop that must
@@ -14,7 +14,7 @@ pub enum Table {
     /// 2n/63 + 18, where n is the most that were held since `new` or `clear`. A start, stop or restart takes longer.
     /// The last tick is [`LAST`].
     Smooth = 1,
-    /// Six wheels of 16 slots. They take some 2.7 KB, and are for machines with little memory. The last tick is
+    /// Six wheels of 16 slots. They take some 1.5 KB, and are for machines with little memory. The last tick is
     /// [`LAST_OF_SMALL`].
     Small = 2,
 }

@@ -48,10 +48,8 @@ pub struct Timer<T> {
 pub struct Counts {
     /// Timers that were started or restarted.
     pub starts: u64,
-    /// How often a timer moved to a lower wheel.
+    /// How often a timer moved, as its bucket was emptied or before.
     pub moves: u64,
-    /// Buckets that ticks came to, empty ones too. Of a jump of many ticks it counts only some.
-    pub visits: u64,
 }
 
 // SAFETY, of each `unsafe` below: this keeps the rules of the header. `held` begins as zeros and is private, so only the
@@ -435,7 +433,7 @@ impl<T> Timers<T> {
         Tick::known(unsafe { ffi::timers_wakeup(&self.held) })
     }
 
-    /// The starts, the moves to a lower wheel and the visits of buckets since the timers were made.
+    /// The starts and the moves of timers since these were made.
     #[must_use]
     pub fn counts(&self) -> Counts {
         let mut counts = Counts::default();

@@ -138,7 +138,7 @@ impl Replay {
             ("now", []) => vec![now.0],
             ("len", []) => vec![self.timers.iter().filter(|(_, timer)| timer.deadline > now).count() as u64],
             ("wakeup", []) => known(self.timers.wakeup()),
-            ("counts", []) => vec![0, self.timers.counts().starts, self.timers.counts().moves], // a tick visits more
+            ("counts", []) => vec![0, self.timers.counts().starts, self.timers.counts().moves],
             ("free", []) => vec![],
             call => panic!("{call:?}"),
         })
