@@ -10,7 +10,7 @@
 #                  processor give it CC, too)
 # make fuzz        an hour of scripts, against a model of docs/formats.md (MINUTES=N)
 # make fuzz-loop   ten million random operations of timers_loop.h, against a model, under the sanitizers
-# make docs        counts lines for docs/proofs.md
+# make docs        counts lines for docs/proof/proofs.md
 # make clean       removes what make built
 #
 # CC is the C compiler, by default cc: CC=aarch64-linux-gnu-gcc builds for another processor. CPPFLAGS, CFLAGS and LDFLAGS are
@@ -92,7 +92,7 @@ fuzz-loop: lib
 	for seed in 1 2 3 4 5 6 7 8 9 10; do build/loop_model 1000000 $$seed || exit 1; done
 
 docs:
-	tools/line_counts docs/proofs.md
+	tools/line_counts docs/proof/proofs.md
 
 clean:
 	rm -rf crates/*/out build timers tools/install/*.[13]

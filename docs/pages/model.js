@@ -332,7 +332,7 @@ class Play {
   }
 
   // Adds to buckets where these timers stand after a step of a script whose whole text would be too long. A timer's place
-  // depends on now and on its deadline alone (docs/definitions.md, Placement), and a bucket is in order of serials. So each
+  // depends on now and on its deadline alone (docs/proof/definitions.md, Placement), and a bucket is in order of serials. So each
   // is started on a clock that is at this tick, by itself, and `show` says where it stands.
   placed(serials, step, buckets) {
     const where = new Map();

@@ -1,4 +1,4 @@
-/* What the translated code needs of C: C99, or C++. What it takes for granted (docs/proofs.md) is checked where it can be. */
+/* What the translated code needs of C: C99, or C++. What it takes for granted (docs/proof/proofs.md) is checked where it can be. */
 #include <limits.h>
 #include <stdbool.h>
 #include <stddef.h>

@@ -1,6 +1,6 @@
 """Expressions of C, and those of the instructions that change nothing.
 
-What C leaves undefined and the module does not is never written, but for what docs/proofs.md names. Arithmetic is that of
+What C leaves undefined and the module does not is never written, but for what docs/proof/proofs.md names. Arithmetic is that of
 unsigned numbers. What is narrower than `int` is cast back to its width, and a literal is cast where C would compute with ints.
 Counts of shifts are masked. An address is a sum of integers, unless the module reads or writes there: then it has to be inside
 its object. Comparisons of order are those of integers."""
