@@ -439,9 +439,9 @@ TIMERS_CALL
 uint64_t timers_desk_wakeup(const struct timers_desk *d);
 
 /* The first deadline of all pending timers, exactly. TIMERS_NEVER if nothing is pending, or it holds no
- * desk. Takes constant time if that deadline comes before the next multiple of a revolution (COSTS in timers.h).
- * Otherwise it walks the timers of one bucket, or with TIMERS_SMOOTH of one in each wheel. A loop that only sleeps can
- * use timers_desk_wakeup. Does not allocate. */
+ * desk. With TIMERS_SMOOTH it walks the timers of one bucket in each wheel. Otherwise it walks those of each bucket that
+ * is emptied before the deadline: in the worst case all. A loop that only sleeps can use timers_desk_wakeup. Does not
+ * allocate. */
 TIMERS_CALL
 uint64_t timers_desk_next(const struct timers_desk *d);
 
