@@ -1,4 +1,4 @@
-/* timers_reserve makes room for as many timers as links of 32 bits can name beside the wheels' buckets, and for no more. The
+/* timers_reserve makes room for as many timers as links of 32 bits can name beside the wheels' lists, and for no more. The
  * blocks are mapped, and the library writes no room that is only reserved: so they take addresses alone, some 275 GB. */
 #define _DEFAULT_SOURCE
 #include <stdio.h>
@@ -34,13 +34,13 @@ static int is(enum timers_status wanted, enum timers_status got)
 	return got == wanted;
 }
 
-/* The wheels of a table have so many buckets, and there is one more for what is due. */
-static uint64_t buckets_of(uint32_t table)
+/* How many lists a table's wheels have: their buckets, one for what is due, and 35 in which lazy wheels put that in order. */
+static uint64_t lists_of(uint32_t table)
 {
 	uint64_t slots = 0;
 	for (int wheel = 0; wheel < 10; wheel++)
 		slots += TABLES[table].radices[wheel];
-	return TABLES[table].revolutions * slots + 1;
+	return TABLES[table].revolutions * slots + (table == TIMERS_SMOOTH ? 1 : 36);
 }
 
 static int reaches(uint32_t table)
@@ -48,7 +48,7 @@ static int reaches(uint32_t table)
 	struct timers t = TIMERS_INIT;
 	struct timers_handle handle;
 	struct timers_expired out;
-	const size_t most = (size_t)((UINT64_C(1) << 32) - buckets_of(table));
+	const size_t most = (size_t)((UINT64_C(1) << 32) - lists_of(table));
 	int done = is(TIMERS_OK, timers_new(&t, table, 0));
 	done = done && is(TIMERS_NO_MEMORY, timers_reserve(&t, most + 1));
 	done = done && is(TIMERS_OK, timers_reserve(&t, most));
