@@ -71,7 +71,7 @@ static NOINLINE enum timers_status restart_unwanted(struct timers *t, struct tim
 {
 	struct timers_handle unwanted;
 
-	return timers_restart(t, handle, interval, action, &unwanted);
+	return (enum timers_status)tm_timers_restart(BYTES(t), handle.place, handle.serial, interval, action, BYTES(&unwanted));
 }
 
 enum timers_status timers_restart(struct timers *t, struct timers_handle handle, uint64_t interval, uint64_t action,
