@@ -133,14 +133,14 @@ no_more_code() {
     nm --size-sort -t d "$work/bare" | awk '
         $2 !~ /[tT]/ { next }
         $3 ~ /^__/ { sum["division"] += $1; next }
-        $3 ~ /take|tick|sorts|advance/ { sum["ticks"] += $1; next }
+        $3 ~ /take|tick|sorts|advance|visit/ { sum["ticks"] += $1; next }
         $3 ~ /start/ { sum["start"] += $1; next }
         $3 ~ /stop/ { sum["stop"] += $1; next }
         $3 ~ /timers_new|Buckets_new/ { sum["new"] += $1; next }
         $3 ~ /reserve|make_r|grow|rattle_|give|alloc/ { sum["memory"] += $1; next }
         { sum["rest"] += $1 }
         END { for (part in sum) print part, sum[part] }' > "$work/parts"
-    sed -n '/^No option leaves/,/^$/p' "$page" | tr -d '\n,' | sed -nE 's/.* (11100) .*`timers_take` have ([0-9]+).*start has ([0-9]+).*`timers_reserve` ([0-9]+).*`timers_new` ([0-9]+).*stop ([0-9]+).*`__ctzdi2` ([0-9]+)\..*/all \1 ticks \2 start \3 memory \4 new \5 stop \6 division \7/p' |
+    sed -n '/^No option leaves/,/^$/p' "$page" | tr -d '\n,' | sed -nE 's/.* (9200) .*`timers_take` have ([0-9]+).*start has ([0-9]+).*`timers_reserve` ([0-9]+).*`timers_new` ([0-9]+).*stop ([0-9]+).*`__ctzdi2` ([0-9]+)\..*/all \1 ticks \2 start \3 memory \4 new \5 stop \6 division \7/p' |
         xargs -n 2 > "$work/said"
     [ "$(wc -l < "$work/said")" -eq 7 ]
     at_most "$(sed -n 's/^all //p' "$work/said")" "$bytes" all
