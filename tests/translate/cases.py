@@ -987,8 +987,8 @@ EXPECTED = [(f'define i64 @f(ptr %a) {{\n  %r = load atomic i64, ptr %a {order},
 ]
 
 # Names of fields: of a call of the library, of functions that it calls, and of one that two call with other types.
-NAMED = ''.join(f'define internal void @"{path}"() #0 {{\n  ret void\n}}\n' for path in SMOOTH) + """define internal void @"timer_wheels::hier::HierWheel::move"(ptr noundef %w) {
-  %p = getelementptr inbounds i8, ptr %w, i64 256
+NAMED = ''.join(f'define internal void @"{path}"() #0 {{\n  ret void\n}}\n' for path in SMOOTH) + """define internal void @"timer_wheels::lazy::LazyWheel::move"(ptr noundef %w) {
+  %p = getelementptr inbounds i8, ptr %w, i64 216
   %k = getelementptr inbounds i8, ptr %w, i64 40
   %n = load i64, ptr %p, align 8
   %m = add i64 %n, 1
@@ -1017,7 +1017,7 @@ shut:
 open:
   %all = load ptr, ptr %t, align 8
   %w = getelementptr inbounds i8, ptr %all, i64 8
-  call void @"timer_wheels::hier::HierWheel::move"(ptr noundef %w)
+  call void @"timer_wheels::lazy::LazyWheel::move"(ptr noundef %w)
   call void @both(ptr %all)
   %tick.at = getelementptr inbounds i8, ptr %all, i64 24
   %links = getelementptr inbounds i8, ptr %all, i64 48
@@ -1049,14 +1049,14 @@ define i64 @timers_expire_batch(ptr %t, ptr %out, i64 %room) {
 attributes #0 = { noinline }
 """
 EXPECTED.append((NAMED, '\tif (RARE(load64(t + CTimers_mark) != 1))\n\t\treturn TIMERS_NOT_OPEN;\n\tbyte *timers1 = loadptr(t + CTimers_at);\n',
-                 '\tstore64(wheel1 + HierWheel_moves, load64(wheel1 + HierWheel_moves) + 1);\n\ttm_both(wheel1 + HierWheel_links);\n',
-                 'tm_HierWheel_move(timers1 + Timers_hier_or_smooth);\n\ttm_both(timers1);\n\ttm_links(timers1 + Timers_links);\n',
+                 '\tstore64(wheel1 + LazyWheel_filings, load64(wheel1 + LazyWheel_filings) + 1);\n\ttm_both(wheel1 + LazyWheel_links);\n',
+                 'tm_LazyWheel_move(timers1 + Timers_lazy_or_smooth);\n\ttm_both(timers1);\n\ttm_links(timers1 + Timers_links);\n',
                  'tm_both(byte *p1)\n{\n\tstore64(p1 + 8, 7);\n', 'tm_links(byte *links1)\n{\n\tstore64(links1 + Links_lists, 11);\n',
                  '\tuint64_t tick2 = load64(timers1 + Timers_tick);\n\tstore64(timers1 + Timers_tick, tick2 + handle_1);\n',
                  '\tstore64(timers1 + 136, tick2);\n', 'byte *entry4 = inside(entry3, handle_1 << 5);\n',
                  'action5 = load64(entry4 + UnownedEntry_action);\n', 'n6 = load64(inside(entry3, handle_1 << 4) + 24);\n',
                  '\tstore64(((action5 == handle_2) ? entry4 : t) + 16, action5);\n', '\treturn TIMERS_OK;\n',
-                 'Links_lists = 64', 'HierWheel_links = 40, HierWheel_moves = 256',
+                 'Links_lists = 64', 'LazyWheel_links = 40, LazyWheel_filings = 216',
                  '/* Stops the timer with exactly this handle', ' -> IsOpen t.old }', ' and Does (Stopped (base_handle handle) timer) t.old t.new)', '(byte *t, byte *out, uint64_t out_length)\n'))
 
 # Text, and the line that has to be named.
