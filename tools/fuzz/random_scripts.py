@@ -87,7 +87,8 @@ class Script:
 
     def pass_ticks(self):
         if self.is_stream and self.chance.random() < 0.5:
-            tick = self.tick()
+            # `show --moves` over a hashed wheel passes each revolution up to it.
+            tick = min(self.tick(), self.now + TICKS)
             self.add("at", tick=tick)
             self.now = max(self.now, tick)
         else:
