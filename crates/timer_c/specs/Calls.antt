@@ -4,7 +4,7 @@ use Rattle.std.specs.Prelude.{◌≡◌, ◌<◌, ℕ, Bool, true, false, Option
 use Rattle.timer_base.specs.Counts.{no_counts}
 use Rattle.timer_base.specs.Layout.{NoSlots}
 use Rattle.timer_base.specs.WheelState.{empty_wheel}
-use Rattle.timer_wheels.specs.HierWheel as hier
+use Rattle.timer_wheels.specs.hier.HierWheel as hier
 use Rattle.timer_total.specs.Refusals.{left_until}
 use Rattle.timer_total.specs.TimersState.{TimersState, Counting}
 use Rattle.timer_runs.specs.Runs.{Counters, Call, IsCall, Advanced, Kept}

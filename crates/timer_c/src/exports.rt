@@ -20,14 +20,16 @@ ghost use Rattle.timer_wheels.specs.TieredWheel.{moves_of_start};
 
 use crate::c_timers::CTimers;
 use crate::const_timers::ConstTimers;
-use crate::conversions::{from_c_handle, restart_status, start_status, to_c_expired, to_c_handle};
+use crate::conversions::{from_c_handle, to_c_expired, to_c_handle};
 use crate::layout::{CHandle, Counts, Expired};
 use crate::status::{
     CLOCK_END, DUE, NEVER, NO_MEMORY, NOT_OPEN, NOT_PENDING, OK, OPEN, VERSION_NUMBER,
 };
-use crate::wheel_maker::{CWheel, wheel_of};
+use crate::ways;
+use crate::wheel_maker::wheel_of;
 use std::alloc::Global;
 use timer_total::{AdvanceFault, Timers};
+use timer_wheels::RestartWay;
 
 /// The version of the library, as a number that rises with it.
 #[unsafe(no_mangle)]
@@ -127,13 +129,10 @@ pub extern "C" fn timers_start(
     let Some(timers) = t.timers() else {
         return NOT_OPEN;
     };
-    match timers.start(interval, action) {
-        Ok(made) => {
-            *handle = to_c_handle(made);
-            OK
-        }
-        Err(fault) => start_status(fault),
+    if !timers.wheel().is_ready() {
+        return ways::start_apart(timers, interval, action, handle);
     }
+    ways::start(timers, interval, action, handle)
 }
 
 /// Starts a timer that expires at the tick `deadline`, and writes its handle. If that is not after the
@@ -155,13 +154,10 @@ pub extern "C" fn timers_start_at(
     let Some(timers) = t.timers() else {
         return NOT_OPEN;
     };
-    match timers.start_at(deadline, action) {
-        Ok(made) => {
-            *handle = to_c_handle(made);
-            OK
-        }
-        Err(fault) => start_status(fault),
+    if !timers.wheel().is_ready() {
+        return ways::start_at_apart(timers, deadline, action, handle);
     }
+    ways::start_at(timers, deadline, action, handle)
 }
 
 /// Stops the timer with exactly this handle, pending or expired and not yet taken, and starts another in its
@@ -185,40 +181,10 @@ pub extern "C" fn timers_restart(
         return NOT_OPEN;
     };
     let deadline = timers.now().wrapping_add(interval);
-    if !timers.wheel().stays(from_c_handle(handle), deadline) {
-        return restart_apart(timers, handle, interval, action, restarted);
-    }
-    match timers.restart(from_c_handle(handle), interval, action) {
-        Ok(made) => {
-            *restarted = to_c_handle(made);
-            OK
-        }
-        Err(fault) => restart_status(fault),
-    }
-}
-
-/// A restart that moves its timer, or is refused, out of line.
-// So one that leaves its timer where it stands has no call, for which a compiler would save registers at its start. The body
-// stands twice: what a compiler knows of the timer makes of it two.
-#[inline(never)]
-fn restart_apart(
-    timers: &mut Timers<CWheel>,
-    handle: CHandle,
-    interval: u64,
-    action: u64,
-    restarted: &mut CHandle,
-) -> u32
-    ensures restarted { result ≡ OK → IsCall c_counters
-        (Restarted (base_handle handle) interval action (base_handle restarted.new)) timers.old timers.new }
-    ensures refused { 0 < result → IsRestartRefusal handle interval timers.old result }
-    ensures kept { 0 < result → (timers.new ≡ timers.old) × (restarted.new ≡ restarted.old) }
-{
-    match timers.restart(from_c_handle(handle), interval, action) {
-        Ok(made) => {
-            *restarted = to_c_handle(made);
-            OK
-        }
-        Err(fault) => restart_status(fault),
+    match timers.wheel().way(from_c_handle(handle), deadline) {
+        RestartWay::Stays => ways::restart(timers, handle, interval, action, restarted),
+        RestartWay::Moves => ways::restart_moved(timers, handle, interval, action, restarted),
+        _ => ways::restart_apart(timers, handle, interval, action, restarted),
     }
 }
 
@@ -241,12 +207,10 @@ pub extern "C" fn timers_restart_at(
     let Some(timers) = t.timers() else {
         return NOT_OPEN;
     };
-    match timers.restart_at(from_c_handle(handle), deadline, action) {
-        Ok(made) => {
-            *restarted = to_c_handle(made);
-            OK
-        }
-        Err(fault) => restart_status(fault),
+    match timers.wheel().way(from_c_handle(handle), deadline) {
+        RestartWay::Stays => ways::restart_at(timers, handle, deadline, action, restarted),
+        RestartWay::Moves => ways::restart_at_moved(timers, handle, deadline, action, restarted),
+        _ => ways::restart_at_apart(timers, handle, deadline, action, restarted),
     }
 }
 
@@ -268,32 +232,11 @@ pub extern "C" fn timers_set_at(
     let Some(timers) = t.timers() else {
         return NOT_OPEN;
     };
-    if !timers.wheel().stays(from_c_handle(*handle), deadline) {
-        return set_apart(timers, handle, deadline, action);
-    }
-    match timers.set_at(from_c_handle(*handle), deadline, action) {
-        Ok(made) => {
-            *handle = to_c_handle(made);
-            OK
-        }
-        Err(fault) => start_status(fault),
-    }
-}
-
-/// A set that starts its timer, moves it, or is refused, out of line, as `restart_apart`.
-#[inline(never)]
-fn set_apart(timers: &mut Timers<CWheel>, handle: &mut CHandle, deadline: u64, action: u64) -> u32
-    ensures set { result ≡ OK → IsCall c_counters
-        (SetAt (base_handle handle.old) deadline action (base_handle handle.new)) timers.old timers.new }
-    ensures refused { 0 < result → IsSetRefusal handle.old deadline timers.old result }
-    ensures kept { 0 < result → (timers.new ≡ timers.old) × (handle.new ≡ handle.old) }
-{
-    match timers.set_at(from_c_handle(*handle), deadline, action) {
-        Ok(made) => {
-            *handle = to_c_handle(made);
-            OK
-        }
-        Err(fault) => start_status(fault),
+    match timers.wheel().way(from_c_handle(*handle), deadline) {
+        RestartWay::Stays => ways::set(timers, handle, deadline, action),
+        RestartWay::Moves => ways::set_moved(timers, handle, deadline, action),
+        RestartWay::Starts => ways::set_started(timers, handle, deadline, action),
+        RestartWay::Other => ways::set_apart(timers, handle, deadline, action),
     }
 }
 

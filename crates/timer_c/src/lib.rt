@@ -7,6 +7,7 @@
 //!     conversions  what timer_total takes and returns, as C's statuses and structs
 //!     laws         where a run of these calls (timer_runs) begins: no code
 //!     wheel_maker  C's wheel, and how one is made by C's number for its table
+//!     ways         bodies of starts, restarts and sets, for the ways that they may go
 //!     c_timers     `struct timers`: the slot, and the last serial while the slot is empty
 //!     const_timers `struct timers` behind a const pointer, whose timers can only be read
 //!     owned_cell   the slot: the two machine words by which it owns the timers on the heap
@@ -22,6 +23,7 @@ mod laws;
 mod layout;
 mod owned_cell;
 mod status;
+mod ways;
 mod wheel_maker;
 
 pub use c_timers::CTimers;

@@ -6,7 +6,7 @@ use Rattle.std.proofs.lemmas.Result.{on_ok_weaker}
 use Rattle.timer_links.specs.declared.kept.Node.{Node}
 use Rattle.timer_links.specs.Lists.{list_at, node_at, first_key, AreApart, KeyedLists, Row, Rows}
 use Rattle.timer_base.proofs.Basics.{some_same, some_none}
-use Rattle.timer_wheels.proofs.WalkLemmas.{IsGathering, next_row, found}
+use Rattle.timer_wheels.proofs.bucket_lemmas.WalkLemmas.{IsGathering, next_row, found}
 use Rattle.timer_commands.specs.declared.render.Naming.{Naming}
 use Rattle.timer_commands.specs.declared.shows.Filter.{Filter}
 use Rattle.timer_commands.specs.Shows.{is_kept}

@@ -2,7 +2,7 @@
 use Rattle.std.specs.Prelude.{◌≡◌, ℕ, ◌==◌, Bool, true, false, not, List, [], ◌∷◌, ◌++◌, codes, decimal}
 use Rattle.std.specs.List.{filter, concat, AllByRecursion}
 use Rattle.timer_script.specs.Script.{HasNoFeed}
-use Rattle.timer_script.specs.Decorator.{Decoration}
+use Rattle.timer_script.specs.Decorator.{Decoration, IsNothing}
 use Rattle.timer_commands.specs.declared.shows.Shows.{Shows}
 use Rattle.timer_commands.specs.Shows.{is_covered}
 
@@ -39,7 +39,11 @@ IsPictureIf false now text = text ≡ []
 
 -- after the answer to each line comes a picture, if the tick is covered; and there may be indented lines within it
 abbrev pub AddsPictures : Shows → Decoration
-AddsPictures shows = record { Within = AddsMarked 32; After = λ serial s added. IsPictureIf (is_covered shows s.now) s.now added }
+AddsPictures shows = record {
+  Within = AddsMarked 32;
+  After = λ serial s added. IsPictureIf (is_covered shows s.now) s.now added;
+  AfterRead = IsNothing;
+}
 
 -- the text grew by a picture
 abbrev pub HasGrownByPicture : ℕ → List ℕ → List ℕ → Type 0

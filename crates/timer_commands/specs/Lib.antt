@@ -6,4 +6,7 @@ pub mod Pictures
 pub mod Indented
 pub mod IndentedLaws
 pub mod Wakeups
+pub mod Serving
 pub mod Subcommands
+pub mod Journaling
+pub mod Resumed

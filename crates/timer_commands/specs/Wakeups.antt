@@ -1,8 +1,8 @@
 -- Text with the lines of wake-ups between its own: when an owner of the facility has to wake up next.
-use Rattle.std.specs.Prelude.{◌≡◌, ℕ, List, ◌++◌, Option, None, Some, codes, decimal}
+use Rattle.std.specs.Prelude.{◌≡◌, ℕ, Bool, true, false, List, ◌++◌, Option, None, Some, codes, decimal}
 use Rattle.timer_base.specs.WakeUps.{IsQuietUntil}
 use Rattle.timer_facility.specs.State.{FacilityState}
-use Rattle.timer_script.specs.Decorator.{Decoration, AddsAfter}
+use Rattle.timer_script.specs.Decorator.{Decoration, AddsAfter, AddsNothing, IsNothing}
 
 -- the tick of a wake-up, or that there is none
 abbrev pub wakeup_line : Option ℕ → List ℕ
@@ -18,6 +18,11 @@ IsWakeup s text = (quiet : Option ℕ) × IsQuietUntil quiet s.now s.pending × 
 abbrev pub AddsWakeOf : (Option ℕ → Type 0) → List ℕ → List ℕ → Type 0
 AddsWakeOf wakes old new = (wake : Option ℕ) × wakes wake × (new ≡ old ++ wakeup_line wake)
 
--- after the answer to each line comes that of a wake-up
+-- once for each read that brought a line, after the answers to all its lines, comes the line of a wake-up
 abbrev pub AddsWakeups : Decoration
-AddsWakeups = AddsAfter IsWakeup
+AddsWakeups = AddsAfter IsNothing IsWakeup
+
+-- if they are wanted
+abbrev pub AddsWakeupsIf : Bool → Decoration
+AddsWakeupsIf false = AddsNothing
+AddsWakeupsIf true = AddsWakeups

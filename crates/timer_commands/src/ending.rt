@@ -20,9 +20,11 @@ pub enum Ending {
     Skipped,
     /// `check`: an error after it began to read, with its one line on standard error.
     CheckFailed,
-    /// The command line was refused, or its file can't be opened: standard error says why. Nothing was read, and
-    /// standard output is empty. Standard error has one line for three reasons: a file that can't be opened, `first
-    /// tick above 8639999`, as with `clock`, and an argument that isn't UTF-8. For the others it has several.
+    /// The command line was refused, its file can't be opened, the file of `--state` has no state that fits, or that
+    /// of `--journal` is none of these options: standard error says why. Nothing else was read, and standard output
+    /// is empty. Standard error has one line for five reasons: a file that can't be opened, one with no such state,
+    /// one that is no such journal, `first tick above 8639999`, as with `clock`, and an argument that isn't UTF-8.
+    /// For the others it has several.
     Refused,
 }
 

@@ -1,10 +1,11 @@
 //! The options of `play`, `serve` and `show`, and their ranges.
 ghost use Rattle.std.specs.Prelude.{◌≡◌, ◌<◌, ◌≤◌, IfOk, IfErr, OnOk};
-ghost use Rattle.timer_commands.specs.Options.{scheme_last, config_of, IsPlayable, RefusesOptions};
+ghost use Rattle.timer_facility.specs.Restored.{limits_of};
+ghost use Rattle.timer_commands.specs.Options.{name_of, scheme_last, config_of, IsPlayable, RefusesOptions};
 
 use thiserror::Error;
 use timer_base::LAST;
-use timer_facility::{Checked, Config, ConfigFault};
+use timer_facility::{Checked, Config, ConfigFault, Limits};
 // made by tools/facts: imports of last ticks
 use timer_wheels::{LAST_OF_CLOCK, MAX_SLOTS};
 
@@ -50,6 +51,19 @@ pub enum OptionsFault {
 }
 
 impl Scheme {
+    /// Its name among the arguments.
+    pub fn name(&self) -> &'static str
+        ensures { result.now ≡ name_of self.now }
+    {
+        match self {
+            Scheme::Plain => "plain",
+            Scheme::Hashed => "hashed",
+            Scheme::Hier => "hier",
+            Scheme::Clock => "clock",
+            Scheme::Smooth => "smooth",
+        }
+    }
+
     /// The last tick of its clock.
     fn last_tick(&self) -> u64
         ensures { result ≡ scheme_last self.now }
@@ -73,6 +87,17 @@ impl RunOptions {
             first_tick: self.first_tick,
             first_serial: 1,
             first_number: 1,
+        }
+    }
+
+    /// What a state has to fit that the facility begins with. Does not allocate.
+    pub fn limits(&self) -> Limits
+        ensures { result ≡ limits_of (config_of self.now) (scheme_last self.now.scheme) }
+    {
+        Limits {
+            clients: self.clients,
+            capacity: self.capacity,
+            last_tick: self.scheme.last_tick(),
         }
     }
 

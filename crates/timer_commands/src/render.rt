@@ -29,8 +29,8 @@ ghost use Rattle.timer_commands.specs.Shows.{is_kept};
 ghost use Rattle.timer_commands.specs.Pictures.{kept_rows, shows_rounds, node_text, rows_text, slot_name, hand_name, bucket_name, list_end, lines_below, has_row, work_line};
 ghost use Rattle.timer_commands.specs.Wakeups.{wakeup_line};
 ghost use Rattle.timer_links.specs.Lists.{list_at};
-ghost use Rattle.timer_wheels.specs.HierWheel.{counts_of};
-ghost use Rattle.timer_wheels.specs.SmoothWheel.{starts_of, moves_of};
+ghost use Rattle.timer_wheels.specs.hier.HierWheel.{counts_of};
+ghost use Rattle.timer_wheels.specs.smooth.SmoothWheel.{starts_of, moves_of};
 
 use crate::shows::Filter;
 use itoa::Buffer;

@@ -1,30 +1,31 @@
 //! Makes the wheel of a scheme, and does over it what a verb says.
-ghost use Rattle.std.specs.Prelude.{◌≡◌, ◌⊎◌, false, IfErr, IfOk};
+ghost use Rattle.std.specs.Prelude.{◌≡◌, ◌⊎◌, false, IfErr, IfOk, IfSome, option_map};
 ghost use Rattle.timer_base.specs.declared.timer.Timer.{Timer};
 ghost use Rattle.timer_base.specs.WheelState.{empty_wheel};
-ghost use Rattle.timer_wheels.specs.HashedWheel.{slots_of};
-ghost use Rattle.timer_wheels.specs.HierWheel.{table_of};
-ghost use Rattle.timer_wheels.specs.SmoothWheel.{smooth_table};
+ghost use Rattle.timer_wheels.specs.hashed.HashedWheel.{slots_of};
+ghost use Rattle.timer_wheels.specs.hier.HierWheel.{table_of};
 ghost use Rattle.timer_wheels.specs.declared.table.Table.TheVariants as tables;
 ghost use Rattle.timer_commands.specs.declared.options.Scheme.TheVariants as schemes;
 ghost use Rattle.timer_commands.specs.Options.{scheme_last, scheme_layout, config_of, IsPlayable};
-ghost use Rattle.timer_commands.specs.Subcommands.{opened_by, HasDone, HasRunVerb};
+ghost use Rattle.timer_commands.specs.Serving.{FitsOptions};
+ghost use Rattle.timer_commands.specs.Subcommands.{opened_by, HasDone, HasRunNew, HasRunVerb};
 ghost use Rattle.timer_script.specs.Watched.{has_failed};
 
 use crate::ending::Ending;
 use crate::fault::Fault;
 use crate::options::{RunOptions, Scheme};
 use crate::render::Placement;
+use crate::resuming::resume;
 use crate::verbs::{Verb, do_verb};
 use std::alloc::Global;
 use std::io::{Read, Write};
 use timer_base::{MakeFault, PlainWheel, Wheel};
-use timer_facility::{Checked, Facility};
+use timer_facility::{Checked, Facility, SavedState};
 use timer_script::{Streams, Watched};
 use timer_wheels::{HashedWheel, HierWheel, SmoothWheel, Table};
 
 /// A wheel that the options can name.
-trait OfScheme {
+pub trait OfScheme {
     ghost use Rattle.timer_commands.specs.declared.options.RunOptions.{RunOptions};
 
     /// The wheel is the one that the options name: of their scheme, a hashed one with their slots.
@@ -45,12 +46,42 @@ impl OfScheme for HierWheel {
 }
 
 impl OfScheme for SmoothWheel {
-    ghost is_wheel_of = { λ options wheel. (options.scheme ≡ schemes.Smooth) × (smooth_table wheel ≡ tables.Wide) };
+    ghost is_wheel_of = { λ options wheel. options.scheme ≡ schemes.Smooth };
 }
 
-/// Does what the verb says over a new wheel of the scheme that the options name. If the options are refused, the
-/// streams are untouched. Nothing is read before the wheel is made. An error is returned, and not reported.
+/// Does what the verb says: over a new wheel of the scheme that the options name, and `serve` from the state that was
+/// read if there is one. If the options are refused, the streams are untouched. Nothing is read before the wheel is
+/// made. An error is returned, and not reported.
 pub fn run_verb<R: Read, S: Write, F: Write>(
+    alloc: Global,
+    verb: Verb,
+    options: RunOptions,
+    saved: Option<&SavedState>,
+    streams: &mut Streams<R, S>,
+    faults: &mut Watched<F>,
+) -> Result<Ending, Fault>
+    requires fits { IfSome saved (λ read. FitsOptions options read.now) }
+    requires reader_good { has_failed streams.old.reader ≡ false }
+    requires writer_good { has_failed streams.old.writer ≡ false }
+    ensures { HasRunVerb (option_map (λ read. read.now) saved.entry) verb options
+        (record { remaining = R.remaining; contents = S.contents; reports = F.contents })
+        (record { streams = streams.old; faults = faults.old })
+        (record { streams = streams.new; faults = faults.new }) result }
+{
+    let Some(read) = saved else {
+        return run_new(alloc, verb, options, streams, faults);
+    };
+    match verb {
+        Verb::Serve { on_bad, wakeups } => {
+            resume(alloc, options, read, on_bad, wakeups, streams, faults)
+        }
+        Verb::Play => run_new(alloc, verb, options, streams, faults),
+        Verb::Show(_) => run_new(alloc, verb, options, streams, faults),
+    }
+}
+
+/// Does what the verb says over a new wheel of the scheme that the options name.
+fn run_new<R: Read, S: Write, F: Write>(
     alloc: Global,
     verb: Verb,
     options: RunOptions,
@@ -59,7 +90,7 @@ pub fn run_verb<R: Read, S: Write, F: Write>(
 ) -> Result<Ending, Fault>
     requires reader_good { has_failed streams.old.reader ≡ false }
     requires writer_good { has_failed streams.old.writer ≡ false }
-    ensures { HasRunVerb verb options
+    ensures { HasRunNew verb options
         (record { remaining = R.remaining; contents = S.contents; reports = F.contents })
         (record { streams = streams.old; faults = faults.old })
         (record { streams = streams.new; faults = faults.new }) result }
@@ -107,7 +138,7 @@ fn over_scheme<R: Read, S: Write, F: Write>(
             over_wheel(alloc, verb, options, checked, made, streams, faults)
         }
         Scheme::Smooth => {
-            let made = SmoothWheel::with_table(alloc, Table::Wide, first_tick);
+            let made = SmoothWheel::new(alloc, first_tick);
             over_wheel(alloc, verb, options, checked, made, streams, faults)
         }
     }

@@ -3,7 +3,10 @@
 //! It is done over any wheel: `schemes` makes the wheel, and hands the facility over.
 ghost use Rattle.std.specs.Prelude.{◌≡◌, [], false};
 ghost use Rattle.timer_script.specs.Watched.{has_failed};
-ghost use Rattle.timer_commands.specs.Subcommands.{ServingEnds, HasDone, no_memory_of};
+ghost use Rattle.timer_script.specs.Service.{AreGood, server_with};
+ghost use Rattle.timer_commands.specs.Serving.{ServerEnds};
+ghost use Rattle.timer_commands.specs.Subcommands.{HasDone, no_memory_of};
+ghost use Rattle.timer_commands.specs.Wakeups.{AddsWakeupsIf};
 
 use crate::ending::Ending;
 use crate::fault::Fault;
@@ -12,9 +15,9 @@ use crate::shows::Shows;
 use std::alloc::Global;
 use std::io::{Read, Write};
 use timer_base::{OutOfMemory, Wheel};
-use timer_facility::Facility;
+use timer_facility::{Facility, Player};
 use timer_script::{
-    Decorator, OnBadLine, RunFault, ServeFault, Streams, Undecorated, Watched, run, serve,
+    Decorator, OnBadLine, Peer, RunFault, ServeFault, Streams, Undecorated, Watched, run, serve,
 };
 
 /// What is done with a facility.
@@ -22,7 +25,7 @@ use timer_script::{
 pub enum Verb {
     /// Plays a whole script, and writes its text.
     Play,
-    /// Answers lines as they come, and with `wakeups` reports after each when to wake up next.
+    /// Answers lines as they come, and with `wakeups` reports after those of each read when to wake up next.
     Serve { on_bad: OnBadLine, wakeups: bool },
     /// Answers lines as they come, and shows after each where the timers are.
     Show(Shows),
@@ -77,6 +80,14 @@ impl<W: Wheel + Placement + Drop> Decorator<W> for Placements {
         }
     }
 
+    fn decorate_read(
+        &self,
+        _text: &mut Vec<u8>,
+        _facility: &Facility<W>,
+    ) -> Result<(), OutOfMemory> {
+        Ok(())
+    }
+
     fn shows_steps(&self) -> bool {
         self.shows.moves
     }
@@ -104,29 +115,32 @@ impl<W: Wheel + Placement + Drop> Decorator<W> for Placements {
     ghost is_lawful = { λ placements. pictures_are_lawful placements.shows };
 }
 
-/// Reports when to wake up: a tick until which nothing expires, if something is pending. Then the line is
-/// `wakeup TICK`, and else `wakeup never`.
+/// Reports when to wake up, once for each read: a tick until which nothing expires, if something is pending. Then the
+/// line is `wakeup TICK`, and else `wakeup never`. One is enough: whoever waits for an answer has sent no more lines.
 struct Wakeups;
 
 impl<W: Wheel + Drop> Decorator<W> for Wakeups {
     ghost use Rattle.std.specs.Prelude.{◌≡◌, ◌++◌, OnOk};
-    ghost use Rattle.timer_script.specs.Decorator.{HasGrown, HasGrownAfter, after_is_lawful};
+    ghost use Rattle.timer_script.specs.Decorator.{HasGrown, HasGrownAfterRead, IsNothing, after_is_lawful};
     ghost use Rattle.timer_commands.specs.Wakeups.{AddsWakeups, AddsWakeOf, IsWakeup};
 
     ghost adds = { λ wakeups. AddsWakeups };
 
-    // The line is also the acknowledgement of a line with no answer.
     fn sends_each_line(&self) -> bool {
-        true
+        false
     }
 
     fn decorate(
         &self,
         _serial: u64,
-        text: &mut Vec<u8>,
-        facility: &Facility<W>,
-    ) -> Result<(), OutOfMemory>
-        ensures added { OnOk result (HasGrownAfter AddsWakeups _serial facility.now.state text.old.items text.new.items) }
+        _text: &mut Vec<u8>,
+        _facility: &Facility<W>,
+    ) -> Result<(), OutOfMemory> {
+        Ok(())
+    }
+
+    fn decorate_read(&self, text: &mut Vec<u8>, facility: &Facility<W>) -> Result<(), OutOfMemory>
+        ensures added { OnOk result (HasGrownAfterRead AddsWakeups facility.now.state text.old.items text.new.items) }
         ensures kept { HasGrown text.old.items text.new.items }
         // The tick is after the present one, and at most the first pending deadline.
         ensures wakeup { OnOk result (AddsWakeOf (W.wakes facility.now.state.layout facility.now.state.now
@@ -135,7 +149,7 @@ impl<W: Wheel + Drop> Decorator<W> for Wakeups {
         push_wakeup(text, facility.quiet_until())
     }
 
-    ghost is_lawful = { λ wakeups. after_is_lawful IsWakeup };
+    ghost is_lawful = { λ wakeups. after_is_lawful IsNothing IsWakeup };
 }
 
 /// Does it. An error is returned, and not reported. `faults` gets the reports of `serve` alone.
@@ -161,45 +175,53 @@ pub fn do_verb<R: Read, S: Write, F: Write, W: Wheel + Placement + Drop>(
             Err(fault) => Err(Fault::Run(fault)),
         },
         Verb::Serve { on_bad, wakeups } => {
-            if wakeups {
-                serve_with(alloc, facility, &Wakeups, on_bad, streams, faults)
-            } else {
-                serve_with(alloc, facility, &Undecorated, on_bad, streams, faults)
-            }
+            let player = Player::open(alloc, facility);
+            talk(alloc, player, on_bad, wakeups, streams, faults)
         }
         Verb::Show(shows) => {
+            let player = Player::open(alloc, facility);
             let placements = Placements { shows };
-            serve_with(
-                alloc,
-                facility,
-                &placements,
-                OnBadLine::Stop,
-                streams,
-                faults,
-            )
+            serve_with(alloc, player, &placements, OnBadLine::Stop, streams, faults)
         }
     }
 }
 
-/// Serves with this decorator.
-fn serve_with<R: Read, S: Write, F: Write, W: Wheel + Drop, D: Decorator<W>>(
+/// Answers lines as they come, with wake-ups or without.
+pub fn talk<P: Peer, F: Write, W: Wheel + Drop>(
     alloc: Global,
-    facility: Facility<W>,
-    decorator: &D,
+    player: Player<W>,
     on_bad: OnBadLine,
-    streams: &mut Streams<R, S>,
+    wakeups: bool,
+    peer: &mut P,
     faults: &mut Watched<F>,
 ) -> Result<Ending, Fault>
-    requires reader_good { has_failed streams.old.reader ≡ false }
-    requires writer_good { has_failed streams.old.writer ≡ false }
-    requires pending { facility.state.pending ≡ [] }
-    requires waiting { facility.waiting ≡ [] }
-    ensures { ServingEnds on_bad (D.adds decorator.now) facility.state
-        (record { remaining = R.remaining; contents = S.contents; reports = F.contents })
-        (record { streams = streams.old; faults = faults.old })
-        (record { streams = streams.new; faults = faults.new }) result }
+    requires { AreGood (P.state peer.old) }
+    ensures { ServerEnds (server_with on_bad (AddsWakeupsIf wakeups) player F.contents)
+        (record { peer = P.state peer.old; faults = faults.old })
+        (record { peer = P.state peer.new; faults = faults.new }) result }
 {
-    match serve(alloc, streams, facility, decorator, on_bad, faults) {
+    if wakeups {
+        serve_with(alloc, player, &Wakeups, on_bad, peer, faults)
+    } else {
+        serve_with(alloc, player, &Undecorated, on_bad, peer, faults)
+    }
+}
+
+/// Serves with this decorator.
+fn serve_with<P: Peer, F: Write, W: Wheel + Drop, D: Decorator<W>>(
+    alloc: Global,
+    player: Player<W>,
+    decorator: &D,
+    on_bad: OnBadLine,
+    peer: &mut P,
+    faults: &mut Watched<F>,
+) -> Result<Ending, Fault>
+    requires { AreGood (P.state peer.old) }
+    ensures { ServerEnds (server_with on_bad (D.adds decorator.now) player F.contents)
+        (record { peer = P.state peer.old; faults = faults.old })
+        (record { peer = P.state peer.new; faults = faults.new }) result }
+{
+    match serve(alloc, peer, player, decorator, on_bad, faults) {
         Ok(true) => Ok(Ending::Done),
         Ok(false) => Ok(Ending::Skipped),
         Err(fault) => Err(Fault::Serve(fault)),

@@ -6,7 +6,7 @@ use Rattle.std.proofs.lemmas.List.{length-set}
 use Rattle.timer_base.proofs.Basics.{either}
 use Rattle.timer_facility.specs.Types.{Timer, TickFault, Expired}
 use Rattle.timer_facility.specs.declared.request.NotTaken.TheVariants as NotTakens
-use Rattle.timer_facility.specs.State.{FacilityState, count_of, pending_of, ModelRequest, SingleEvent, Asked, Tick}
+use Rattle.timer_facility.specs.State.{FacilityState, count_of, pending_of, ModelRequest, SingleEvent, Asked, Tick, Dump}
 use Rattle.timer_facility.specs.Verdict.{tick_refusal}
 use Rattle.timer_facility.specs.Step.{StepResult, with_number, timer_stopped, timer_started, after_request, expired_next, step, step_of_tick}
 use Rattle.timer_facility.specs.Run.{PlacedEvent, history, state_after}
@@ -50,6 +50,7 @@ now_step : (s : FacilityState) (event : SingleEvent) (place : ℕ)
     → (step s event place).state.now ≡ s.now + ticks_by event (step s event place).outs
 now_step s (Asked client number request) place = omega (arith, (clock_asked s client number request place).now_is)
 now_step s Tick place = now_ticked s (tick_refusal s)
+now_step s Dump place = omega arith
 now_step s event place = elim (either s.is_closed) [ inl h ↦ rw h (omega arith) | inr h ↦ rw h (omega arith) ]
 
 -- each accepted tick, and nothing else, brings the clock one tick on
@@ -100,6 +101,7 @@ none_step s c Tick place h = record {
   no_client = omega (arith, h.no_client, clients_ticked s (tick_refusal s));
   none = omega (arith, h.none, (hands_over_tick s place).of_client c);
 }
+none_step s c Dump place h = h
 none_step s c event place h = elim (either s.is_closed) [
   | inl e ↦ rw e (record { no_client = h.no_client; none = h.none })
   | inr e ↦ rw e (record { no_client = h.no_client; none = omega (arith, h.none) })

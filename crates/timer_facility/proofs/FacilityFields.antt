@@ -527,7 +527,7 @@ pub record IsRestarted (p : Fields) (old t : Timer) (place : ℕ) (w' : Wheels.W
   pub parts : IsFacility (record p { wheel = w'; next_serial = p.next_serial + 1 })
 
 -- a timer that was found is removed
-length-found : (test : Entry → Bool) (t : Timer) (es : List Entry) → first_timer test es ≡ Some t
+pub length-found : (test : Entry → Bool) (t : Timer) (es : List Entry) → first_timer test es ≡ Some t
     → length (without_found (Some t) es) + 1 ≤ length es
 length-found test t [] h = absurd (cc)
 length-found test t (e ∷ es) h = elim (either (test e)) [

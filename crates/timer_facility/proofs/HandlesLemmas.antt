@@ -78,7 +78,7 @@ All-put_later : (P : Entry → Type 0) (now : ℕ) (e : Entry) (es : List Entry)
     → AllByRecursion P (put_later now e es)
 All-put_later P now e es p a = elim (either (nat_lt now e.timer.deadline)) [ inl h ↦ rw h (All-put P e es p a) | inr h ↦ rw h a ]
 
-AreRecorded-start : {handles : HandleList} {s : FacilityState} (place : ℕ) (t : Timer) → t.serial ≡ s.next_serial
+pub AreRecorded-start : {handles : HandleList} {s : FacilityState} (place : ℕ) (t : Timer) → t.serial ≡ s.next_serial
     → AreRecorded handles s → AreRecorded (handles ++ handle_of place t ∷ []) (with_timer (Some t) place s)
 AreRecorded-start {handles} {s} place t n a =
     let h : Handle = handle_of place t in

@@ -20,3 +20,9 @@ pub mod FacilityFields
 pub mod TickedLemmas
 pub mod WakeUpLemmas
 pub mod NoticeLists
+pub mod SerialOrder
+pub mod StateLines
+pub mod NextLines
+pub mod RestoredLemmas
+pub mod SavableLemmas
+pub mod SoundLemmas

@@ -3,7 +3,7 @@ use Rattle.std.proofs.Common.{◌≡◌, ℕ, false, List, [], ◌∷◌, ◌++�
 use Rattle.std.specs.Prelude.{map}
 use Rattle.std.proofs.lemmas.List.{length-map}
 use Rattle.std.proofs.lemmas.Simd.{map-map}
-use Rattle.timer_facility.specs.Types.{Timer, Notice, Out}
+use Rattle.timer_facility.specs.Types.{Timer, Notice, Out, StateLine}
 use Rattle.timer_facility.specs.declared.event.Out.TheVariants as Outs
 use Rattle.timer_facility.specs.Step.{refusals_in}
 use Rattle.timer_facility.specs.Run.{notice_in, notices_in}
@@ -41,6 +41,28 @@ timers_in-map client number action f (t ∷ ts) = timers_in-map client number ac
 pub refusals_in-map : (f : Timer → Notice) (ts : List Timer) → refusals_in (map (λ t. Outs.Notice (f t)) ts) ≡ []
 refusals_in-map f [] = refl
 refusals_in-map f (t ∷ ts) = refusals_in-map f ts
+
+-- The lines of a dump are no notices, and no other outs that are looked for.
+
+-- the lines as outs
+abbrev pub dumped : List StateLine → List Out
+dumped lines = map (λ line. Outs.Dumped line) lines
+
+pub notices_in-dumped : (lines : List StateLine) → notices_in (dumped lines) ≡ []
+notices_in-dumped [] = refl
+notices_in-dumped (line ∷ lines) = notices_in-dumped lines
+
+pub serials_told-dumped : (lines : List StateLine) → serials_told (dumped lines) ≡ []
+serials_told-dumped [] = refl
+serials_told-dumped (line ∷ lines) = serials_told-dumped lines
+
+pub closing-dumped : (lines : List StateLine) → any_out is_closing (dumped lines) ≡ false
+closing-dumped [] = refl
+closing-dumped (line ∷ lines) = closing-dumped lines
+
+pub refusals_in-dumped : (lines : List StateLine) → refusals_in (dumped lines) ≡ []
+refusals_in-dumped [] = refl
+refusals_in-dumped (line ∷ lines) = refusals_in-dumped lines
 
 pub notices_in-append : (xs ys : List Out) → notices_in (xs ++ ys) ≡ notices_in xs ++ notices_in ys
 notices_in-append [] ys = refl

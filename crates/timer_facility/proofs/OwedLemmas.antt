@@ -7,9 +7,10 @@ use Rattle.std.proofs.lemmas.Bool.Decides.{nat_tests}
 use Rattle.timer_base.proofs.Basics.{either}
 use Rattle.timer_base.specs.Order.{IsMember, AreDistinct, AreNumbered}
 use Rattle.timer_base.proofs.OrderLaws.{All-weaken, filter_all, filter_none}
-use Rattle.timer_facility.specs.Types.{Timer, Notice, TickFault, Expired, Returned}
+use Rattle.timer_facility.specs.Types.{Timer, Notice, StateLine, TickFault, Expired, Returned}
 use Rattle.timer_base.specs.Pending.{timers_of}
-use Rattle.timer_facility.specs.State.{FacilityState, IsSound, ModelRequest, action_of, SingleEvent, Asked, Tick, Close}
+use Rattle.timer_facility.specs.State.{FacilityState, IsSound, ModelRequest, action_of, SingleEvent, Asked, Tick, Close, Dump}
+use Rattle.timer_facility.specs.Saved.{saved_of, state_lines}
 use Rattle.timer_facility.specs.Verdict.{tick_refusal}
 use Rattle.timer_facility.specs.Step.{StepResult, timer_stopped, expiries, timer_started, handle_of, answer_to, answered, due_at_start, with_timer, after_request, expired_next, step, step_of_tick, step_of_close}
 use Rattle.timer_facility.specs.Run.{PlacedEvent, history, state_after, notices, notices_in, outs_of}
@@ -17,7 +18,7 @@ use Rattle.timer_facility.specs.Owed.{owed, started, accepted_starts, timers_in_
 use Rattle.timer_facility.proofs.TimerLists.{or_false, timers_in_order-ordered}
 use Rattle.timer_facility.proofs.VerdictLemmas.{takable, ticking}
 use Rattle.timer_facility.proofs.StepLemmas.{by_verdict, stopped-among, IsNew, started-new, started-not_past, due_when_later, due_when_now}
-use Rattle.timer_facility.proofs.NoticeLists.{notices_in-map, timers_in-map, serials_told-map, closing-map, refusal-map, notices_in-append}
+use Rattle.timer_facility.proofs.NoticeLists.{notices_in-map, timers_in-map, serials_told-map, closing-map, refusal-map, notices_in-append, notices_in-dumped, serials_told-dumped, closing-dumped}
 use Rattle.timer_facility.proofs.OwedFold.{Reading, nothing_read, read_one, reading, and_then, then_nothing, nothing_then, then_then, reading_is, all_started, is_owed_at, is_left_at, owed_at_ticks, owed_is}
 use Rattle.timer_facility.proofs.OwedKeeps.{Keeps, not_closed, not_owed, with_started, keeps-start, keeps-start_now, keeps-stop, keeps-tick, keeps-close, keeps-numbered}
 
@@ -124,9 +125,12 @@ keeps_step : (s : FacilityState) (r : Reading) (ns : List Notice) (c : FacilityS
     → KeepsStep s r ns event (step c event place)
 keeps_step s r ns c (Asked client number request) place k = keeps_asked s r ns c client number request place k
 keeps_step s r ns c Tick place k = keeps_ticked s r ns c (tick_refusal c) refl k
+keeps_step s r ns c Dump place k =
+    let lines : List StateLine = state_lines (saved_of c) in
+    rw (notices_in-dumped lines, serials_told-dumped lines, closing-dumped lines) (keeps_idle k)
 keeps_step s r ns c event place k = elim (either c.is_closed) [
   | inl h ↦ rw h (keeps_idle (rw h at k))
-  | inr h ↦ let now = rw h at k in rw h (search (keeps_idle, keeps_closed, now))
+  | inr h ↦ let now = rw h at k in rw h (search (keeps_closed, now))
 ]
 
 -- and so does a whole run
@@ -168,7 +172,7 @@ keeps_first s i =
           (λ t l. omega (arith, l)) i.later);
     }
 
-keeps_history : (s : FacilityState) (ps : List PlacedEvent) → IsSound s
+pub keeps_history : (s : FacilityState) (ps : List PlacedEvent) → IsSound s
     → Keeps s (reading (history s ps)) (notices (history s ps)) (state_after s ps)
 keeps_history s ps i = keeps_read (sym (nothing_then (reading (history s ps)))) refl (keeps_run s nothing_read [] s ps (keeps_first s i))
 

@@ -18,7 +18,7 @@ use Rattle.timer_facility.proofs.TimerLists.{IsOnly, AreDistinct-only, AreDistin
 use Rattle.timer_facility.proofs.HandedOverLemmas.{unwrapped}
 use Rattle.timer_facility.proofs.OwedLemmas.{notices-history, started-distinct}
 
-AreDistinct-filter : (p : Timer → Bool) (ts : List Timer) → AreDistinct ts → AreDistinct (filter p ts)
+pub AreDistinct-filter : (p : Timer → Bool) (ts : List Timer) → AreDistinct ts → AreDistinct (filter p ts)
 AreDistinct-filter p [] d = tt
 AreDistinct-filter p (t ∷ ts) d = elim (either (p t)) [
   | inl h ↦ rw h (

@@ -4,17 +4,19 @@ use Rattle.std.specs.Prelude.{Option, Some, None}
 use Rattle.timer_facility.specs.Types.{Timer, NotTaken, Reason, TickFault, Expired}
 use Rattle.timer_base.proofs.Basics.{either}
 use Rattle.timer_facility.specs.declared.event.Out.TheVariants as Outs
-use Rattle.timer_facility.specs.State.{FacilityState, ModelRequest, SingleEvent, Asked, Tick}
+use Rattle.timer_facility.specs.State.{FacilityState, ModelRequest, SingleEvent, Asked, Tick, Dump}
+use Rattle.timer_facility.specs.Saved.{saved_of, state_lines}
 use Rattle.timer_facility.specs.Verdict.{not_taken, refusal, tick_refusal, verdict_on_request, verdict_on_tick, verdict, refusals_of, closed_refusal}
-use Rattle.timer_facility.specs.Step.{StepResult, refused, refusals_in, expiries, timer_stopped, timer_started, answer_to, due_at_start, accepted, expired_next, step_by, step, step_of_tick}
+use Rattle.timer_facility.specs.Step.{StepResult, refusals_in, expiries, timer_stopped, timer_started, answer_to, due_at_start, accepted, expired_next, step_by, step, step_of_tick}
 use Rattle.timer_facility.specs.Run.{PlacedEvent, history, state_after, outs_of, notices, notices_in}
-use Rattle.timer_facility.proofs.NoticeLists.{notices_in-append, refusals_in-map}
-use Rattle.timer_facility.proofs.StepLemmas.{accepted-some, step_refused}
+use Rattle.timer_facility.proofs.NoticeLists.{notices_in-append, refusals_in-map, notices_in-dumped, refusals_in-dumped}
+use Rattle.timer_facility.proofs.StepLemmas.{accepted-some}
 
--- a closed facility refuses each event as such
-pub verdict_closed : (s : FacilityState) (event : SingleEvent) → s.is_closed ≡ true → verdict s event ≡ Some (closed_refusal event)
+-- a closed facility refuses each event as such, but for a look at the state
+pub verdict_closed : (s : FacilityState) (event : SingleEvent) → s.is_closed ≡ true → verdict s event ≡ closed_refusal event
 unfolding not_taken tick_refusal
 verdict_closed s Tick h = rw h refl
+verdict_closed s Dump h = refl
 verdict_closed s event h = rw h refl
 
 -- From the outs.
@@ -47,6 +49,7 @@ outs_verdict s (Asked client number request) place =
     told_request s client number request place (not_taken s client number) (refusal s client request)
     (accepted-some s client number request)
 outs_verdict s Tick place = told_tick s (tick_refusal s)
+outs_verdict s Dump place = refusals_in-dumped (state_lines (saved_of s))
 outs_verdict s event place = elim (either s.is_closed) [
   | inl h ↦ rw h refl
   | inr h ↦ rw h (search refusals_in-map)
@@ -59,11 +62,12 @@ abbrev DoesNothing : FacilityState → StepResult → Type 0
 DoesNothing s st = (notices_in st.outs ≡ []) × (st.state ≡ s)
 
 step-closed : (s : FacilityState) (event : SingleEvent) (place : ℕ) → s.is_closed ≡ true → DoesNothing s (step s event place)
-step-closed s event place h = subst (DoesNothing s) (sym (step_refused s event place (closed_refusal event) (verdict_closed s event h)))
+step-closed s event place h = subst (λ o. DoesNothing s (step_by s event (accepted s event place) o)) (sym (verdict_closed s event h))
     (idle event)
   where
-    idle : (event : SingleEvent) → DoesNothing s (refused s event (closed_refusal event))
+    idle : (event : SingleEvent) → DoesNothing s (step_by s event (accepted s event place) (closed_refusal event))
     idle Tick = (refl, refl)
+    idle Dump = (notices_in-dumped (state_lines (saved_of s)), refl)
     idle event = (refl, refl)
 
 pub state_closed : (s : FacilityState) (ps : List PlacedEvent) → s.is_closed ≡ true → state_after s ps ≡ s

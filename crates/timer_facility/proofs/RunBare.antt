@@ -12,7 +12,8 @@ use Rattle.timer_facility.specs.Types.{Timer, NotTaken, Reason, TickFault, Notic
 use Rattle.timer_base.specs.Pending.{Entry, timer_of, timers_of, put, is_due_at, has_serial, first_timer, without_found}
 use Rattle.timer_facility.specs.declared.event.Event.TheVariants as Events
 use Rattle.timer_facility.specs.declared.event.Out.TheVariants as Outs
-use Rattle.timer_facility.specs.State.{FacilityState, Deadline, After, At, tested_interval, ByHandle, BySerial, ModelRequest, Start, Stop, Restart, SingleEvent, Asked, Tick}
+use Rattle.timer_facility.specs.State.{FacilityState, Deadline, After, At, tested_interval, ByHandle, BySerial, ModelRequest, Start, Stop, Restart, SingleEvent, Asked, Tick, Dump}
+use Rattle.timer_facility.specs.Saved.{saved_of, by_serial, state_lines}
 use Rattle.timer_facility.specs.Verdict.{not_taken, of_client, timer_named, interval_refusal, room_refusal, refusal, tick_refusal, verdict_on_request}
 use Rattle.timer_facility.specs.Step.{StepResult, with_number, answered, timer_stopped, timer_started, due_at_start, answer_to, put_later, without_timer, with_timer, after_request, step_by, step, step_of_tick}
 use Rattle.timer_facility.specs.Run.{PlacedEvent, state_after, run, bare_answer, bare, bare_outs, bare_entry, bare_state, NamesBySerial, AreSameButForPlaces}
@@ -161,6 +162,11 @@ step-bare s (Asked client number request) place n =
     ) (request-bare s client number request place (timer_stopped s client request) (timer_started s client number request)
     (not_taken s client number) (refusal s client request))
 step-bare s Tick place n = rw (tick_refusal-bare s) (tick-bare s (tick_refusal s))
+step-bare s Dump place n = (
+  map-map bare (λ line. Outs.Dumped line) (state_lines (saved_of s))
+      ∙ ap (λ ts. map (λ line. Outs.Dumped line) (state_lines (record (saved_of s) { timers = by_serial ts }))) (sym (timers_of-bare s.pending)),
+  refl,
+)
 step-bare s event place n = elim (either s.is_closed) [
   | inl h ↦ rw h (refl, refl)
   | inr h ↦ rw h (simp (length-bare s.pending, timers_of-bare s.pending, notices-bare (λ t. Returned t) (timers_of s.pending)), refl)

@@ -10,7 +10,7 @@ use Rattle.timer_facility.specs.State.{FacilityState, number_of}
 use Rattle.timer_facility.specs.Verdict.{not_taken, first_refusal, interval_refusal, room_refusal, start_refusal, tick_refusal}
 
 -- a test that fails, and the ones after it
-none_then : {X : Type 0} (x : X) (rest : Option X) (b : Bool) → (if b then Some x else rest) ≡ None → (b ≡ false) × (rest ≡ None)
+pub none_then : {X : Type 0} (x : X) (rest : Option X) (b : Bool) → (if b then Some x else rest) ≡ None → (b ≡ false) × (rest ≡ None)
 none_then x rest true h = absurd (cc)
 none_then x rest false h = (refl, h)
 

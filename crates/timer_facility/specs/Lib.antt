@@ -1,6 +1,8 @@
 pub mod Types
 pub mod Config
 pub mod State
+pub mod Saved
+pub mod Savable
 pub mod Verdict
 pub mod Step
 pub mod Run
@@ -8,5 +10,6 @@ pub mod Owed
 pub mod Facility
 pub mod Played
 pub mod Handles
+pub mod Restored
 pub mod Ticked
 pub mod HandedOver

@@ -1,8 +1,8 @@
 -- The contract of a player about the events that it plays.
-use Rattle.std.specs.Prelude.{◌≡◌, ℕ, ◌+◌, ◌-◌, min, if◌then◌else◌, false, List, [], ◌∷◌, ◌++◌, length, map, take, replicate}
+use Rattle.std.specs.Prelude.{◌≡◌, ◌<◌, ℕ, ◌+◌, ◌-◌, min, if◌then◌else◌, false, List, [], ◌∷◌, ◌++◌, length, map, take, replicate}
 use Rattle.timer_facility.specs.Types.{Event, Out}
 use Rattle.timer_facility.specs.declared.event.Event.TheVariants as Events
-use Rattle.timer_facility.specs.State.{FacilityState, After, At, BySerial, Start, Stop, Restart, SingleEvent, Asked, Tick, Close}
+use Rattle.timer_facility.specs.State.{FacilityState, After, At, BySerial, Start, Stop, Restart, SingleEvent, Asked, Tick, Close, Dump}
 use Rattle.timer_facility.specs.Step.{step}
 use Rattle.timer_facility.specs.Run.{PlacedEvent, history, state_after, run, notices}
 use Rattle.timer_facility.specs.Owed.{owed}
@@ -30,6 +30,7 @@ singles_of s (Events.RestartAt client number serial deadline action) =
 singles_of s (Events.Ticks count) = ticks_of s count
 singles_of s (Events.TicksTo tick) = ticks_of s (tick - s.now)
 singles_of s Events.Close = Close ∷ []
+singles_of s Events.Dump = Dump ∷ []
 
 -- the single events of these events, each with some place
 abbrev pub ArePlaced : FacilityState → List Event → List PlacedEvent → Type 0
@@ -75,9 +76,11 @@ most_outs s (Events.RestartAt client number serial deadline action) = 2
 most_outs s (Events.Ticks count) = length s.pending + 1
 most_outs s (Events.TicksTo tick) = length s.pending + 1
 most_outs s Events.Close = length s.pending + 1
+most_outs s Events.Dump = length s.numbers + length s.pending + 2
 most_outs s event = 1
 
--- the event may take memory for more than its outs: a timer that it makes, or a close without a reserve
+-- the event may take memory for more than its outs: a timer that it makes, a close without a reserve, or the timers of a
+-- dump, which are sorted by serial
 abbrev pub TakesMemory : FacilityState → Event → Type 0
 TakesMemory s (Events.Start client number interval action) = MakesTimer s client number (Start (After interval) action)
 TakesMemory s (Events.StartAt client number deadline action) = MakesTimer s client number (Start (At deadline) action)
@@ -86,4 +89,5 @@ TakesMemory s (Events.Restart client number serial interval action) =
 TakesMemory s (Events.RestartAt client number serial deadline action) =
     MakesTimer s client number (Restart (BySerial serial) (At deadline) action)
 TakesMemory s Events.Close = s.has_room ≡ false
+TakesMemory s Events.Dump = 0 < length s.pending
 TakesMemory s event = ⊥

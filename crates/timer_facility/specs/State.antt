@@ -95,11 +95,12 @@ action_of (Start deadline action) = action
 action_of (Stop name) = 0
 action_of (Restart name deadline action) = action
 
--- one event: a client's request under a number, one tick, or the close
+-- one event: a client's request under a number, one tick, the close, or a look at the state
 pub data SingleEvent : Type 0 where
   Asked : ℕ → ℕ → ModelRequest → SingleEvent
   Tick : SingleEvent
   Close : SingleEvent
+  Dump : SingleEvent
 
 -- the invariant of a state
 pub record IsSound (s : FacilityState) : Type 0 where

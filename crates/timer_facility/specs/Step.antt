@@ -5,7 +5,8 @@ use Rattle.timer_facility.specs.Types.{Timer, Handle, Answer, TickFault, Out, St
 use Rattle.timer_base.specs.Pending.{Entry, timers_of, put, is_due_at, without_found, entries_left}
 use Rattle.timer_facility.specs.declared.request.Reason.TheVariants.{NoSuch}
 use Rattle.timer_facility.specs.declared.event.Out.TheVariants as Outs
-use Rattle.timer_facility.specs.State.{FacilityState, ModelRequest, Start, Stop, Restart, ticks_until, SingleEvent, Asked, Tick, Close}
+use Rattle.timer_facility.specs.State.{FacilityState, ModelRequest, Start, Stop, Restart, ticks_until, SingleEvent, Asked, Tick, Close, Dump}
+use Rattle.timer_facility.specs.Saved.{saved_of, state_lines}
 use Rattle.timer_facility.specs.Verdict.{timer_named, Refusal, RequestNotTaken, RequestRefused, TickRefused, CloseRefused, verdict_on_tick, verdict}
 
 -- the outs of an event, and the state after it
@@ -131,6 +132,7 @@ accepted s Close place = record {
   outs = Outs.Closed (length s.pending) ∷ map (λ t. Outs.Notice (Returned t)) (timers_of s.pending);
   state = record s { pending = []; is_closed = true };
 }
+accepted s Dump place = record { outs = map (λ line. Outs.Dumped line) (state_lines (saved_of s)); state = s }
 
 -- the step of an event by the verdict on it: what comes of it if it is accepted, or a refusal
 abbrev pub step_by : FacilityState → SingleEvent → StepResult → Option Refusal → StepResult

@@ -16,3 +16,7 @@ pub use Rattle.timer_facility.specs.declared.request.Notice.TheVariants.{Expired
 pub use Rattle.timer_facility.specs.declared.request.Reason.{Reason}
 pub use Rattle.timer_facility.specs.declared.request.Request.{Request}
 pub use Rattle.timer_facility.specs.declared.request.TickFault.{TickFault}
+pub use Rattle.timer_facility.specs.declared.saved.Limits.{Limits}
+pub use Rattle.timer_facility.specs.declared.saved.Stage.{Stage}
+pub use Rattle.timer_facility.specs.declared.saved.StateFault.{StateFault}
+pub use Rattle.timer_facility.specs.declared.saved.StateLine.{StateLine}

@@ -6,7 +6,7 @@ use Rattle.timer_facility.specs.declared.request.NotTaken.TheVariants.{Closed, N
 use Rattle.timer_facility.specs.declared.request.Reason.TheVariants.{ZeroInterval, TooLate, SerialsSpent, Full, NoSuch}
 use Rattle.timer_facility.specs.declared.request.TickFault.TheVariants as TickFaults
 use Rattle.timer_facility.specs.declared.request.CloseFault.TheVariants as CloseFaults
-use Rattle.timer_facility.specs.State.{FacilityState, number_of, tested_interval, Name, ByHandle, BySerial, ModelRequest, Start, Stop, Restart, SingleEvent, Asked, Tick, Close}
+use Rattle.timer_facility.specs.State.{FacilityState, number_of, tested_interval, Name, ByHandle, BySerial, ModelRequest, Start, Stop, Restart, SingleEvent, Asked, Tick, Close, Dump}
 
 -- why a request is not taken, if it is not taken: the first test that holds
 unfoldable pub not_taken : FacilityState → ℕ → ℕ → Option NotTaken
@@ -99,6 +99,7 @@ verdict s (Asked client number request) = verdict_on_request (not_taken s client
     (refusal s client request)
 verdict s Tick = verdict_on_tick (tick_refusal s)
 verdict s Close = if s.is_closed then Some CloseRefused else None
+verdict s Dump = None
 
 -- the refusal of a verdict, and none if the event is accepted
 abbrev pub refusals_of : Option Refusal → List Refusal
@@ -110,8 +111,9 @@ abbrev pub verdict_on_close : CloseFault → Option Refusal
 verdict_on_close CloseFaults.Closed = Some CloseRefused
 verdict_on_close CloseFaults.OutOfMemory = None
 
--- how a closed facility refuses an event, whatever it is
-abbrev pub closed_refusal : SingleEvent → Refusal
-closed_refusal (Asked client number request) = RequestNotTaken Closed
-closed_refusal Tick = TickRefused TickFaults.Closed
-closed_refusal Close = CloseRefused
+-- how a closed facility refuses an event: all but a look at the state
+abbrev pub closed_refusal : SingleEvent → Option Refusal
+closed_refusal (Asked client number request) = Some (RequestNotTaken Closed)
+closed_refusal Tick = Some (TickRefused TickFaults.Closed)
+closed_refusal Close = Some CloseRefused
+closed_refusal Dump = None

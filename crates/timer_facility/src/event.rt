@@ -1,5 +1,6 @@
 //! What a player plays, and what it returns: outs, and where it stopped.
 use crate::request::{Answer, NotTaken, Notice, TickFault};
+use crate::saved::StateLine;
 
 /// One event of a list that is played. A stop or a restart names its timer by serial.
 #[derive(Clone, Copy, Debug, PartialEq, Eq)]
@@ -51,6 +52,8 @@ pub enum Event {
     },
     /// The close.
     Close,
+    /// A look at the state, which changes nothing: also a closed facility answers it.
+    Dump,
 }
 
 /// One result of an event: a list of them is in the order in which they came about.
@@ -78,6 +81,8 @@ pub enum Out {
     },
     /// A close was refused: the facility was closed already.
     CloseRefused,
+    /// A line of a dump.
+    Dumped(StateLine),
 }
 
 /// What was played before memory ran out. The event after it changed nothing.

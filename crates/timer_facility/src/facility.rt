@@ -4,7 +4,7 @@
 //! owner takes them by `next_out` until none waits, and only then makes the next call. Expired timers stay in the
 //! wheel, which hands them out by serial. A close moves the timers to a list of their own, and the wheel is empty
 //! then.
-ghost use Rattle.std.specs.Prelude.{◌≡◌, false, true, None, Some, is_some, ℕ, ◌+◌, ◌-◌, ◌<◌, ◌≤◌, ◌↔◌, [], length, drop, slice_get, slice_index, slice_set, IsTrue, IfSome, IfOk, IfErr, OnErr, OnOk, MatchResult, vec_capacity};
+ghost use Rattle.std.specs.Prelude.{◌≡◌, false, true, None, Some, is_some, ℕ, ◌+◌, ◌-◌, ◌<◌, ◌≤◌, ◌↔◌, ◌++◌, ◌⊎◌, [], length, map, drop, slice_get, slice_index, slice_set, IsTrue, IfSome, IfOk, IfErr, OnErr, OnOk, MatchResult, vec_len, vec_capacity};
 ghost use Rattle.timer_facility.specs.Types.{LAST, Timer, MAX_CLIENTS};
 ghost use Rattle.timer_base.specs.Pending.{timers_of};
 ghost use Rattle.timer_base.specs.WheelState.{after_clear};
@@ -13,12 +13,19 @@ ghost use Rattle.timer_facility.specs.State.{IsSound, opened, At, ByHandle, Stop
 ghost use Rattle.timer_facility.specs.Verdict.{not_taken, timer_named, start_refusal, restart_refusal, interval_refusal, refusal, tick_refusal, TickRefused, verdict, verdict_on_close};
 ghost use Rattle.timer_facility.specs.Step.{step, new_timer, timer_started};
 ghost use Rattle.timer_facility.specs.Owed.{timer_handed};
-ghost use Rattle.timer_facility.specs.Handles.{is_pending};
+ghost use Rattle.timer_facility.specs.Handles.{AreRecorded, is_pending};
+ghost use Rattle.timer_facility.specs.Run.{bare_state};
+ghost use Rattle.timer_facility.specs.Restored.{IsUnused, limits_of, restored};
 ghost use Rattle.timer_facility.specs.Ticked.{AreTicked};
+ghost use Rattle.timer_base.specs.Order.{AreDistinct};
+ghost use Rattle.timer_facility.specs.Saved.{by_serial, saved_of, head_line, number_lines, timer_lines, state_lines};
 ghost use Rattle.timer_facility.specs.Facility.{FacilityView, view_of, view_after, view_with_room_made, with_nothing_waiting, NoRoomToClose, IsTaken, IsNotTaken, IsFacilityOver, model_of, is_for_a_tick, IsStart, IsAnswered, MakesTimer, HasAnswered};
 
 use crate::config::{CLIENTS, Checked};
+use crate::event::Out;
 use crate::request::{Answer, CloseFault, NotTaken, Notice, Reason, Request, TickFault};
+use crate::restoring::{counts_of, numbers_of, start_all};
+use crate::saved::{SavedState, StateLine};
 use std::alloc::Global;
 use std::marker::Model;
 use timer_base::{Handle, LAST, OutOfMemory, Timer, Wheel};
@@ -102,6 +109,44 @@ impl<W: Wheel + Drop> Facility<W> {
             returned: Vec::new(alloc),
             handed: 0,
         }
+    }
+
+    /// A facility whose state is the one that was read from the lines of a dump, over an empty wheel whose clock is at
+    /// its tick; and the handles of its timers, by serial. Clients of which the lines say nothing begin at the first number.
+    ///
+    /// The only error is out of memory. The first tick and the first serial of the configuration are not used.
+    pub fn restore(
+        alloc: Global,
+        checked: Checked,
+        wheel: W,
+        saved: &SavedState,
+    ) -> Result<(Facility<W>, Vec<Handle>), OutOfMemory>
+        requires unused { IsUnused (W.state wheel) }
+        requires now { (W.state wheel).now ≡ saved.now.saved.now }
+        requires limits { saved.now.limits ≡ limits_of checked (W.state wheel).last_tick }
+        requires keeps { (timer : Timer) → W.keeps timer }
+        ensures state { IfOk result (λ r. bare_state r.0.state ≡ restored checked (W.state wheel).last_tick saved.now.saved) }
+        ensures waiting { IfOk result (λ r. r.0.waiting ≡ []) }
+        ensures handles { IfOk result (λ r. AreRecorded r.1.items r.0.state) }
+        ensures few { IfOk result (λ r. length r.1.items ≡ length r.0.state.pending) }
+    {
+        let config = checked.config();
+        let mut wheel = wheel;
+        let mut handles = Vec::new(alloc);
+        start_all(&mut wheel, saved, &mut handles)?;
+        let facility = Facility {
+            wheel,
+            clients: config.clients,
+            capacity: config.capacity,
+            next_serial: saved.next_serial(),
+            numbers: numbers_of(saved, config.first_number),
+            counts: counts_of(saved),
+            is_closed: saved.is_closed(),
+            has_room: false,
+            returned: Vec::new(alloc),
+            handed: 0,
+        };
+        Ok((facility, handles))
     }
 
     /// Makes room for as many timers as the facility may hold, in the wheel and in the list that a close returns.
@@ -335,6 +380,43 @@ impl<W: Wheel + Drop> Facility<W> {
         self.handed = 0;
         self.is_closed = true;
         Ok(self.returned.len() as u64)
+    }
+
+    /// Appends the lines of a dump, as outs: the state as values. The only error is out of memory, and then nothing is
+    /// appended. It allocates a list of the pending timers, and room for the outs.
+    pub fn dump(&self, alloc: Global, outs: &mut Vec<Out>) -> Result<(), OutOfMemory>
+        ensures ok { OnOk result (outs.new.items
+            ≡ outs.old.items ++ map (λ line. Out.Dumped line) (state_lines (saved_of self.now.state))) }
+        ensures err { OnErr result (outs.new.items ≡ outs.old.items) }
+        ensures memory { OnErr result ((vec_capacity outs.old
+            < vec_len outs.old + (length self.now.state.numbers + length self.now.state.pending + 2))
+            ⊎ (0 < length self.now.state.pending)) }
+    {
+        let mut timers = Vec::new(alloc);
+        self.wheel.list_into(&mut timers)?;
+        sort_by_serial(&mut timers);
+        let numbers = &self.numbers[..self.clients as usize];
+        outs.reserve(numbers.len() + timers.len() + 2)?;
+        outs.push_reserved(Out::Dumped(self.head_line()));
+        push_numbers(outs, numbers);
+        push_timers(outs, &timers);
+        outs.push_reserved(Out::Dumped(StateLine::End {
+            pending: timers.len() as u64,
+        }));
+        Ok(())
+    }
+
+    /// The first line of a dump.
+    fn head_line(&self) -> StateLine
+        ensures { result ≡ head_line (saved_of self.now.state) }
+    {
+        let now = self.wheel.now();
+        let next_serial = self.next_serial;
+        if self.is_closed {
+            StateLine::Closed { now, next_serial }
+        } else {
+            StateLine::Open { now, next_serial }
+        }
     }
 
     /// Hands out the next timer that waits, or returns None if none waits. Does not allocate.
@@ -670,6 +752,41 @@ fn take_all<W: Wheel>(wheel: &mut W, timers: &mut Vec<Timer>) -> Result<(), OutO
     wheel.list_into(timers)?;
     wheel.clear();
     Ok(())
+}
+
+/// Sorts timers by serial. Does not allocate.
+fn sort_by_serial(timers: &mut Vec<Timer>)
+    requires { AreDistinct timers.old.items }
+    ensures { timers.new.items ≡ by_serial timers.old.items }
+{
+    timers.sort_unstable_by_key(|t| t.serial);
+}
+
+/// Appends a line for each client's number. Room for them was reserved.
+fn push_numbers(outs: &mut Vec<Out>, numbers: &[u64])
+    requires { vec_len outs.old + length numbers.now ≤ vec_capacity outs.old }
+    ensures items { outs.new.items ≡ outs.old.items ++ map (λ line. Out.Dumped line) (number_lines 0 numbers.now) }
+    ensures len { vec_len outs.new ≡ vec_len outs.old + length numbers.now }
+    ensures capacity { vec_capacity outs.new ≡ vec_capacity outs.old }
+{
+    for (client, next) in numbers.iter().enumerate() {
+        outs.push_reserved(Out::Dumped(StateLine::Number {
+            client: client as u64,
+            next: *next,
+        }));
+    }
+}
+
+/// Appends a line for each timer. Room for them was reserved.
+fn push_timers(outs: &mut Vec<Out>, timers: &[Timer])
+    requires { vec_len outs.old + length timers.now ≤ vec_capacity outs.old }
+    ensures items { outs.new.items ≡ outs.old.items ++ map (λ line. Out.Dumped line) (timer_lines timers.now) }
+    ensures len { vec_len outs.new ≡ vec_len outs.old + length timers.now }
+    ensures capacity { vec_capacity outs.new ≡ vec_capacity outs.old }
+{
+    for timer in timers {
+        outs.push_reserved(Out::Dumped(StateLine::Pending(*timer)));
+    }
 }
 
 /// Counts one timer fewer for this client.

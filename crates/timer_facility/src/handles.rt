@@ -41,6 +41,13 @@ impl Handles {
         }
     }
 
+    /// These handles, which are in order of starting. Does not allocate.
+    pub fn of(list: Vec<Handle>) -> Handles
+        ensures { result.list.items ≡ list.items }
+    {
+        Handles { list }
+    }
+
     /// The handles, in order of starting.
     pub fn as_slice(&self) -> &[Handle]
         ensures { result.now ≡ self.now.list.items }

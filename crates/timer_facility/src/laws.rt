@@ -1,17 +1,22 @@
 //! Lemmas about every run of a facility, whatever the events are and whichever wheel it runs on.
 //! Each of these functions does nothing: its contract is the lemma.
-ghost use Rattle.std.specs.Prelude.{◌≡◌, ◌<◌, ◌≤◌, List, [], ℕ, ◌+◌, length, take, map, true, Some};
+ghost use Rattle.std.specs.Prelude.{◌≡◌, ◌<◌, ◌≤◌, List, [], ◌∷◌, ◌++◌, ℕ, ◌+◌, length, take, map, true, Some, None};
 ghost use Rattle.std.specs.List.{AllByRecursion};
+ghost use Rattle.timer_base.specs.Layout.{Layout};
 ghost use Rattle.timer_base.specs.Order.{AreNumbered};
 ghost use Rattle.timer_base.specs.WakeUps.{IsWakeUp};
-ghost use Rattle.timer_facility.specs.Types.{MAX_CLIENTS, MAX_PENDING, SPARE, Event, Out};
-ghost use Rattle.timer_facility.specs.State.{FacilityState, IsSound, SingleEvent, Asked, Tick, Close, ModelRequest, pending_of};
+ghost use Rattle.timer_facility.specs.Types.{LAST, MAX_CLIENTS, MAX_PENDING, SPARE, Config, Event, Out, Limits, StateLine};
+ghost use Rattle.timer_facility.specs.State.{FacilityState, IsSound, SingleEvent, Asked, Tick, Close, ModelRequest, opened, pending_of};
 ghost use Rattle.timer_facility.specs.Verdict.{Refusal, refusals_of, verdict, closed_refusal};
 ghost use Rattle.timer_facility.specs.Step.{step, refused, refusals_in};
 ghost use Rattle.timer_facility.specs.Run.{PlacedEvent, history, state_after, run, notices, notices_in, bare_outs, bare_state, NamesBySerial, AreSameButForPlaces};
 ghost use Rattle.timer_facility.specs.HandedOver.{AddsAtMostOne, HandsOver};
 ghost use Rattle.timer_facility.specs.Owed.{owed, left_after, accepted_starts, accepted_ticks, others, AreHandedOutOnce, AreAllHandedOut};
 ghost use Rattle.timer_facility.specs.Played.{IsRun};
+ghost use Rattle.timer_facility.specs.Config.{IsInRange};
+ghost use Rattle.timer_facility.specs.Saved.{Saved, saved_of, ReadState, IsReadState, lines_read, state_lines, line_fault};
+ghost use Rattle.timer_facility.specs.Savable.{IsSavable, HaveActionsInRange, AreSaidTimers, IsWithin, read_of};
+ghost use Rattle.timer_facility.specs.Restored.{limits_of, restored, IsConfigured, GoesOnAs};
 ghost use Rattle.timer_facility.specs.Ticked.{ticks};
 
 /// Whatever the events are, after each of them the notices so far are what is owed.
@@ -69,6 +74,45 @@ pub fn players_give_the_same()
         → (bare_outs outs ≡ bare_outs others) × (bare_state after ≡ bare_state end) }
 {}
 
+/// The first state of a facility is sound, and each run leaves a sound state with the same configuration.
+pub fn each_run_leaves_a_sound_state()
+    ensures opened { (config : Config) (last : ℕ) (layout : Layout) → IsInRange config → config.first_tick ≤ last
+        → last ≤ LAST → IsSound (opened config last layout) × IsConfigured config last (opened config last layout) }
+    ensures run { (s after : FacilityState) (events : List Event) (outs : List Out) → IsSound s
+        → IsRun s events outs after → IsSound after }
+    ensures configured { (config : Config) (last : ℕ) (s after : FacilityState) (events : List Event) (outs : List Out)
+        → IsSound s → IsConfigured config last s → IsRun s events outs after → IsConfigured config last after }
+{}
+
+/// The first state of a facility is savable, and each run of events whose actions are at most `LAST` leaves a savable
+/// state. So does a restore, if the request numbers and actions of its timers are. The places make no difference.
+pub fn each_run_leaves_a_savable_state()
+    ensures opened { (config : Config) (last : ℕ) (layout : Layout) → IsInRange config → config.first_tick ≤ last
+        → IsSavable (opened config last layout) }
+    ensures run { (s after : FacilityState) (events : List Event) (outs : List Out) → IsSavable s
+        → HaveActionsInRange events → IsRun s events outs after → IsSavable after }
+    ensures restored { (config : Config) (last : ℕ) (r : ReadState) → IsInRange config → IsReadState r
+        → r.limits ≡ limits_of config last → AreSaidTimers r.saved.timers → IsSavable (restored config last r.saved) }
+    ensures places { (s t : FacilityState) → bare_state s ≡ bare_state t → IsSavable s → IsSavable t }
+{}
+
+/// No line of the dump of a savable state is refused, within limits that are at least those of the facility: after the
+/// lines before it, none of the reasons holds. So what the lines say can be read.
+pub fn no_line_of_a_dump_is_refused()
+    ensures read { (limits : Limits) (s : FacilityState) → IsSound s → IsSavable s → IsWithin limits s
+        → IsReadState (read_of limits s) }
+    ensures none { (limits : Limits) (s : FacilityState) (r : ReadState) (line : StateLine) (rest : List StateLine)
+        → IsSound s → IsSavable s → IsWithin limits s → IsReadState r → r.limits ≡ limits
+        → lines_read r ++ line ∷ rest ≡ state_lines (saved_of s) → line_fault r line ≡ None }
+{}
+
+/// A facility with the state that the lines of another's dump say answers every list of events as that one does, except
+/// for places.
+pub fn a_dump_says_how_to_go_on()
+    ensures { (s t : FacilityState) (config : Config) (last : ℕ) (v : Saved) → IsSound s → IsConfigured config last s
+        → state_lines v ≡ state_lines (saved_of s) → bare_state t ≡ restored config last v → GoesOnAs s t }
+{}
+
 /// A refused event changes nothing, except that a request which is taken uses up its number.
 #[tactic(auto, using(crate::proofs::StepLemmas::step_refused))]
 pub fn a_refusal_changes_at_most_the_number()
@@ -85,11 +129,11 @@ pub fn the_outs_tell_the_verdict()
         → refusals_in (step s event place).outs ≡ refusals_of (verdict s event) }
 {}
 
-/// A closed facility refuses each event as closed.
+/// A closed facility refuses each event as closed, but for a look at its state.
 #[tactic(auto, using(crate::proofs::RefusedLemmas::verdict_closed))]
 pub fn a_closed_facility_refuses_each_event()
     ensures { (s : FacilityState) (event : SingleEvent) → s.is_closed ≡ true
-        → verdict s event ≡ Some (closed_refusal event) }
+        → verdict s event ≡ closed_refusal event }
 {}
 
 /// After the close nothing is handed out, and nothing changes.

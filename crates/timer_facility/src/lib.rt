@@ -16,9 +16,12 @@ mod handles;
 pub mod laws;
 mod player;
 mod request;
+mod restoring;
+mod saved;
 
 pub use config::{Checked, Config, ConfigFault, MAX_CLIENTS, MAX_PENDING};
 pub use event::{Event, Out, PlayStop};
 pub use facility::Facility;
 pub use player::Player;
 pub use request::{Answer, CloseFault, NotTaken, Notice, Reason, Request, TickFault};
+pub use saved::{Limits, SavedState, Stage, StateFault, StateLine};

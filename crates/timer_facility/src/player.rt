@@ -7,13 +7,20 @@ ghost use Rattle.std.specs.Prelude.{◌≡◌, ◌<◌, ◌≤◌, ◌⊎◌, �
 ghost use Rattle.timer_facility.specs.Facility.{event_of_request, model_of, is_for_a_tick, MakesTimer};
 ghost use Rattle.timer_facility.specs.Played.{IsPlayed, MakesStep, AddsRun, most_outs, TakesMemory};
 ghost use Rattle.timer_facility.specs.Handles.{AreRecorded};
-ghost use Rattle.timer_facility.specs.Types.{SPARE};
+ghost use Rattle.timer_facility.specs.State.{FacilityState, IsSound};
+ghost use Rattle.timer_facility.specs.Run.{bare_state};
+ghost use Rattle.timer_facility.specs.Saved.{lines_read, saved_of, state_lines};
+ghost use Rattle.timer_facility.specs.Restored.{IsUnused, limits_of, restored, IsConfigured, GoesOnAs};
+ghost use Rattle.timer_facility.specs.declared.saved.Stage.TheVariants as stages;
+ghost use Rattle.timer_facility.specs.Types.{SPARE, Timer};
 
+use crate::config::Checked;
 use crate::event::{Event, Out, PlayStop};
 use crate::facility::Facility;
 use crate::handing_out::{hand_out, make_room, pass_ticks};
 use crate::handles::Handles;
 use crate::request::{CloseFault, NotTaken, Request};
+use crate::saved::SavedState;
 use std::alloc::Global;
 use std::marker::Model;
 use timer_base::{Handle, OutOfMemory, Wheel};
@@ -52,6 +59,35 @@ impl<W: Wheel + Drop> Player<W> {
             handles: Handles::new(alloc),
             alloc,
         }
+    }
+
+    /// A player whose state is the one that was read from the lines of a dump, over an empty wheel whose clock is at its
+    /// tick. Clients of which the lines say nothing begin at the first number. The only error is out of memory.
+    ///
+    /// If the lines are those of a facility with as many clients, this capacity and this last tick, the player returns
+    /// the same outs for every list of events as that facility would have, except for places.
+    pub fn restore(
+        alloc: Global,
+        checked: Checked,
+        wheel: W,
+        saved: &SavedState,
+    ) -> Result<Player<W>, OutOfMemory>
+        requires whole { saved.now.stage ≡ stages.Whole }
+        requires unused { IsUnused (W.state wheel) }
+        requires now { (W.state wheel).now ≡ saved.now.saved.now }
+        requires limits { saved.now.limits ≡ limits_of checked (W.state wheel).last_tick }
+        requires keeps { (timer : Timer) → W.keeps timer }
+        ensures state { IfOk result (λ player. bare_state player ≡ restored checked (W.state wheel).last_tick saved.now.saved) }
+        ensures goes_on { IfOk result (λ player. (s : FacilityState) → IsSound s
+            → IsConfigured checked (W.state wheel).last_tick s → lines_read saved.now ≡ state_lines (saved_of s)
+            → GoesOnAs s player) }
+    {
+        let (facility, handles) = Facility::restore(alloc, checked, wheel, saved)?;
+        Ok(Player {
+            facility,
+            handles: Handles::of(handles),
+            alloc,
+        })
     }
 
     /// The facility. Nothing waits in it. Does not allocate.
@@ -153,6 +189,7 @@ impl<W: Wheel + Drop> Player<W> {
             Event::Ticks { count } => self.play_ticks(count, outs),
             Event::TicksTo { tick } => self.play_ticks_to(tick, outs),
             Event::Close => self.play_close(outs),
+            Event::Dump => self.play_dump(outs),
         }
     }
 
@@ -370,6 +407,17 @@ impl<W: Wheel + Drop> Player<W> {
         pass_ticks(&mut self.facility, count, outs);
         self.handles.forget(&self.facility);
         Ok(())
+    }
+
+    /// Looks at the state: its outs are the lines of a dump.
+    fn play_dump(&self, outs: &mut Vec<Out>) -> Result<(), OutOfMemory>
+        ensures ok { OnOk result (AddsRun self.now Event.Dump outs.old.items outs.new.items self.now) }
+        ensures outs { OnErr result (outs.new.items ≡ outs.old.items) }
+        ensures memory { OnErr result ((vec_capacity outs.old
+            < vec_len outs.old + (length self.now.numbers + length self.now.pending + 2))
+            ⊎ (0 < length self.now.pending)) }
+    {
+        self.facility.dump(self.alloc, outs)
     }
 
     /// Plays the close. The timers that it returns come after its own out.

@@ -1,10 +1,10 @@
 -- What a crash leaves of each step of an append and of a recovery, and what each step writes.
-use Rattle.std.proofs.Common.{◌≡◌, inl, inr, ℕ, zero, suc, ◌+◌, ◌-◌, ◌<◌, ◌≤◌, ◌^◌, Bool, true, not, ◌==◌, nat_le, List, [], ◌∷◌, ◌++◌, length, get_or, take, drop, refl, sym, ◌∙◌, ap, subst, append_assoc, append-nil, length-append, length-drop, take-append-drop, arith}
+use Rattle.std.proofs.Common.{◌≡◌, ◌⊎◌, inl, inr, ℕ, zero, suc, ◌+◌, ◌-◌, ◌<◌, ◌≤◌, ◌^◌, Bool, true, not, ◌==◌, nat_le, List, [], ◌∷◌, ◌++◌, length, get_or, take, drop, refl, sym, ◌∙◌, ap, subst, append_assoc, append-nil, length-append, length-drop, take-append-drop, arith}
 use Rattle.std.proofs.lemmas.List.{take_at, drop_at, take_all, drop_all, drop_more, drop-drop}
 use Rattle.std.proofs.lemmas.Bool.{cases_eq}
 use Rattle.timer_journal.specs.Device.{overwritten, Torn, Shortened, Only}
 use Rattle.timer_journal.specs.Format.{body_of, blocks, file_of, stated_length, groups_of, tail_of, is_torn_group, is_torn_end, Says}
-use Rattle.timer_journal.specs.Journal.{IsDurable, IsBeforeOrAfter}
+use Rattle.timer_journal.specs.Journal.{IsDurable, IsBeforeOrAfter, IsBeforeOrAnew}
 use Rattle.timer_journal.proofs.Tests.{le_test, eq_fails, both, second}
 use Rattle.timer_journal.proofs.Writing.{AllFit, says_length, length-body, blocks-push, says_end, closed_end, short_end, torn_front}
 
@@ -124,3 +124,12 @@ is_durable seen may_leave is_usable device groups fit is only usable =
 
 pub length-push : (groups : List (List ℕ)) (lines : List ℕ) → length (blocks (groups ++ lines ∷ [])) ≡ length (blocks groups) + length (body_of lines ++ 21 ∷ [])
 length-push groups lines = omega (arith, ap length (blocks-push groups lines []), length-append (blocks (groups ++ lines ∷ [])) [], length-append (blocks groups) ((6 ∷ body_of lines) ++ []), length-append (6 ∷ body_of lines) [], length-append (body_of lines) (21 ∷ []))
+
+-- ---- one group in the place of all
+
+pub alone_says : (lines : List ℕ) → length lines < 2 ^ 64 → Says (lines ∷ []) (file_of (lines ∷ []))
+alone_says lines fits = says_end (lines ∷ []) (21 ∷ []) (fits, tt) refl
+
+pub before_or_anew : (groups : List (List ℕ)) (lines c file : List ℕ) → length lines < 2 ^ 64 → Says groups c ⊎ (c ≡ file) → file ≡ file_of (lines ∷ []) → IsBeforeOrAnew groups lines c
+before_or_anew groups lines c file fits (inl says) is = inl says
+before_or_anew groups lines c file fits (inr whole) is = inr (subst (Says (lines ∷ [])) (sym (whole ∙ is)) (alone_says lines fits))

@@ -2,5 +2,6 @@ mod Tests
 mod Reading
 mod Writing
 mod Crashes
-mod Moments
+pub mod Moments
 mod Past
+mod Steps

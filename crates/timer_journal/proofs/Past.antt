@@ -6,13 +6,14 @@ use Rattle.timer_journal.specs.Device.{overwritten, Torn, Shortened, Passes}
 use Rattle.timer_journal.specs.Memory.{after_changes, outcomes, may_be_left, left_from}
 use Rattle.timer_journal.specs.declared.memory.Change.{Change}
 use Rattle.timer_journal.specs.declared.memory.Memory.{Memory}
-use Rattle.timer_journal.specs.declared.memory.Change.TheVariants.{Written, Shorter, Synced}
+use Rattle.timer_journal.specs.declared.memory.Change.TheVariants.{Written, Shorter, Synced, Replaced}
 
 pub after_push : (file : List ℕ) (changes : List Change) (change : Change) → after_changes file (changes ++ change ∷ []) ≡ after_changes (after_changes file changes) (change ∷ [])
 after_push file [] change = refl
 after_push file (Written at bytes ∷ changes) change = after_push (overwritten file at bytes.items) changes change
 after_push file (Shorter len ∷ changes) change = after_push (take len file) changes change
 after_push file (Synced ∷ changes) change = after_push file changes change
+after_push file (Replaced bytes ∷ changes) change = after_push bytes.items changes change
 
 -- one more change tears what could be left before
 outcomes_push : (file : List ℕ) (before : List ℕ → Type 0) (changes : List Change) (change : Change) (c : List ℕ) → outcomes file before (changes ++ change ∷ []) c
@@ -21,6 +22,7 @@ outcomes_push file before [] change c left = left
 outcomes_push file before (Written at bytes ∷ changes) change c left = outcomes_push (overwritten file at bytes.items) (λ e. (d : List ℕ) × before d × Torn at (length bytes.items) d e) changes change c left
 outcomes_push file before (Shorter len ∷ changes) change c left = outcomes_push (take len file) (λ e. (d : List ℕ) × before d × Shortened len d e) changes change c left
 outcomes_push file before (Synced ∷ changes) change c left = outcomes_push file (λ e. before e × (e ≡ file)) changes change c left
+outcomes_push file before (Replaced bytes ∷ changes) change c left = outcomes_push bytes.items (λ e. e ≡ bytes.items) changes change c left
 
 pub torn_push : (first : List ℕ) (changes : List Change) (change : Change) (c : List ℕ) → may_be_left first (changes ++ change ∷ []) c
     → outcomes (after_changes first changes) (may_be_left first changes) (change ∷ []) c
@@ -60,6 +62,7 @@ after_one : (file : List ℕ) (change : Change) (changes : List Change) → afte
 after_one file (Written at bytes) changes = refl
 after_one file (Shorter len) changes = refl
 after_one file Synced changes = refl
+after_one file (Replaced bytes) changes = refl
 
 pub after_next : (file new : List ℕ) (changes : List Change) (i : ℕ) (change : Change) → i < length changes → change ≡ get_or changes i change → new ≡ after_changes file (change ∷ [])
     → after_changes new (drop (i + 1) changes) ≡ after_changes file (drop i changes)

@@ -78,6 +78,12 @@ pub record Says (groups : List (List ℕ)) (file : List ℕ) : Type 0 where
   pub whole : groups_of file ≡ groups
   pub end : is_torn_end (tail_of file) ≡ true
 
+-- The first of two bytes or more is no gate. So the file has no group, and no journal that has begun ever had it.
+abbrev pub is_foreign : List ℕ → Bool
+is_foreign [] = false
+is_foreign (gate ∷ []) = false
+is_foreign (gate ∷ byte ∷ bytes) = not (gate == 6) && not (gate == 21)
+
 -- no crash leaves what is behind its groups
 abbrev pub IsDamaged : List ℕ → Type 0
 IsDamaged file = is_torn_end (tail_of file) ≡ false

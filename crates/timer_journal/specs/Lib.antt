@@ -2,3 +2,4 @@ pub mod Device
 pub mod Format
 pub mod Journal
 pub mod Memory
+pub mod Host

@@ -1,10 +1,11 @@
 -- What a file in memory holds, and what a crash may leave of it: its changes are played, and those since the last sync torn.
+-- A replacement is there whole or not at all.
 use Rattle.std.specs.Prelude.{ℕ, ◌≤◌, ◌≡◌, List, [], ◌∷◌, length, take}
 use Rattle.std.proofs.Common.{sym, subst, arith}
 use Rattle.std.proofs.lemmas.List.{take_all}
 use Rattle.timer_journal.specs.Device.{overwritten, Torn, Shortened}
 use Rattle.timer_journal.specs.declared.memory.Change.{Change}
-use Rattle.timer_journal.specs.declared.memory.Change.TheVariants.{Written, Shorter, Synced}
+use Rattle.timer_journal.specs.declared.memory.Change.TheVariants.{Written, Shorter, Synced, Replaced}
 
 -- a file after these changes
 abbrev pub after_changes : List ℕ → List Change → List ℕ
@@ -12,6 +13,7 @@ after_changes file [] = file
 after_changes file (Written at bytes ∷ changes) = after_changes (overwritten file at bytes.items) changes
 after_changes file (Shorter len ∷ changes) = after_changes (take len file) changes
 after_changes file (Synced ∷ changes) = after_changes file changes
+after_changes file (Replaced bytes ∷ changes) = after_changes bytes.items changes
 
 -- what a crash after them may leave, of a file and what one could leave of it before
 abbrev pub outcomes : List ℕ → (List ℕ → Type 0) → List Change → List ℕ → Type 0
@@ -19,6 +21,7 @@ outcomes file before [] c = before c
 outcomes file before (Written at bytes ∷ changes) c = outcomes (overwritten file at bytes.items) (λ e. (d : List ℕ) × before d × Torn at (length bytes.items) d e) changes c
 outcomes file before (Shorter len ∷ changes) c = outcomes (take len file) (λ e. (d : List ℕ) × before d × Shortened len d e) changes c
 outcomes file before (Synced ∷ changes) c = outcomes file (λ e. before e × (e ≡ file)) changes c
+outcomes file before (Replaced bytes ∷ changes) c = outcomes bytes.items (λ e. e ≡ bytes.items) changes c
 
 -- the same, of a file that was on the disk at first
 abbrev pub may_be_left : List ℕ → List Change → List ℕ → Type 0

@@ -1,5 +1,5 @@
 //! A file as the journal sees it: what a read returns, and what a crash may leave.
-ghost use Rattle.std.specs.Prelude.{◌≡◌, ◌≤◌, ℕ, Bool, true, List, length, take, is_ok, IsErrOf, IfOk, OnOk};
+ghost use Rattle.std.specs.Prelude.{◌≡◌, ◌≤◌, ◌⊎◌, ℕ, Bool, true, List, length, take, is_ok, IsErrOf, IfOk, OnOk};
 ghost use Rattle.timer_journal.specs.Device.{overwritten, Torn, Shortened, Follows, Only, Passes, HasCause};
 
 use crate::fault::DeviceFault;
@@ -23,7 +23,7 @@ pub trait Device {
     /// How often the disk has failed.
     ghost faults: { Self → ℕ };
 
-    /// No sync has failed. After one has, what was written may be lost without a further error.
+    /// No sync and no replacement has failed. After one has, what was written may be lost without a further error.
     ghost is_usable: { Self → Bool };
 
     /// All the bytes.
@@ -62,6 +62,17 @@ pub trait Device {
         ensures durable { OnOk result (Only (seen self.old) (may_leave self.new)) }
         ensures same { seen self.new ≡ seen self.old }
         ensures crash { (c : List ℕ) → may_leave self.new c → may_leave self.old c }
+        ensures usable { is_usable self.new ≡ is_ok result }
+        ensures time { Passes moment left_since (may_leave self.new) self.old self.new }
+        ensures cause { HasCause faults self.old self.new (IsErrOf result) };
+
+    /// Puts these bytes in the place of the whole file. A crash at any moment leaves what it might have left before,
+    /// or exactly these bytes, and after it these bytes alone. One that fails is the last call.
+    fn replace(&mut self, bytes: &[u8]) -> Result<(), DeviceFault>
+        requires { is_usable self.old ≡ true }
+        ensures replaced { OnOk result (seen self.new ≡ bytes.now) }
+        ensures durable { OnOk result (Only bytes.now (may_leave self.new)) }
+        ensures crash { (c : List ℕ) → may_leave self.new c → may_leave self.old c ⊎ (c ≡ bytes.now) }
         ensures usable { is_usable self.new ≡ is_ok result }
         ensures time { Passes moment left_since (may_leave self.new) self.old self.new }
         ensures cause { HasCause faults self.old self.new (IsErrOf result) };

@@ -4,15 +4,19 @@ ghost use Rattle.timer_journal.specs.declared.fault.DeviceFault.TheVariants.{Out
 ghost use Rattle.timer_journal.specs.declared.fault.JournalFault.TheVariants as journals;
 
 use std::alloc::{AllocError, AllocFailed};
+use thiserror::Error;
 
 /// Why a call on a device fails.
-#[derive(Clone, Copy, Debug, PartialEq, Eq)]
+#[derive(Clone, Copy, Debug, PartialEq, Eq, Error)]
 pub enum DeviceFault {
     /// An allocation failed.
+    #[error("out of memory")]
     OutOfMemory,
-    /// The disk is full.
+    /// The disk is full, or the file may not grow.
+    #[error("no space left on the device")]
     Full,
     /// The disk failed.
+    #[error("a call of the disk failed")]
     Failed,
 }
 
@@ -33,15 +37,22 @@ impl<T: Drop> From<AllocFailed<T>> for DeviceFault {
 }
 
 /// Why a journal is not opened, or takes no lines.
-#[derive(Clone, Copy, Debug, PartialEq, Eq)]
+#[derive(Clone, Copy, Debug, PartialEq, Eq, Error)]
 pub enum JournalFault {
-    /// An append has failed before.
+    /// A call on the journal has failed before.
+    #[error("failed before")]
     Dead,
     /// The file would be too long.
+    #[error("too long")]
     TooLong,
+    /// The file was never a journal.
+    #[error("no journal")]
+    NoJournal,
     /// No crash leaves what is at this byte of the file.
+    #[error("damaged at byte {at}")]
     Damaged { at: usize },
     /// A call on the device failed.
+    #[error("{0}")]
     Device(DeviceFault),
 }
 

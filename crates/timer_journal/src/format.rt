@@ -9,7 +9,7 @@
 ghost use Rattle.std.specs.Prelude.{◌≡◌, ◌≤◌, ◌+◌, ◌++◌, ◌∷◌, [], length, take, drop, true, false, IfOk, Some, None, MatchOption};
 ghost use Rattle.std.specs.Int.{w64, from_be_bytes};
 ghost use Rattle.std.specs.List.{concat};
-ghost use Rattle.timer_journal.specs.Format.{checksum as checksum_of, blocks, body_of, first_group as group_at, is_whole, stated_length, stated_lines, groups_of, tail_of, is_torn_end as may_be_torn};
+ghost use Rattle.timer_journal.specs.Format.{checksum as checksum_of, checksum_from, blocks, file_of, body_of, first_group as group_at, is_whole, stated_length, stated_lines, groups_of, tail_of, is_torn_end as may_be_torn, is_foreign as is_foreign_file};
 
 use std::alloc::{AllocError, Global};
 
@@ -22,15 +22,44 @@ const HEAD: usize = 16;
 
 const FACTOR: u64 = 1_099_511_628_211;
 
-/// Any byte that is changed changes it.
+/// The checksum goes on with a byte.
+#[inline(always)]
+fn with_byte(sum: u64, byte: u8) -> u64
+    ensures { result ≡ checksum_from sum (byte ∷ []) }
+{
+    sum.wrapping_add(u64::from(byte)).wrapping_mul(FACTOR)
+}
+
+/// The checksum goes on with four bytes.
+#[inline(always)]
+fn with_four(sum: u64, a: u8, b: u8, c: u8, d: u8) -> u64
+    ensures { result ≡ checksum_from sum (a ∷ b ∷ c ∷ d ∷ []) }
+{
+    with_byte(with_byte(with_byte(with_byte(sum, a), b), c), d)
+}
+
+/// The checksum goes on with these bytes.
+fn checksum_on(start: u64, bytes: &[u8]) -> u64
+    ensures { result ≡ checksum_from start bytes.now }
+{
+    let mut sum = start;
+    for byte in bytes {
+        sum = with_byte(sum, *byte);
+    }
+    sum
+}
+
+/// Any byte that is changed changes it. Eight bytes at a time take half the steps.
 fn checksum(bytes: &[u8]) -> u64
     ensures { result ≡ checksum_of bytes.now }
 {
     let mut sum = 1u64;
-    for byte in bytes {
-        sum = sum.wrapping_add(u64::from(*byte)).wrapping_mul(FACTOR);
+    let mut rest = bytes;
+    while let [a, b, c, d, e, f, g, h, behind @ ..] = rest {
+        sum = with_four(with_four(sum, *a, *b, *c, *d), *e, *f, *g, *h);
+        rest = behind;
     }
-    sum
+    checksum_on(sum, rest)
 }
 
 /// The group behind its gate, and the closed gate behind it.
@@ -42,6 +71,15 @@ pub fn staged(alloc: Global, lines: &[u8]) -> Result<Vec<u8>, AllocError>
     bytes.extend_from_slice(&checksum(lines).to_be_bytes())?;
     bytes.extend_from_slice(lines)?;
     bytes.push(CLOSED)?;
+    Ok(bytes)
+}
+
+/// A file of one group.
+pub fn alone(alloc: Global, lines: &[u8]) -> Result<Vec<u8>, AllocError>
+    ensures { IfOk result (λ bytes. bytes.items ≡ file_of (lines.now ∷ [])) }
+{
+    let mut bytes = staged(alloc, lines)?;
+    bytes.insert(0, OPEN)?;
     Ok(bytes)
 }
 
@@ -99,6 +137,13 @@ pub fn read_groups(alloc: Global, bytes: &[u8]) -> Result<(Vec<u8>, &[u8]), Allo
         rest = behind;
     }
     Ok((lines, rest))
+}
+
+/// Whether the file was never a journal: a text begins with no gate.
+pub fn is_foreign(file: &[u8]) -> bool
+    ensures { result ≡ is_foreign_file file.now }
+{
+    !matches!(file, [] | [_] | [OPEN, ..] | [CLOSED, ..])
 }
 
 /// Whether a crash may have left this behind the groups. If not, the file is damaged.

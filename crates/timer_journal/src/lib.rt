@@ -9,12 +9,16 @@ mod device;
 mod durable;
 mod fault;
 mod format;
+mod host;
 mod journal;
 mod memory;
+mod place;
+mod record;
 mod recovery;
 
 pub use device::Device;
 pub use fault::{DeviceFault, JournalFault};
+pub use host::{HostFile, OpenFault, open_host};
 pub use journal::Journal;
 pub use memory::{Change, Memory};
 pub use recovery::{Recovered, recover};

@@ -14,6 +14,7 @@ pub enum Change {
     Written { at: usize, bytes: Vec<u8> },
     Shorter { len: usize },
     Synced,
+    Replaced { bytes: Vec<u8> },
 }
 
 #[derive(Drop)]
@@ -68,6 +69,7 @@ fn changed(alloc: Global, file: Vec<u8>, change: &Change) -> Result<Vec<u8>, All
             file[..len].to_vec(alloc)
         }
         Change::Synced => Ok(file),
+        Change::Replaced { bytes } => bytes.to_vec(alloc),
     }
 }
 
@@ -118,6 +120,14 @@ impl Device for Memory {
         // An error says that the file is not usable, whatever its cause.
         self.is_usable = false;
         self.changes.push(Change::Synced)?;
+        self.is_usable = true;
+        Ok(())
+    }
+
+    fn replace(&mut self, bytes: &[u8]) -> Result<(), DeviceFault> {
+        self.is_usable = false;
+        let bytes = bytes.to_vec(*self.first.allocator())?;
+        self.changes.push(Change::Replaced { bytes })?;
         self.is_usable = true;
         Ok(())
     }

@@ -1,1 +1,2 @@
+pub mod KeptStreamLemmas
 pub mod OptionLemmas

@@ -1,5 +1,5 @@
 -- Which subcommand the arguments name, with which options, and whether they ask for help or the version.
-use Rattle.std.specs.Prelude.{◌≡◌, ◌⊎◌, ℕ, Bool, true, false, nat_eq, List, [], ◌∷◌, Option, None, Some, IfSome, codes}
+use Rattle.std.specs.Prelude.{◌≡◌, ◌⊎◌, ℕ, Bool, true, false, nat_eq, List, [], ◌∷◌, ◌++◌, Option, None, Some, IfSome, Any, codes}
 use Rattle.std.specs.List.{starts_with}
 use Rattle.std.specs.Str.Parse.{digits_value, without_leading_plus}
 use Rattle.clap.specs.Words.{first_value, one_text}
@@ -100,3 +100,20 @@ HasOptions found (Run (Show shows) options) = AreRunOptions found options × Are
 HasOptions found (Threads options) = IsNumberOf found (codes "clients") options.clients
     × IsNumberOf found (codes "timers") options.timers
 HasOptions found Check = Unit {0}
+
+-- ---- the files
+
+-- whether wake-ups are wanted
+abbrev pub has_wakeups : Subcommand → Bool
+has_wakeups (Run (Serve on_bad wakeups) options) = wakeups
+has_wakeups subcommand = false
+
+-- this is an argument, or the value of one that begins with this name of an option and an equals sign
+abbrev pub IsValueAmong : {S : Type 0} → (S → List ℕ) → List S → (front value : List ℕ) → Type 0
+IsValueAmong text arguments front value = (Any (λ argument. text argument ≡ value) arguments)
+    ⊎ (Any (λ argument. text argument ≡ front ++ value) arguments)
+
+-- the subcommand has a file with this name for the option that begins so: it is `serve`, and the arguments have the name
+abbrev pub IsPathOf : {S : Type 0} → (S → List ℕ) → List S → (front name : List ℕ) → Subcommand → Type 0
+IsPathOf text arguments front name subcommand =
+    (subcommand_name subcommand ≡ codes "serve") × IsValueAmong text arguments front name

@@ -13,10 +13,10 @@
 //! The file `-` is standard input. Options without a subcommand need a file.
 //!
 //! `clap` reads the arguments, writes the help, and says why arguments are refused.
-ghost use Rattle.std.specs.Prelude.{◌≡◌, None, false, IfSome, IfOk, IfErr, IsTrue, Any, codes, option_map};
+ghost use Rattle.std.specs.Prelude.{◌≡◌, ◌≢◌, ◌++◌, None, Some, false, IfSome, IfOk, IfErr, IsTrue, Any, codes, option_map};
 ghost use Rattle.clap.specs.Words.{kind_of, found_of, one_text, first_value};
 ghost use Rattle.timer_commands.specs.Options.{name_of};
-ghost use Rattle.timer_program.specs.Arguments.{IsNamedBy, IsSubcommandName, subcommand_name, IsShown, AsksForText, IsNumberOf, IsFlagGiven, reports, AreRunOptions, AreShowsOptions, HasOptions};
+ghost use Rattle.timer_program.specs.Arguments.{IsNamedBy, IsSubcommandName, subcommand_name, IsShown, AsksForText, IsNumberOf, IsFlagGiven, reports, AreRunOptions, AreShowsOptions, HasOptions, IsValueAmong, IsPathOf};
 
 use crate::help::{
     ABOUT, CHECK_ABOUT, CHECK_USAGE, CHECKS, FILE, NAME, PLACEMENTS, PLAY_ABOUT, PLAY_USAGE,
@@ -41,11 +41,20 @@ pub enum Subcommand {
     Check,
 }
 
-/// A subcommand, and the name of the file that it is to read, if one is given.
+/// A subcommand, and the names of its files.
 #[derive(Clone, Copy)]
 pub struct Call<'a> {
     pub subcommand: Subcommand,
+    /// The file that it is to read, if one is given.
     pub file: Option<&'a str>,
+    /// The file with the state that `serve` is to begin with, if one is given.
+    pub state: Option<&'a str>,
+    /// The journal of `serve`, if one is given.
+    pub journal: Option<&'a str>,
+    /// How many answers the caller has seen of it, if it says so.
+    pub seen: Option<u64>,
+    /// After how many lines the journal begins anew, if it does.
+    pub snapshot: Option<u64>,
 }
 
 /// The names of the schemes.
@@ -104,6 +113,25 @@ fn choice<'a>(
         .help(help)
 }
 
+/// An option that takes the name of a file, and may be left out.
+fn path<'a>(alloc: Global, name: &'a str, value_name: &'a str, help: &'a str) -> Arg<'a> {
+    Arg::new(alloc, name)
+        .long(name)
+        .value_name(value_name)
+        .help(help)
+}
+
+/// An option of a journal that takes a number in a range, and may be left out. Without a journal it is refused.
+fn of_journal<'a>(
+    alloc: Global,
+    name: &'a str,
+    value_name: &'a str,
+    range: (i64, i64),
+    help: &'a str,
+) -> Result<Arg<'a>, AllocError> {
+    optional(alloc, name, value_name, range, help).requires_arg("journal")
+}
+
 /// The file that a subcommand reads. It may be left out.
 fn file<'a>(alloc: Global) -> Arg<'a> {
     Arg::new(alloc, "file").value_name("FILE").help(FILE)
@@ -156,12 +184,26 @@ fn flag<'a>(alloc: Global, name: &'a str, help: &'a str) -> Arg<'a> {
 fn serve_command<'a>(alloc: Global) -> Result<Command<'a>, AllocError> {
     // made by tools/facts: texts of options of serve
     let keep_going = "Report each bad line on standard error, as `check` does, and go on";
-    let wakeups = "After the answers to each line, print when to wake up next";
+    let wakeups = "After the answers of each read, print when to wake up next";
+    let state = "Begin with the state in this file, the lines that answer `state`, at its tick";
+    let journal = "Keep the lines in this file before they are answered, and go on from it";
+    let seen = "Of a journal, print again the answers after so many";
+    let snapshot = "Begin the journal anew with the state after so many lines";
     // by hand
     playing_command(alloc, "serve", SERVE_USAGE, SERVE_ABOUT, STREAMS)?
         // made by tools/facts: arguments of serve
         .arg(flag(alloc, "keep-going", keep_going))?
-        .arg(flag(alloc, "wakeups", wakeups))
+        .arg(flag(alloc, "wakeups", wakeups))?
+        .arg(path(alloc, "state", "FILE", state).conflicts_with("first-tick")?)?
+        .arg(path(alloc, "journal", "FILE", journal))?
+        .arg(of_journal(alloc, "seen", "ANSWERS", (0, 1152921504606846975), seen)?)?
+        .arg(of_journal(
+            alloc,
+            "snapshot",
+            "EVERY",
+            (1, 1152921504606846975),
+            snapshot,
+        )?)
 }
 
 /// The subcommand `show` with the options of `play` and its own.
@@ -342,6 +384,26 @@ fn file_of<'a>(options: &ArgMatches<'a>) -> Option<&'a str>
     options.get_str("file")
 }
 
+/// The file of an option that only `serve` has, if one is found.
+fn path_of<'a>(name: &str, option: &str, options: &ArgMatches<'a>) -> Option<&'a str>
+    ensures serve { IfSome result (λ _. name.now ≡ codes "serve") }
+{
+    if name == "serve" {
+        options.get_str(option)
+    } else {
+        None
+    }
+}
+
+/// The number of an option that only `serve` has, if one is found.
+fn number_of_serve(name: &str, option: &str, options: &ArgMatches) -> Option<u64> {
+    if name == "serve" {
+        number_of(options, option)
+    } else {
+        None
+    }
+}
+
 /// The argument with this text.
 fn argument_of<'a, S: AsStr>(arguments: &'a [S], text: &str) -> Option<&'a str>
     ensures same { IfSome result (λ argument. argument.now ≡ text.now) }
@@ -355,7 +417,61 @@ fn argument_of<'a, S: AsStr>(arguments: &'a [S], text: &str) -> Option<&'a str>
     None
 }
 
-/// The call of some words, of which the first is this name of a subcommand. The file is one of the arguments.
+/// The value of an argument that begins with this name of an option and an equals sign.
+fn joined_value_of<'a, S: AsStr>(arguments: &'a [S], front: &str, text: &str) -> Option<&'a str>
+    ensures same { IfSome result (λ value. value.now ≡ text.now) }
+    ensures found { IfSome result (λ value. Any (λ argument. S.text argument ≡ front.now ++ value.now) arguments.now) }
+{
+    for argument in arguments {
+        if let Some(value) = argument.as_str().strip_prefix(front)
+            && value == text
+        {
+            return Some(value);
+        }
+    }
+    None
+}
+
+/// The name of the file that was found, as one of the arguments.
+fn file_among<'a, S: AsStr>(
+    alloc: Global,
+    arguments: &'a [S],
+    found: Option<&str>,
+) -> Result<Option<&'a str>, Error>
+    ensures { IfOk result (λ file. IfSome file (λ name. Any (λ argument. S.text argument ≡ name.now) arguments.now)) }
+{
+    let Some(text) = found else {
+        return Ok(None);
+    };
+    match argument_of(arguments, text) {
+        Some(name) => Ok(Some(name)),
+        None => Err(incomplete(alloc)?),
+    }
+}
+
+/// The name of the file that was found for an option, as one of the arguments, or joined to the option.
+fn path_among<'a, S: AsStr>(
+    alloc: Global,
+    arguments: &'a [S],
+    front: &str,
+    found: Option<&str>,
+) -> Result<Option<&'a str>, Error>
+    ensures among { IfOk result (λ path. IfSome path (λ name. IsValueAmong S.text arguments.now front.now name.now)) }
+    ensures given { IfOk result (λ path. IfSome path (λ _. found.entry ≢ None)) }
+{
+    let Some(text) = found else {
+        return Ok(None);
+    };
+    if let Some(name) = argument_of(arguments, text) {
+        return Ok(Some(name));
+    }
+    match joined_value_of(arguments, front, text) {
+        Some(name) => Ok(Some(name)),
+        None => Err(incomplete(alloc)?),
+    }
+}
+
+/// The call of some words, of which the first is this name of a subcommand. The files are named by the arguments.
 fn parsed<'a, W: AsStr, S: AsStr>(
     alloc: Global,
     name: &str,
@@ -365,35 +481,54 @@ fn parsed<'a, W: AsStr, S: AsStr>(
     ensures name { IfOk result (λ call. name.now ≡ subcommand_name call.subcommand) }
     ensures known { IfOk result (λ _. IsSubcommandName name.now) }
     ensures file { IfOk result (λ call. IfSome call.file (λ name. Any (λ argument. S.text argument ≡ name.now) arguments.now)) }
+    ensures state { IfOk result (λ call. IfSome call.state (λ name. IsPathOf S.text arguments.now (codes "--state=") name.now call.subcommand)) }
+    ensures journal { IfOk result (λ call. IfSome call.journal (λ name. IsPathOf S.text arguments.now (codes "--journal=") name.now call.subcommand)) }
 {
     let matches = program(alloc)?.try_get_matches_from(words)?;
     if let Some((_, options)) = matches.subcommand()
         && let Some(subcommand) = subcommand_of(name, options)
     {
-        let Some(file) = file_of(options) else {
-            return Ok(Call {
-                subcommand,
-                file: None,
-            });
-        };
-        if let Some(file) = argument_of(arguments, file) {
-            return Ok(Call {
-                subcommand,
-                file: Some(file),
-            });
-        }
+        let file = file_among(alloc, arguments, file_of(options))?;
+        let state = path_among(
+            alloc,
+            arguments,
+            "--state=",
+            path_of(name, "state", options),
+        )?;
+        let journal = path_among(
+            alloc,
+            arguments,
+            "--journal=",
+            path_of(name, "journal", options),
+        )?;
+        let seen = number_of_serve(name, "seen", options);
+        let snapshot = number_of_serve(name, "snapshot", options);
+        return Ok(Call {
+            subcommand,
+            file,
+            state,
+            journal,
+            seen,
+            snapshot,
+        });
     }
-    // An option without a value is refused as any other mistake in the arguments.
-    Err(refusal(
+    Err(incomplete(alloc)?)
+}
+
+/// A refusal of arguments of which an option has no value, as of any other mistake in them.
+fn incomplete(alloc: Global) -> Result<Error, AllocError> {
+    refusal(
         alloc,
         "a subcommand with a value for each of its options is required",
-    )?)
+    )
 }
 
 /// The call of arguments that begin with the name of no subcommand: of `play`, with a file.
 fn parsed_as_play<'a, S: AsStr>(alloc: Global, arguments: &'a [S]) -> Result<Call<'a>, Error>
     ensures name { IfOk result (λ call. codes "play" ≡ subcommand_name call.subcommand) }
     ensures file { IfOk result (λ call. IfSome call.file (λ name. Any (λ argument. S.text argument ≡ name.now) arguments.now)) }
+    ensures state { IfOk result (λ call. IfSome call.state (λ name. IsPathOf S.text arguments.now (codes "--state=") name.now call.subcommand)) }
+    ensures journal { IfOk result (λ call. IfSome call.journal (λ name. IsPathOf S.text arguments.now (codes "--journal=") name.now call.subcommand)) }
 {
     let mut words = Vec::new(alloc);
     words.push("play")?;
@@ -460,6 +595,8 @@ fn any_of_text<S: AsStr>(arguments: &[S]) -> bool
 pub fn read_arguments<'a, S: AsStr>(alloc: Global, arguments: &'a [S]) -> Result<Call<'a>, Error>
     ensures call { IfOk result (λ call. IsNamedBy S.text arguments.now (subcommand_name call.subcommand)) }
     ensures file { IfOk result (λ call. IfSome call.file (λ name. Any (λ argument. S.text argument ≡ name.now) arguments.now)) }
+    ensures state { IfOk result (λ call. IfSome call.state (λ name. IsPathOf S.text arguments.now (codes "--state=") name.now call.subcommand)) }
+    ensures journal { IfOk result (λ call. IfSome call.journal (λ name. IsPathOf S.text arguments.now (codes "--journal=") name.now call.subcommand)) }
     ensures text { IfErr result (λ error. IsShown (kind_of error)
         → Any (λ argument. AsksForText (S.text argument)) arguments.now) }
 {
@@ -477,6 +614,8 @@ pub fn read_arguments<'a, S: AsStr>(alloc: Global, arguments: &'a [S]) -> Result
 fn called<'a, S: AsStr>(alloc: Global, arguments: &'a [S]) -> Result<Call<'a>, Error>
     ensures call { IfOk result (λ call. IsNamedBy S.text arguments.now (subcommand_name call.subcommand)) }
     ensures file { IfOk result (λ call. IfSome call.file (λ name. Any (λ argument. S.text argument ≡ name.now) arguments.now)) }
+    ensures state { IfOk result (λ call. IfSome call.state (λ name. IsPathOf S.text arguments.now (codes "--state=") name.now call.subcommand)) }
+    ensures journal { IfOk result (λ call. IfSome call.journal (λ name. IsPathOf S.text arguments.now (codes "--journal=") name.now call.subcommand)) }
 {
     let Some(first) = arguments.first() else {
         return parsed(alloc, "play", PLAY.as_slice(), arguments);

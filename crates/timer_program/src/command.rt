@@ -1,78 +1,168 @@
 //! The whole program, over its arguments, its input and its outputs.
-ghost use Rattle.std.specs.Prelude.{◌≡◌, ◌≢◌, false, option_map, codes};
+ghost use Rattle.std.specs.Prelude.{◌≡◌, ◌≢◌, false, Some, option_map, codes};
 ghost use Rattle.clap.specs.Values.{kind_of};
 ghost use Rattle.timer_commands.specs.declared.ending.Ending.{Ending};
 ghost use Rattle.timer_commands.specs.Endings.{status_of};
-ghost use Rattle.timer_program.specs.Command.{HasCalled, HasRunFile, HasRunCall, HasRunRead, HasNotPlayed, HasRunProgram, IsToOpen, standard_name};
+ghost use Rattle.timer_program.specs.Command.{Fits, HasCalled, HasRunFile, HasRunInput, HasRunFromState, HasRunUnkept, HasRunCall, HasRunRead, HasNotPlayed, HasRunProgram, options_of_stream, journal_of, standard_name};
+ghost use Rattle.timer_journal.specs.Journal.{text_of};
 ghost use Rattle.timer_program.specs.Files.{remaining_of};
 ghost use Rattle.timer_script.specs.Watched.{has_failed};
 
 use crate::arguments::{Call, Subcommand, read_arguments};
-use crate::files::{Opener, Source, reason_to_refuse};
+use crate::files::{Journals, Opener, Source, file_to_open, reason_to_refuse};
+use crate::kept_stream::run_kept;
 use crate::reports::{end_call, write_located};
+use crate::state_file::{read_state, report_no_state};
 use clap::Error;
 use clap::error::ErrorKind;
 use std::alloc::Global;
 use std::convert::AsStr;
 use std::io::{Read, Seek, Write};
 use std::thread::Threads;
-use timer_commands::{Ending, Spot, Verb, check_script, report, run_clients, run_verb};
-use timer_script::{ScriptFault, Streams, Watched, write_text};
+use timer_commands::{Ending, RunOptions, Spot, Verb, check_script, report, run_clients, run_verb};
+use timer_durable::JournaledPeer;
+use timer_facility::SavedState;
+use timer_journal::Device;
+use timer_script::{Peer, ScriptFault, Streams, Watched, write_text};
 
 /// Runs the program on the arguments after its name, and returns the exit status of its `Ending`.
 ///
-/// If the arguments name a file, it is opened, and read in place of what the streams read. If the arguments are refused,
-/// or the file can't be opened, `faults` gets the reason, and the streams are untouched. An error in writing to
+/// If the arguments name a file, it is opened, and read in place of what the streams read. If they name one with a
+/// state, that is read before. If the arguments are refused, a file can't be opened, or no state that fits is read,
+/// `faults` gets the reason, and the streams are untouched. An error in writing to
 /// `faults` is ignored. Neither the reader nor a writer may have failed before. Waits if clients run in threads.
 pub fn command<
-    T: AllocGlobal + Threads + Opener<O>,
+    T: AllocGlobal + Threads + Opener<O> + Journals<J>,
     S: AsStr,
     R: Read + Drop,
     O: Read + Seek + Drop,
+    J: Device + Drop,
     W: Write,
     F: Write,
->(rt: &T, arguments: &[S], streams: &mut Streams<Source<R, O>, W>, faults: &mut Watched<F>) -> u8
-    requires reader_good { has_failed streams.old.reader ≡ false }
-    requires writer_good { has_failed streams.old.writer ≡ false }
+>(
+    rt: &T,
+    arguments: &[S],
+    streams: Streams<Source<R, O>, W>,
+    faults: &mut Watched<F>,
+) -> (u8, Streams<Source<R, O>, W>)
+    requires reader_good { has_failed streams.reader ≡ false }
+    requires writer_good { has_failed streams.writer ≡ false }
     requires faults_good { has_failed faults.old ≡ false }
-    ensures { (ending : Ending) × (result ≡ status_of ending) × HasRunProgram S.text arguments.now T.is_opened
+    ensures { (ending : Ending) × (result.0 ≡ status_of ending) × HasRunProgram S.text arguments.now
+        (record { is_file = T.is_opened; is_journal = T.is_journal; seen = J.seen })
+        (record {
+          state = ⟦<Streams<Source<R, O>, W> as Peer>⟧.state;
+          reports = F.contents;
+          over = ⟦<JournaledPeer<Streams<Source<R, O>, W>, J> as Peer>⟧.state;
+          inner = λ j. j.peer;
+          text = λ j. text_of (J.seen j.journal.device);
+          fault = λ j. j.fault;
+        })
         (record { remaining = remaining_of R.remaining O.remaining; contents = W.contents; reports = F.contents })
-        (record { streams = streams.old; faults = faults.old })
-        (record { streams = streams.new; faults = faults.new }) ending }
+        (record { streams = streams; faults = faults.old })
+        (record { streams = result.1; faults = faults.new }) ending }
 {
     let read = read_arguments(rt.alloc(), arguments);
-    run_read(rt, read, streams, faults).status()
+    let (ending, streams) = run_read(rt, read, streams, faults);
+    (ending.status(), streams)
 }
 
 /// Runs the call that the arguments were read as, or reports the error.
 fn run_read<
-    T: AllocGlobal + Threads + Opener<O>,
+    T: AllocGlobal + Threads + Opener<O> + Journals<J>,
     R: Read + Drop,
     O: Read + Seek + Drop,
+    J: Device + Drop,
     W: Write,
     F: Write,
 >(
     rt: &T,
     read: Result<Call<'_>, Error>,
-    streams: &mut Streams<Source<R, O>, W>,
+    streams: Streams<Source<R, O>, W>,
     faults: &mut Watched<F>,
-) -> Ending
-    requires reader_good { has_failed streams.old.reader ≡ false }
-    requires writer_good { has_failed streams.old.writer ≡ false }
+) -> (Ending, Streams<Source<R, O>, W>)
+    requires reader_good { has_failed streams.reader ≡ false }
+    requires writer_good { has_failed streams.writer ≡ false }
     requires faults_good { has_failed faults.old ≡ false }
-    ensures { HasRunRead read.entry T.is_opened
+    ensures { HasRunRead read.entry (record { is_file = T.is_opened; is_journal = T.is_journal; seen = J.seen })
+        (record {
+          state = ⟦<Streams<Source<R, O>, W> as Peer>⟧.state;
+          reports = F.contents;
+          over = ⟦<JournaledPeer<Streams<Source<R, O>, W>, J> as Peer>⟧.state;
+          inner = λ j. j.peer;
+          text = λ j. text_of (J.seen j.journal.device);
+          fault = λ j. j.fault;
+        })
         (record { remaining = remaining_of R.remaining O.remaining; contents = W.contents; reports = F.contents })
-        (record { streams = streams.old; faults = faults.old })
-        (record { streams = streams.new; faults = faults.new }) result }
+        (record { streams = streams; faults = faults.old })
+        (record { streams = result.1; faults = faults.new }) result.0 }
 {
+    let mut streams = streams;
     match read {
         Ok(call) => run_call(rt, call, streams, faults),
-        Err(error) => end_unplayed(rt.alloc(), &error, &mut streams.writer, faults),
+        Err(error) => {
+            let ending = end_unplayed(rt.alloc(), &error, &mut streams.writer, faults);
+            (ending, streams)
+        }
     }
 }
 
-/// Runs a subcommand over the file that is named with it, or over what it is handed: if none is, or `-`.
+/// Runs a subcommand over its files.
 fn run_call<
+    T: AllocGlobal + Threads + Opener<O> + Journals<J>,
+    R: Read + Drop,
+    O: Read + Seek + Drop,
+    J: Device + Drop,
+    W: Write,
+    F: Write,
+>(
+    rt: &T,
+    call: Call<'_>,
+    streams: Streams<Source<R, O>, W>,
+    faults: &mut Watched<F>,
+) -> (Ending, Streams<Source<R, O>, W>)
+    requires reader_good { has_failed streams.reader ≡ false }
+    requires writer_good { has_failed streams.writer ≡ false }
+    requires faults_good { has_failed faults.old ≡ false }
+    ensures { HasRunCall (journal_of call.entry) call.entry
+        (record { is_file = T.is_opened; is_journal = T.is_journal; seen = J.seen })
+        (record {
+          state = ⟦<Streams<Source<R, O>, W> as Peer>⟧.state;
+          reports = F.contents;
+          over = ⟦<JournaledPeer<Streams<Source<R, O>, W>, J> as Peer>⟧.state;
+          inner = λ j. j.peer;
+          text = λ j. text_of (J.seen j.journal.device);
+          fault = λ j. j.fault;
+        })
+        (record { remaining = remaining_of R.remaining O.remaining; contents = W.contents; reports = F.contents })
+        (record { streams = streams; faults = faults.old })
+        (record { streams = result.1; faults = faults.new }) result.0 }
+{
+    let mut streams = streams;
+    match journal_of(call) {
+        Some((journal, options)) => run_kept(rt, call, journal, options, streams, faults),
+        None => {
+            let ending = run_unkept(rt, call, &mut streams, faults);
+            (ending, streams)
+        }
+    }
+}
+
+/// The journal of a stream that has one, and its options.
+fn journal_of<'a>(call: Call<'a>) -> Option<(&'a str, RunOptions)>
+    ensures { option_map (λ j. (j.0.now, j.1)) result ≡ journal_of call.entry }
+{
+    let Some(journal) = call.journal else {
+        return None;
+    };
+    match options_of_stream(call.subcommand) {
+        Some(options) => Some((journal, options)),
+        None => None,
+    }
+}
+
+/// Runs a subcommand over its files, but for a journal.
+fn run_unkept<
     T: AllocGlobal + Threads + Opener<O>,
     R: Read + Drop,
     O: Read + Seek + Drop,
@@ -82,25 +172,102 @@ fn run_call<
     requires reader_good { has_failed streams.old.reader ≡ false }
     requires writer_good { has_failed streams.old.writer ≡ false }
     requires faults_good { has_failed faults.old ≡ false }
-    ensures { HasRunCall call.entry.subcommand (option_map (λ n. n.now) call.entry.file) T.is_opened
+    ensures { HasRunUnkept (option_map (λ n. n.now) call.entry.state) call.entry.subcommand
+        (option_map (λ n. n.now) call.entry.file) T.is_opened
         (record { remaining = remaining_of R.remaining O.remaining; contents = W.contents; reports = F.contents })
         (record { streams = streams.old; faults = faults.old })
         (record { streams = streams.new; faults = faults.new }) result }
 {
     let subcommand = call.subcommand;
-    match file_to_open(call.file) {
-        Some(name) => run_over_file(rt, subcommand, name, streams, faults),
-        None => run_subcommand(rt, subcommand, name_of_given(subcommand), streams, faults),
+    let Some(name) = call.state else {
+        return run_input(rt, subcommand, None, call.file, streams, faults);
+    };
+    match options_of_stream(subcommand) {
+        Some(options) => run_from_state(rt, subcommand, options, name, call.file, streams, faults),
+        None => run_input(rt, subcommand, None, call.file, streams, faults),
     }
 }
 
-/// The file that is to be opened: none if none is named, or `-`.
-fn file_to_open<'a>(file: Option<&'a str>) -> Option<&'a str>
-    ensures { IsToOpen (option_map (λ n. n.now) file.entry) (option_map (λ n. n.now) result) }
+/// The options of a stream that may begin with a state: those of `serve`.
+fn options_of_stream(subcommand: Subcommand) -> Option<RunOptions>
+    ensures { result ≡ options_of_stream subcommand }
 {
-    match file {
-        None | Some("-") => None,
-        Some(name) => Some(name),
+    match subcommand {
+        Subcommand::Run(Verb::Serve { .. }, options) => Some(options),
+        _ => None,
+    }
+}
+
+/// Reads the state in the file of this name, and serves from it. If it can't be read, or is none that fits the options,
+/// nothing else is read.
+fn run_from_state<
+    T: AllocGlobal + Threads + Opener<O>,
+    R: Read + Drop,
+    O: Read + Seek + Drop,
+    W: Write,
+    F: Write,
+>(
+    rt: &T,
+    subcommand: Subcommand,
+    options: RunOptions,
+    name: &str,
+    file: Option<&str>,
+    streams: &mut Streams<Source<R, O>, W>,
+    faults: &mut Watched<F>,
+) -> Ending
+    requires options { options_of_stream subcommand ≡ Some options }
+    requires reader_good { has_failed streams.old.reader ≡ false }
+    requires writer_good { has_failed streams.old.writer ≡ false }
+    requires faults_good { has_failed faults.old ≡ false }
+    ensures { HasRunFromState name.now options subcommand (option_map (λ n. n.now) file.entry) T.is_opened
+        (record { remaining = remaining_of R.remaining O.remaining; contents = W.contents; reports = F.contents })
+        (record { streams = streams.old; faults = faults.old })
+        (record { streams = streams.new; faults = faults.new }) result }
+{
+    match read_state(rt, name, options) {
+        Ok(saved) => run_input(rt, subcommand, Some(&saved), file, streams, faults),
+        Err(fault) => {
+            report_no_state(rt.alloc(), name, fault, faults);
+            Ending::Refused
+        }
+    }
+}
+
+/// Runs a subcommand over the file that is named with it, or over what it is handed: if none is, or `-`.
+fn run_input<
+    T: AllocGlobal + Threads + Opener<O>,
+    R: Read + Drop,
+    O: Read + Seek + Drop,
+    W: Write,
+    F: Write,
+>(
+    rt: &T,
+    subcommand: Subcommand,
+    saved: Option<&SavedState>,
+    file: Option<&str>,
+    streams: &mut Streams<Source<R, O>, W>,
+    faults: &mut Watched<F>,
+) -> Ending
+    requires fits { Fits (option_map (λ read. read.now) saved) subcommand }
+    requires reader_good { has_failed streams.old.reader ≡ false }
+    requires writer_good { has_failed streams.old.writer ≡ false }
+    requires faults_good { has_failed faults.old ≡ false }
+    ensures { HasRunInput (option_map (λ read. read.now) saved.entry) subcommand
+        (option_map (λ n. n.now) file.entry) T.is_opened
+        (record { remaining = remaining_of R.remaining O.remaining; contents = W.contents; reports = F.contents })
+        (record { streams = streams.old; faults = faults.old })
+        (record { streams = streams.new; faults = faults.new }) result }
+{
+    match file_to_open(file) {
+        Some(name) => run_over_file(rt, subcommand, saved, name, streams, faults),
+        None => run_subcommand(
+            rt,
+            subcommand,
+            saved,
+            name_of_given(subcommand),
+            streams,
+            faults,
+        ),
     }
 }
 
@@ -124,13 +291,15 @@ fn run_over_file<
 >(
     rt: &T,
     subcommand: Subcommand,
+    saved: Option<&SavedState>,
     name: &str,
     streams: &mut Streams<Source<R, O>, W>,
     faults: &mut Watched<F>,
 ) -> Ending
+    requires fits { Fits (option_map (λ read. read.now) saved) subcommand }
     requires writer_good { has_failed streams.old.writer ≡ false }
     requires faults_good { has_failed faults.old ≡ false }
-    ensures { HasRunFile subcommand name.now T.is_opened
+    ensures { HasRunFile (option_map (λ read. read.now) saved.entry) subcommand name.now T.is_opened
         (record { remaining = remaining_of R.remaining O.remaining; contents = W.contents; reports = F.contents })
         (record { streams = streams.old; faults = faults.old })
         (record { streams = streams.new; faults = faults.new }) result }
@@ -138,7 +307,7 @@ fn run_over_file<
     match rt.open_to_read(name) {
         Ok(file) => {
             streams.reader = Watched::new(Source::Opened(file));
-            run_subcommand(rt, subcommand, Some(name), streams, faults)
+            run_subcommand(rt, subcommand, saved, Some(name), streams, faults)
         }
         Err(error) => {
             let reason = reason_to_refuse(error.kind());
@@ -158,14 +327,16 @@ fn run_subcommand<
 >(
     rt: &T,
     subcommand: Subcommand,
+    saved: Option<&SavedState>,
     name: Option<&str>,
     streams: &mut Streams<Source<R, O>, W>,
     faults: &mut Watched<F>,
 ) -> Ending
+    requires fits { Fits (option_map (λ read. read.now) saved) subcommand }
     requires reader_good { has_failed streams.old.reader ≡ false }
     requires writer_good { has_failed streams.old.writer ≡ false }
     requires faults_good { has_failed faults.old ≡ false }
-    ensures { HasCalled subcommand (option_map (λ n. n.now) name.entry)
+    ensures { HasCalled (option_map (λ read. read.now) saved.entry) subcommand (option_map (λ n. n.now) name.entry)
         (record { remaining = remaining_of R.remaining O.remaining; contents = W.contents; reports = F.contents })
         (record { streams = streams.old; faults = faults.old })
         (record { streams = streams.new; faults = faults.new }) result }
@@ -173,7 +344,7 @@ fn run_subcommand<
     let alloc = rt.alloc();
     match subcommand {
         Subcommand::Run(verb, options) => {
-            let ended = run_verb(alloc, verb, options, streams, faults);
+            let ended = run_verb(alloc, verb, options, saved, streams, faults);
             end_call(alloc, ended, name, streams, faults)
         }
         Subcommand::Check => {

@@ -1,10 +1,13 @@
 //! What the program reads: what it is handed, which is standard input, or a file that it opens by name.
-ghost use Rattle.std.specs.Prelude.{IfOk, List, ℕ};
+ghost use Rattle.std.specs.Prelude.{◌≡◌, true, IfOk, List, ℕ, option_map};
+ghost use Rattle.timer_journal.specs.Device.{Only};
+ghost use Rattle.timer_program.specs.Files.{IsToOpen};
 ghost use Rattle.timer_program.specs.Files.{remaining_of};
 
 use std::fs::File;
 use std::io;
 use std::io::{ErrorKind, IsTerminal, Read, Write};
+use timer_journal::{Device, HostFile, OpenFault, open_host};
 
 /// Opens files by name. `command` is generic over it, so its contract says which name was opened.
 pub trait Opener<O> {
@@ -25,6 +28,27 @@ impl Opener<File> for HostRuntime {
         // A directory can be opened. The first read of one fails, and this one takes no byte of another file.
         file.read(&mut [])?;
         Ok(file)
+    }
+}
+
+/// Opens journals by name.
+pub trait Journals<J: Device> {
+    /// The journal was opened under this name.
+    ghost is_journal: { List ℕ → J → Type 0 };
+
+    /// Opens a journal's file, or makes an empty one.
+    fn open_journal(&self, name: &str) -> Result<J, OpenFault>
+        ensures opened { IfOk result (λ journal. is_journal name.now journal) }
+        // What is read of it is what is on the disk.
+        ensures durable { IfOk result (λ journal. Only (J.seen journal) (J.may_leave journal)) }
+        ensures usable { IfOk result (λ journal. J.is_usable journal ≡ true) };
+}
+
+impl Journals<HostFile> for HostRuntime {
+    ghost is_journal = { λ _ _. Unit {0} };
+
+    fn open_journal(&self, name: &str) -> Result<HostFile, OpenFault> {
+        open_host(self, name)
     }
 }
 
@@ -83,6 +107,16 @@ impl<R: Read, O: Read> Read for Source<R, O> {
             Source::Opened(file) => file.read(buf),
             Source::Nothing => Ok(0),
         }
+    }
+}
+
+/// The file that is to be opened: none if none is named, or `-`.
+pub fn file_to_open<'a>(file: Option<&'a str>) -> Option<&'a str>
+    ensures { IsToOpen (option_map (λ n. n.now) file.entry) (option_map (λ n. n.now) result) }
+{
+    match file {
+        None | Some("-") => None,
+        Some(name) => Some(name),
     }
 }
 

@@ -97,16 +97,20 @@ is reported. A last line without its line feed is a bad line. With `--keep-going
 stream continues after a bad line. Each one is reported, as `bad` and what `check` says
 of it, and skipped. The others are answered, and the exit status is 1 at the end.
 
-A stream has three more:
+A stream has four more:
   at TICK                              advances the clock to TICK, if that is later
   start-at CLIENT NUMBER DEADLINE ACTION
                                        as start, and the timer expires at DEADLINE
   restart-at CLIENT NUMBER SERIAL DEADLINE ACTION
                                        as restart, and the timer expires at DEADLINE
-A timer whose deadline has passed expires at once.
+  state                                prints the state as lines, and changes nothing
+A timer whose deadline has passed expires at once. The answer to `state` begins with
+`state open` or `state closed`. A line `number` for each client and a line `timer` for each
+pending timer follow, and then `state end`. With `--state FILE` a stream begins with the
+state that such lines in FILE say, at its tick, and goes on as the first one would have.
 
-With `--wakeups` the answers to each line are followed by `wakeup TICK`: no timer expires
-before that tick. The line is `wakeup never` if no timer is pending.
+With `--wakeups` the answers to all lines of one read are followed by `wakeup TICK`: no timer
+expires before that tick. The line is `wakeup never` if no timer is pending.
 
 For example, another program writes to the input and reads the output of `timers serve`:
   start 0 1 30 7         started 0 1 1 30
@@ -118,8 +122,8 @@ For example, another program writes to the input and reads the output of `timers
 The schemes are those of `timers play`. The exit status is 0 if the input came to its
 end and every line was answered. It is 1 after an error, which is one line on
 standard error (`bad line L`, `too long`, `read failed`, `write failed` or
-`out of memory`). It is 2 if the arguments are refused. `man timers` and
-docs/formats.md say what may have been written then.";
+`out of memory`). It is 2 if the arguments are refused, or no state is read.
+`man timers` and docs/formats.md say what may have been written then.";
 
 pub static SHOW_ABOUT: &str =
     "Answers lines as `serve` does, and shows after each where the pending timers are";

@@ -10,6 +10,7 @@
 //!     files       the file, or standard input
 //!     reports     the line of an error
 //!     excerpt     what is wrong with a line of a file
+//!     state_file  the file with a state that `serve` begins with
 //!     command     from the arguments to the exit status
 //!
 //! A module's definitions are in the file of its name in `specs/`.
@@ -21,7 +22,10 @@ mod command;
 mod excerpt;
 mod files;
 mod help;
+mod journal_file;
+mod kept_stream;
 mod reports;
+mod state_file;
 
 use argv::{after_name, end_without_arguments};
 use command::command;
@@ -33,15 +37,11 @@ use timer_script::{Streams, Watched};
 fn main(rt: HostRuntime) -> ExitCode {
     let mut faults = Watched::new(rt.stderr());
     let status = match all_arguments(&rt) {
-        Ok(arguments) => command(
-            &rt,
-            after_name(&arguments),
-            &mut Streams::new(
-                Source::Given(Prompted::new(rt.stdin(), rt.stderr())),
-                rt.stdout(),
-            ),
-            &mut faults,
-        ),
+        Ok(arguments) => {
+            let input = Source::Given(Prompted::new(rt.stdin(), rt.stderr()));
+            let streams = Streams::new(input, rt.stdout());
+            command(&rt, after_name(&arguments), streams, &mut faults).0
+        }
         Err(error) => end_without_arguments(error.kind(), &mut faults).status(),
     };
     ExitCode::from(status)

@@ -128,7 +128,7 @@ fn grammar_of(fault: Fault) -> Grammar {
 }
 
 /// Writes the line of an error, unless the writer fails. One that failed before is left alone.
-fn report_located<F: Write>(name: &str, spot: Spot, reason: &[u8], faults: &mut Watched<F>)
+pub fn report_located<F: Write>(name: &str, spot: Spot, reason: &[u8], faults: &mut Watched<F>)
     ensures { HasLocated name.now spot F.contents faults.old faults.new }
 {
     if !faults.failed() {

@@ -186,13 +186,12 @@ line_front front held bytes held' n old some within is joined =
     ∙ ap (λ t. take MAX_LINE t) (feed-take front bytes n some within is)
 
 -- bytes that end one line
-pub line_sorted : {o : OnBadLine} {old : Cutter} {came : List ℕ} {events : List Event} {bad : List Complaint} (new : Cutter)
-    (bytes : List ℕ) (n : ℕ) → 0 < n → n ≤ length bytes → get_or bytes (n - 1) 0 ≡ 10 → new.on_bad ≡ old.on_bad
+ended_sorted : {o : OnBadLine} {old : Cutter} {came : List ℕ} {events : List Event} {bad : List Complaint} (new : Cutter)
+    (bytes : List ℕ) → new.on_bad ≡ old.on_bad
     → new.held.items ≡ [] → new.number ≡ min (old.number + 1) (2 ^ 64 - 1) → (h : HasSortedSince o old came events bad)
-    → HasEndedLine old.on_bad ((h.sorted.passes.left ++ take (n - 1) bytes) ++ 10 ∷ []) old.number
-    old.events.items new.events.items old.reports.items new.reports.items
-    → HasSortedSince o new (came ++ take n bytes) events bad
-line_sorted {old = old} {events = events} {bad = bad} new bytes n some within is same none next h e =
+    → HasEndedLine old.on_bad (h.sorted.passes.left ++ bytes) old.number old.events.items new.events.items old.reports.items new.reports.items
+    → HasSortedSince o new (came ++ bytes) events bad
+ended_sorted {old = old} {events = events} {bad = bad} new bytes same none next h e =
     let p = h.sorted.passes in
     let one : List InputLine = e.line ∷ [] in
     let before : List ℕ = flat_map bytes_of p.lines in
@@ -207,8 +206,8 @@ line_sorted {old = old} {events = events} {bad = bad} new bytes n some within is
           lines = p.lines ++ one;
           left = [];
           cut = record {
-            parts = ap (λ t. t ++ take n bytes) p.cut.parts ∙ append_assoc before p.left (take n bytes)
-                ∙ ap (λ t. before ++ t) (feed-take p.left bytes n some within is ∙ sym e.bytes_is ∙ sym (append-nil (bytes_of e.line)))
+            parts = ap (λ t. t ++ bytes) p.cut.parts ∙ append_assoc before p.left bytes
+                ∙ ap (λ t. before ++ t) (sym e.bytes_is ∙ sym (append-nil (bytes_of e.line)))
                 ∙ sym (flat_map-append bytes_of p.lines one) ∙ sym (append-nil (flat_map bytes_of (p.lines ++ one)));
             each = all_append IsGoodOrBad p.lines one p.cut.each (e.is_line, tt);
             unended = tt;
@@ -225,6 +224,55 @@ line_sorted {old = old} {events = events} {bad = bad} new bytes n some within is
         bad_is = sym (append_assoc bad h.more said) ∙ ap (λ t. t ++ said) h.sorted.bad_is
             ∙ ap (λ k. bad_among p.lines ++ complaint_of k e.line) counted ∙ sym (among_more 1 (length p.lines + 1) p.lines e.line refl);
       };
+    }
+
+pub line_sorted : {o : OnBadLine} {old : Cutter} {came : List ℕ} {events : List Event} {bad : List Complaint} (new : Cutter)
+    (bytes : List ℕ) (n : ℕ) → 0 < n → n ≤ length bytes → get_or bytes (n - 1) 0 ≡ 10 → new.on_bad ≡ old.on_bad
+    → new.held.items ≡ [] → new.number ≡ min (old.number + 1) (2 ^ 64 - 1) → (h : HasSortedSince o old came events bad)
+    → HasEndedLine old.on_bad ((h.sorted.passes.left ++ take (n - 1) bytes) ++ 10 ∷ []) old.number
+    old.events.items new.events.items old.reports.items new.reports.items
+    → HasSortedSince o new (came ++ take n bytes) events bad
+line_sorted {old = old} new bytes n some within is same none next h e =
+    ended_sorted new (take n bytes) same none next h (subst (λ z. HasEndedLine old.on_bad z old.number old.events.items new.events.items
+    old.reports.items new.reports.items) (sym (feed-take h.sorted.passes.left bytes n some within is)) e)
+
+-- ---- good lines, which are read in place
+
+-- some lines were taken from the front of the bytes, and no line was begun before them
+pub record HasTakenLines (old new : Cutter) (bytes rest : List ℕ) : Type 0 where
+  pub front : List ℕ
+  pub parts : bytes ≡ front ++ rest
+  pub held : new.held.items ≡ []
+  pub clean : new.clean ≡ old.clean
+  pub cut : (o : OnBadLine) (came : List ℕ) (events : List Event) (bad : List Complaint) → HasSortedSince o old came events bad
+      → HasSortedSince o new (came ++ front) events bad
+
+-- one more
+pub lines_more : {old mid : Cutter} {bytes rest : List ℕ} (new : Cutter) (event : Event) (after : List ℕ) → HasTakenLines old mid bytes rest
+    → line_in Stream rest ≡ Some (event, after) → new.events.items ≡ mid.events.items ++ event ∷ []
+    → new.reports.items ≡ mid.reports.items → new.held.items ≡ mid.held.items → new.number ≡ min (mid.number + 1) (2 ^ 64 - 1)
+    → new.on_bad ≡ mid.on_bad → new.clean ≡ mid.clean → HasTakenLines old new bytes after
+lines_more {old} {mid} {bytes} {rest} new event after t read grows same_said same_held next same clean =
+    let (fits, is) = read_sound Stream rest after event read in
+    let none : new.held.items ≡ [] = same_held ∙ t.held in
+    record {
+      front = t.front ++ line event;
+      parts = t.parts ∙ ap (λ z. t.front ++ z) is ∙ sym (append_assoc t.front (line event) after);
+      held = none;
+      clean = clean ∙ t.clean;
+      cut = λ o came events bad h.
+          let k = t.cut o came events bad h in
+          let left : k.sorted.passes.left ≡ [] = nil_from_length k.sorted.passes.left
+          (omega (arith, ap length (sym k.sorted.held_is ∙ t.held), length-take MAX_LINE k.sorted.passes.left)) in
+          subst (λ z. HasSortedSince o new z events bad) (append_assoc came t.front (line event))
+          (ended_sorted new (line event) same none next k (record {
+            line = Good event;
+            bytes_is = ap (λ z. z ++ line event) (sym left);
+            is_line = fits;
+            events_are = grows;
+            said_is = same_said ∙ sym (append-nil mid.reports.items);
+            good = λ stop. refl;
+          }));
     }
 
 -- a piece of which nothing was taken yet

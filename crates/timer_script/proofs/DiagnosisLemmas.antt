@@ -68,8 +68,11 @@ script_word_some word is = elim is [
 
 stream_word_some : (word : List ℕ) → IsStreamWord word → 1 ≤ length word
 stream_word_some word is = elim is [
-  | inl e ↦ omega (arith, ap length e)
-  | inr a ↦ elim a [ inl e ↦ omega (arith, ap length e) | inr e ↦ omega (arith, ap length e) ]
+  | inl a ↦ elim a [
+    | inl e ↦ omega (arith, ap length e)
+    | inr b ↦ elim b [ inl e ↦ omega (arith, ap length e) | inr e ↦ omega (arith, ap length e) ]
+  ]
+  | inr e ↦ omega (arith, ap length e)
 ]
 
 word_long : (grammar : Grammar) (word : List ℕ) → IsWord grammar word → 1 ≤ length word

@@ -3,6 +3,8 @@ pub mod ScriptReportLemmas
 pub mod DiagnosisLemmas
 pub mod LineLemmas
 pub mod ScriptLemmas
+pub mod SavedTextLemmas
+pub mod StateTextLemmas
 pub mod KnownBytes
 pub mod TextLemmas
 pub mod ScriptRunLemmas
@@ -13,3 +15,5 @@ pub mod CutterLemmas
 pub mod ServicePieces
 pub mod StepLemmas
 pub mod ServiceLemmas
+pub mod ReplayLemmas
+pub mod MomentLemmas

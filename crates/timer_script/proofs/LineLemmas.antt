@@ -17,9 +17,9 @@ use Rattle.timer_script.specs.declared.lines.Grammar.TheVariants.{Script, Stream
 use Rattle.timer_facility.specs.declared.event.Event.TheVariants as Events
 use Rattle.timer_script.specs.Script.{AreFieldsInRange, IsIn, line, HasNoFeed, BeginsNoLine}
 use Rattle.timer_script.proofs.FeedLemmas.{IsFed, fed, no_feed_long, at_feed}
-use Rattle.timer_script.specs.Lines.{Read, ◌>>=◌, or_try, has_word, strip, number_at, field_at, tick_count_at, or_else, other_at, line_at, own_line_at, stream_at, line_in}
+use Rattle.timer_script.specs.Lines.{Read, ◌>>=◌, or_try, has_word, strip, number_at, field_at, tick_count_at, or_else, other_at, line_at, other_own_at, own_line_at, stream_at, line_in}
 -- made by tools/facts: imports of what readers compute
-use Rattle.timer_script.specs.Lines.{start_at, stop_at, restart_at, tick_at, close_at, at_line_at, start_at_line_at, restart_at_line_at}
+use Rattle.timer_script.specs.Lines.{start_at, stop_at, restart_at, tick_at, close_at, at_line_at, start_at_line_at, restart_at_line_at, state_line_at}
 
 -- ---- a word
 
@@ -128,12 +128,12 @@ number_sound bytes rest n e =
 
 -- ---- a field
 
-field_again : (end n : ℕ) (rest : List ℕ) → n ≤ LAST → NoDigit 10 (end ∷ rest)
+pub field_again : (end n : ℕ) (rest : List ℕ) → n ≤ LAST → NoDigit 10 (end ∷ rest)
     → field_at end (decimal n ++ (end ∷ rest)) ≡ Some (n, rest)
 unfolding field_at
 field_again end n rest fits stop = rw (number_again n (end ∷ rest) fits stop, strip_again (end ∷ []) rest) refl
 
-field_sound : (end : ℕ) (bytes rest : List ℕ) (n : ℕ) → field_at end bytes ≡ Some (n, rest) → (n ≤ LAST) × (bytes ≡ decimal n ++ end ∷ rest)
+pub field_sound : (end : ℕ) (bytes rest : List ℕ) (n : ℕ) → field_at end bytes ≡ Some (n, rest) → (n ≤ LAST) × (bytes ≡ decimal n ++ end ∷ rest)
 unfolding field_at
 field_sound end bytes rest n e =
     and_then_some _ (number_at bytes) _ e λ m read e₁.
@@ -143,7 +143,7 @@ field_sound end bytes rest n e =
     (rw (← value_is) is.0, rw (← value_is, ← rest_is) (is.1 ∙ ap (λ t. decimal m.0 ++ t) (strip_sound (end ∷ []) m.1 after found)))
 
 -- what was read after a field
-field_then : {A P : Type 0} (end : ℕ) (bytes : List ℕ) (f : ℕ × List ℕ → Option A) (y : A) → (field_at end bytes >>= f) ≡ Some y
+pub field_then : {A P : Type 0} (end : ℕ) (bytes : List ℕ) (f : ℕ × List ℕ → Option A) (y : A) → (field_at end bytes >>= f) ≡ Some y
     → ((n : ℕ) (rest : List ℕ) → n ≤ LAST → bytes ≡ decimal n ++ end ∷ rest → f (n, rest) ≡ Some y → P) → P
 field_then end bytes f y e more =
     and_then_some _ (field_at end bytes) _ e λ m read e₁.
@@ -223,6 +223,7 @@ line_again Events.Close rest fits = refl
 line_again (Events.TicksTo tick) rest fits = absurd fits
 line_again (Events.StartAt client number deadline action) rest fits = absurd fits
 line_again (Events.RestartAt client number serial deadline action) rest fits = absurd fits
+line_again Events.Dump rest fits = absurd fits
 
 start_sound : (bytes rest : List ℕ) (event : Event) → start_at bytes ≡ Some (event, rest)
     → AreFieldsInRange event × (codes "start " ++ bytes ≡ line event ++ rest)
@@ -305,6 +306,7 @@ line_fed Events.Close fits =
 line_fed (Events.TicksTo tick) fits = absurd fits
 line_fed (Events.StartAt client number deadline action) fits = absurd fits
 line_fed (Events.RestartAt client number serial deadline action) fits = absurd fits
+line_fed Events.Dump fits = absurd fits
 
 -- by hand
 -- a line of a script is one of a stream
@@ -312,6 +314,7 @@ pub in_stream : (event : Event) → AreFieldsInRange event → IsIn Stream event
 in_stream (Events.StartAt client number deadline action) fits = absurd fits
 in_stream (Events.RestartAt client number serial deadline action) fits = absurd fits
 in_stream (Events.TicksTo tick) fits = absurd fits
+in_stream Events.Dump fits = absurd fits
 in_stream event fits = fits
 
 -- either may have read what was read
@@ -323,7 +326,7 @@ by_either None other x e first second = second e
 -- the line of an event is read as that event
 pub stream_again : (event : Event) (rest : List ℕ) → IsIn Stream event
     → stream_at (line event ++ rest) ≡ Some (event, rest)
-unfolding stream_at line_at other_at own_line_at start_at stop_at restart_at tick_at close_at at_line_at start_at_line_at restart_at_line_at line has_word
+unfolding stream_at line_at other_at own_line_at other_own_at start_at stop_at restart_at tick_at close_at at_line_at start_at_line_at restart_at_line_at state_line_at line has_word
 stream_again (Events.TicksTo tick) rest fits = simp append_assoc (rw (field_again 10 tick _ fits (lit≤ tt)) refl)
 stream_again (Events.StartAt client number deadline action) rest fits = simp append_assoc (rw (
   field_again 32 client _ fits.0 (lit≤ tt),
@@ -338,6 +341,7 @@ stream_again (Events.RestartAt client number serial deadline action) rest fits =
   field_again 32 deadline _ fits.3 (lit≤ tt),
   field_again 10 action _ fits.4 (lit≤ tt),
 ) refl)
+stream_again Events.Dump rest fits = refl
 stream_again (Events.Start client number interval action) rest fits = rw (line_again (Events.Start client number interval action) rest fits) refl
 stream_again (Events.Stop client number serial) rest fits = rw (line_again (Events.Stop client number serial) rest fits) refl
 stream_again (Events.Restart client number serial interval action) rest fits = rw (line_again (Events.Restart client number serial interval action) rest fits) refl
@@ -375,15 +379,23 @@ restart_at_sound bytes rest event e =
     same_line (IsIn Stream) (codes "restart-at ") bytes rest r5 event (Events.RestartAt client number serial deadline action) e5 (fits1, fits2, fits3, fits4, fits5)
     (rw (is1, is2, is3, is4, is5) (simp append_assoc))
 
+state_sound : (bytes rest : List ℕ) (event : Event) → state_line_at bytes ≡ Some (event, rest)
+    → IsIn Stream event × (codes "state\n" ++ bytes ≡ line event ++ rest)
+unfolding state_line_at line
+state_sound bytes rest event e =
+    same_line (IsIn Stream) (codes "state\n") bytes rest bytes event Events.Dump e tt
+    refl
+
 -- what is read of a line of a stream alone is the line of that event
 own_sound : (bytes rest : List ℕ) (event : Event) → own_line_at bytes ≡ Some (event, rest)
     → IsIn Stream event × (bytes ≡ line event ++ rest)
-unfolding own_line_at
+unfolding own_line_at other_own_at
 own_sound bytes rest event e =
     by_word (IsIn Stream) (codes "at ") bytes rest event at_line_at _ e (λ s. at_sound s rest event) λ e1.
     by_word (IsIn Stream) (codes "start-at ") bytes rest event start_at_line_at _ e1 (λ s. start_at_sound s rest event) λ e2.
     by_word (IsIn Stream) (codes "restart-at ") bytes rest event restart_at_line_at _ e2 (λ s. restart_at_sound s rest event) λ e3.
-    absurd (none-some _ e3)
+    by_word (IsIn Stream) (codes "state\n") bytes rest event state_line_at _ e3 (λ s. state_sound s rest event) λ e4.
+    absurd (none-some _ e4)
 
 -- where the line of an event ends
 pub stream_fed : (event : Event) → IsIn Stream event → IsFed (line event)
@@ -397,6 +409,9 @@ stream_fed (Events.StartAt client number deadline action) fits =
 stream_fed (Events.RestartAt client number serial deadline action) fits =
     fed (codes "restart-at") (client ∷ number ∷ serial ∷ deadline ∷ action ∷ []) (line (Events.RestartAt client number serial deadline action)) (search rules) (lit≤ tt)
     (fits.0, (fits.1, (fits.2, (fits.3, (fits.4, tt))))) (simp append_assoc refl)
+stream_fed Events.Dump fits =
+    fed (codes "state") ([]) (line Events.Dump) (search rules) (lit≤ tt)
+    tt refl
 stream_fed (Events.Start client number interval action) fits = line_fed (Events.Start client number interval action) fits
 stream_fed (Events.Stop client number serial) fits = line_fed (Events.Stop client number serial) fits
 stream_fed (Events.Restart client number serial interval action) fits = line_fed (Events.Restart client number serial interval action) fits

@@ -8,7 +8,7 @@ use Rattle.timer_facility.specs.declared.event.Event.{Event}
 use Rattle.timer_script.specs.Types.{Grammar}
 use Rattle.timer_script.specs.declared.lines.Grammar.TheVariants.{Script, Stream}
 use Rattle.timer_script.specs.Script.{IsIn, line, spelling, AreLinesOf, IsScript, BeginsNoLine, IsBadLineOf, IsBadLine}
-use Rattle.timer_script.specs.Lines.{has_word, other_at, line_at, own_line_at, stream_at, line_in}
+use Rattle.timer_script.specs.Lines.{has_word, other_at, line_at, other_own_at, own_line_at, stream_at, line_in}
 use Rattle.timer_script.proofs.Results.{all_append, emptied, not_emptied}
 use Rattle.timer_script.proofs.LineLemmas.{in_stream, read_again, read_sound}
 
@@ -24,7 +24,7 @@ no_line_none grammar bytes none event more fits e = none-some _ (sym none ∙ ap
 -- no event is read of no bytes
 read_of_some : (grammar : Grammar) (bytes : List ℕ) (event : Event) → line_in grammar (bytes ++ []) ≡ Some (event, [])
     → 1 ≤ length bytes
-unfolding stream_at line_at other_at own_line_at has_word
+unfolding stream_at line_at other_at own_line_at other_own_at has_word
 read_of_some Script [] event read = absurd (none-some _ read)
 read_of_some Stream [] event read = absurd (none-some _ read)
 read_of_some grammar (b ∷ bytes) event read = omega arith
@@ -94,11 +94,15 @@ pub read_nothing : (bytes : List ℕ) → HasReadTo bytes bytes []
 read_nothing bytes = record { parts = refl; in_range = tt }
 
 -- a line is shorter than what it stands at the front of
-pub line_shorter : (rest after : List ℕ) (event : Event) → line_at rest ≡ Some (event, after) → length after + 1 ≤ length rest
-line_shorter rest after event read =
-    let (fits, is) = read_sound Script rest after event read in
-    let long = line_long Script event fits in
+pub read_shorter : (grammar : Grammar) (rest after : List ℕ) (event : Event) → line_in grammar rest ≡ Some (event, after)
+    → length after + 1 ≤ length rest
+read_shorter grammar rest after event read =
+    let (fits, is) = read_sound grammar rest after event read in
+    let long = line_long grammar event fits in
     omega (arith, ap length is, length-append (line event) after)
+
+pub line_shorter : (rest after : List ℕ) (event : Event) → line_at rest ≡ Some (event, after) → length after + 1 ≤ length rest
+line_shorter rest after event read = read_shorter Script rest after event read
 
 pub read_more : (bytes rest after : List ℕ) (events : List Event) (event : Event) → HasReadTo bytes rest events
     → line_at rest ≡ Some (event, after) → HasReadTo bytes after (events ++ event ∷ [])

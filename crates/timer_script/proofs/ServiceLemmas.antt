@@ -9,16 +9,59 @@ use Rattle.timer_script.specs.declared.fault.TurnFault.TheVariants as turns
 use Rattle.timer_script.specs.declared.fault.ServeFault.TheVariants as faults
 use Rattle.timer_script.specs.Fault.{serve_fault}
 use Rattle.timer_script.specs.Text.{lines_of}
+use Rattle.timer_script.specs.SavedText.{dump_text}
 use Rattle.timer_script.specs.Cutter.{HasSeenPart, HasReachedEnd, HasTakenIn, UnlessStopped}
 use Rattle.timer_script.specs.Peer.{PeerState, PeerCall, Gives}
-use Rattle.timer_script.specs.Service.{AreGood, HasSentText, HasSentPart, is_flushed, last_line, StopsTurn, IsPrompt, Server, Sides, HasAnsweredSoFar, HasAnsweredAll, HasServedPeer, HasServedSoFar}
+use Rattle.timer_script.specs.Service.{AreGood, HasSentText, HasSentPart, is_flushed, last_line, StopsTurn, HasTold, StopsTelling, IsPrompt, Server, Sides, HasAnsweredSoFar, HasAnsweredAll, HasServedPeer, HasServedSoFar}
 use Rattle.timer_script.proofs.CutterLemmas.{seen_part, seen_whole, piece_seen, passed_none}
 use Rattle.timer_script.proofs.PeerLemmas.{known_prompt, talked_wrote}
-use Rattle.timer_script.proofs.ServicePieces.{so_none, so_some, so_read, so_part}
+use Rattle.timer_script.proofs.ServicePieces.{so_none, so_some, so_read, so_part, so_told}
 
 -- what is answered so far by a server
 abbrev pub SoFar : {F : Type 0} → Server F → List ℕ → List Event → (old new : PeerState) → FacilityState → Type 0
 SoFar S = HasAnsweredSoFar S.on_bad S.Adds S.before
+
+-- ---- a state that is told
+
+-- the peer was told it, or not
+abbrev pub after_told : {F : Type 0} {S : Server F} {cutter : Cutter} {old before : Sides F} {s : FacilityState} {q : PeerState}
+    (t : FacilityState) → HasServedSoFar S cutter old before s → t ≡ s → HasTold (dump_text s) before.peer q
+    → HasServedSoFar S cutter old (record { peer = q; faults = before.faults }) t
+after_told {S = S} {old = old} {q = q} t h same told = record {
+  came = h.came;
+  events = h.events;
+  taken = h.taken;
+  so_far = subst (SoFar S h.came h.events old.peer q) (sym same) (so_told h.so_far h.taken.passed.passes told);
+}
+
+-- it could not be told
+pub untold : {F : Type 0} {S : Server F} {cutter : Cutter} {old before : Sides F} {s : FacilityState} (fault : ServeFault) (q : PeerState)
+    → HasServedSoFar S cutter old before s → AreGood before.peer → StopsTelling fault (dump_text s) before.peer q
+    → HasServedPeer S old (record { peer = q; faults = before.faults }) (Err fault)
+untold {S = S} {s = s} faults.Read q h good stops = (
+  s,
+  record {
+    came = h.came;
+    events = h.events;
+    passed = h.taken.passed;
+    so_far = so_told h.so_far h.taken.passed.passes stops.0;
+  },
+  stops.1,
+  stops.2,
+)
+untold {S = S} {old = old} {before = before} {s = s} faults.OutOfMemory q h good stops =
+    subst (λ p. HasServedPeer S old (record { peer = p; faults = before.faults }) (Err faults.OutOfMemory)) (sym stops) (
+      record {
+        came = h.came;
+        events = h.events;
+        passed = seen_part [] (append-nil h.came) h.taken.passed;
+        some = so_some h.so_far;
+      },
+      good,
+    )
+untold (faults.Bad n) q h good stops = absurd stops
+untold faults.Write q h good stops = absurd stops
+untold faults.TooLong q h good stops = absurd stops
 
 -- ---- one turn
 

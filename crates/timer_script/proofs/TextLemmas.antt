@@ -1,6 +1,6 @@
 -- How long a number is, how the line of an out begins and ends, and that the text of outs does not depend on the places of
 -- handles.
-use Rattle.std.proofs.Common.{◌≡◌, ◌<◌, ◌≤◌, ◌^◌, ◌-◌, set, drop, ℕ, Bool, true, false, nat_le, ◌&&◌, List, [], ◌∷◌, ◌++◌, length, decimal, codes, arith, lit≤, refl, sym, ap, subst, take, append-nil, ◌∙◌}
+use Rattle.std.proofs.Common.{◌≡◌, ◌<◌, ◌≤◌, ◌^◌, ◌-◌, set, drop, ℕ, Bool, true, false, nat_le, ◌&&◌, List, [], ◌∷◌, ◌++◌, length, map, decimal, codes, arith, lit≤, refl, sym, ap, subst, take, append-nil, ◌∙◌}
 use Rattle.std.proofs.lemmas.Bool.{and_parts, leb-true}
 use Rattle.std.proofs.lemmas.List.{length-map, drop-set}
 use Rattle.std.proofs.lemmas.Fmt.{length-decimal-le}
@@ -10,9 +10,13 @@ use Rattle.timer_facility.specs.declared.request.NotTaken.TheVariants as refusal
 use Rattle.timer_facility.specs.declared.request.TickFault.TheVariants as fault
 use Rattle.timer_script.specs.Types.{Reason, NotTaken, Out, FacilityState, Started, Refused, Expired}
 use Rattle.timer_facility.specs.declared.event.Out.TheVariants as Outs
+use Rattle.timer_facility.specs.declared.saved.StateLine.{StateLine}
+use Rattle.timer_facility.specs.declared.saved.StateLine.TheVariants as saved
 use Rattle.timer_facility.specs.Run.{bare, bare_outs, bare_entry, bare_state}
+use Rattle.timer_facility.specs.Saved.{saved_of, state_lines}
 use Rattle.timer_script.specs.Script.{HasNoFeed}
-use Rattle.timer_script.specs.Text.{numbers, reason_word, refusal_word, out_line, end_line, text}
+use Rattle.timer_script.specs.Text.{numbers, reason_word, refusal_word, state_line, out_line, end_line, text}
+use Rattle.timer_script.specs.SavedText.{state_text, dump_text}
 use Rattle.timer_script.proofs.FeedLemmas.{no_feed-append, is_bare, no_feed_if_bare, numbers_bare}
 
 -- a number of a word has at most 20 digits
@@ -87,7 +91,12 @@ refusal_bare : (why : NotTaken) → is_bare (refusal_word why) ≡ true
 refusal_bare refusal.Closed = refl
 refusal_bare why = refl
 
+state_line_is : (line : StateLine) → IsOutLine (state_line line)
+state_line_is (saved.Open now next_serial) = search lines
+state_line_is line = search lines
+
 pub out_line_is : (out : Out) → IsOutLine (out_line out)
+out_line_is (Outs.Dumped line) = state_line_is line
 out_line_is (Outs.Answered client number (Refused why)) = refused (client ∷ number ∷ []) (reason_word why) (reason_bare why)
 out_line_is (Outs.NotTaken client number why) = refused (client ∷ number ∷ []) (refusal_word why) (refusal_bare why)
 out_line_is (Outs.TickRefused fault.Closed) = search lines
@@ -97,13 +106,27 @@ out_line_is out = search lines
 pub end_line_is : (now pending : ℕ) → IsOutLine (end_line now pending)
 end_line_is now pending = numbered (codes "end") (now ∷ pending ∷ []) refl
 
+-- ---- a dump
+
+dumped_lines : (lines : List StateLine) → flat_map out_line (map (λ line. Outs.Dumped line) lines) ≡ state_text lines
+dumped_lines [] = refl
+dumped_lines (line ∷ lines) = ap (λ t. state_line line ++ t) (dumped_lines lines)
+
+-- the outs of a dump, and nothing before them, as text
+pub dumped_text : (before after shown : List Out) (f s : FacilityState) → f ≡ s → before ≡ []
+    → after ≡ before ++ map (λ line. Outs.Dumped line) (state_lines (saved_of f)) → shown ≡ after
+    → flat_map out_line shown ≡ dump_text s
+dumped_text before after shown f s same none is value =
+    let lines : List Out = map (λ line. Outs.Dumped line) (state_lines (saved_of f)) in
+    ap (flat_map out_line) (value ∙ is ∙ ap (λ os. os ++ lines) none) ∙ dumped_lines (state_lines (saved_of f)) ∙ ap dump_text same
+
 -- ---- without the places of handles
 
 out_line-bare : (out : Out) → out_line (bare out) ≡ out_line out
 out_line-bare (Outs.Answered client number (Started handle deadline)) = refl
 out_line-bare out = refl
 
-lines-bare : (outs : List Out) → flat_map out_line (bare_outs outs) ≡ flat_map out_line outs
+pub lines-bare : (outs : List Out) → flat_map out_line (bare_outs outs) ≡ flat_map out_line outs
 lines-bare [] = refl
 lines-bare (out ∷ outs) = rw (out_line-bare out, lines-bare outs) refl
 

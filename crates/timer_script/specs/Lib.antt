@@ -2,6 +2,7 @@ pub mod Types
 pub mod Lines
 pub mod Script
 pub mod Text
+pub mod SavedText
 pub mod Diagnosis
 pub mod Input
 pub mod Fault
@@ -13,3 +14,4 @@ pub mod Streams
 pub mod Decorator
 pub mod Cutter
 pub mod Service
+pub mod Replayed

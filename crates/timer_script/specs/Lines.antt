@@ -136,12 +136,22 @@ restart_at_line_at bytes =
     field_at 10 deadline.1 >>= λ action.
     Some (Events.RestartAt client.0 number.0 serial.0 deadline.0 action.0, action.1)
 
+-- what follows `state\n`
+unfoldable pub state_line_at : List ℕ → Read Event
+state_line_at bytes =
+    Some (Events.Dump, bytes)
+
+-- the event of another line of a stream alone
+unfoldable pub other_own_at : List ℕ → Read Event
+other_own_at bytes =
+    or_try (strip (codes "state\n") bytes) state_line_at None
+
 -- the event of a line of a stream alone
 unfoldable pub own_line_at : List ℕ → Read Event
 own_line_at bytes =
     or_try (strip (codes "at ") bytes) at_line_at
     (or_try (strip (codes "start-at ") bytes) start_at_line_at
-    (or_try (strip (codes "restart-at ") bytes) restart_at_line_at None))
+    (or_try (strip (codes "restart-at ") bytes) restart_at_line_at (other_own_at bytes)))
 
 -- by hand
 -- the event whose line is at the front of a stream

@@ -2,7 +2,7 @@
 use Rattle.std.specs.Prelude.{◌≡◌, ◌⊎◌, ℕ, ◌+◌, ◌≤◌, List, ◌++◌, length, codes, decimal}
 use Rattle.std.specs.List.{flat_map, AllByRecursion}
 use Rattle.timer_script.specs.Types.{LAST, MAX_TICKS, Event, ScriptFault, Grammar}
-use Rattle.timer_facility.specs.declared.event.Event.TheVariants.{Start, StartAt, Stop, Restart, RestartAt, Ticks, TicksTo, Close}
+use Rattle.timer_facility.specs.declared.event.Event.TheVariants.{Start, StartAt, Stop, Restart, RestartAt, Ticks, TicksTo, Close, Dump}
 use Rattle.timer_script.specs.declared.fault.ScriptFault.TheVariants.{Bad, OutOfMemory}
 use Rattle.timer_script.specs.declared.lines.Grammar.TheVariants.{Script, Stream}
 
@@ -17,13 +17,14 @@ AreFieldsInRange (Ticks count) = (1 ≤ count) × (count ≤ MAX_TICKS)
 AreFieldsInRange Close = Unit {0}
 AreFieldsInRange event = ⊥
 
--- the event has a line in this grammar; a stream has those of a script and three more
+-- the event has a line in this grammar; a stream has those of a script and four more
 abbrev pub IsIn : Grammar → Event → Type 0
 IsIn Script event = AreFieldsInRange event
 IsIn Stream (StartAt client number deadline action) = (client ≤ LAST) × (number ≤ LAST) × (deadline ≤ LAST) × (action ≤ LAST)
 IsIn Stream (RestartAt client number serial deadline action) = (client ≤ LAST) × (number ≤ LAST) × (serial ≤ LAST)
     × (deadline ≤ LAST) × (action ≤ LAST)
 IsIn Stream (TicksTo tick) = tick ≤ LAST
+IsIn Stream Dump = Unit {0}
 IsIn Stream event = AreFieldsInRange event
 
 -- a line: words and numbers with one space between them, and a line feed
@@ -47,15 +48,20 @@ line (RestartAt client number serial deadline action) =
     ++ codes " " ++ decimal deadline
     ++ codes " " ++ decimal action ++ codes "\n"
 line (TicksTo tick) = codes "at " ++ decimal tick ++ codes "\n"
+line Dump = codes "state\n"
 
 -- the bytes are a word that begins a line of a script
 abbrev pub IsScriptWord : List ℕ → Type 0
 IsScriptWord word = (word ≡ codes "start") ⊎ ((word ≡ codes "stop") ⊎ ((word ≡ codes "restart")
     ⊎ ((word ≡ codes "tick") ⊎ (word ≡ codes "close"))))
 
+-- one that begins a line by tick
+abbrev pub IsTickWord : List ℕ → Type 0
+IsTickWord word = (word ≡ codes "start-at") ⊎ ((word ≡ codes "restart-at") ⊎ (word ≡ codes "at"))
+
 -- one that begins a line of a stream alone
 abbrev pub IsStreamWord : List ℕ → Type 0
-IsStreamWord word = (word ≡ codes "start-at") ⊎ ((word ≡ codes "restart-at") ⊎ (word ≡ codes "at"))
+IsStreamWord word = IsTickWord word ⊎ (word ≡ codes "state")
 
 -- one that begins a line in this grammar
 abbrev pub IsWord : Grammar → List ℕ → Type 0

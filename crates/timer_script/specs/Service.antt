@@ -1,4 +1,4 @@
--- A server and its peer: what was played, what went to the peer, and when.
+-- A server and its peer: what was played, what went to the peer, what it was told, and when.
 use Rattle.std.specs.Prelude.{◌≡◌, ℕ, ◌≤◌, ◌⊎◌, ◌-◌, ◌^◌, Bool, true, false, List, [], ◌∷◌, ◌++◌, length, take, Option, Result, Ok, Err}
 use Rattle.std.specs.List.{flat_map, AllByRecursion}
 use Rattle.std.specs.Io.KnownBytes.{Consumes, Appends, IsAtEnd}
@@ -8,16 +8,18 @@ use Rattle.timer_script.specs.declared.fault.TurnFault.TheVariants as turns
 use Rattle.timer_script.specs.declared.fault.ServeFault.TheVariants as faults
 use Rattle.timer_script.specs.declared.cutter.OnBadLine.TheVariants.{Stop}
 use Rattle.timer_script.specs.Text.{lines_of, end_line}
+use Rattle.timer_script.specs.SavedText.{dump_text}
 use Rattle.timer_script.specs.ScriptRun.{IsAnswer}
-use Rattle.timer_script.specs.Decorator.{Decoration, HasAnsweredWithin, AreDecorated}
+use Rattle.timer_script.specs.Decorator.{Decoration, HasAnsweredWithin, AreDecorated, IsReadDecorated, AreDecoratedByReads}
 use Rattle.timer_script.specs.Cutter.{PassesEvents, AreSoFar, HasPassed, HasSeen, HasSeenPart, HasReachedEnd, IsStoppedAt, HasTakenIn}
-use Rattle.timer_script.specs.Peer.{PeerState, PeerCall, Came, Went, Flush, Grows}
+use Rattle.timer_script.specs.Peer.{PeerState, PeerCall, Came, Went, Flush, Told, Grows}
 
 -- the bytes that came from a peer in one call, and in all
 abbrev pub came_in : PeerCall → List ℕ
 came_in (Came bytes) = bytes
 came_in (Went bytes) = []
 came_in Flush = []
+came_in (Told text) = []
 
 abbrev pub came_of : List PeerCall → List ℕ
 came_of calls = flat_map came_in calls
@@ -27,6 +29,7 @@ abbrev pub gone_in : PeerCall → List ℕ
 gone_in (Came bytes) = []
 gone_in (Went bytes) = bytes
 gone_in Flush = []
+gone_in (Told text) = []
 
 abbrev pub gone_of : List PeerCall → List ℕ
 gone_of calls = flat_map gone_in calls
@@ -37,41 +40,47 @@ is_flushed flushed [] = flushed
 is_flushed flushed (Came bytes ∷ calls) = is_flushed flushed calls
 is_flushed flushed (Went bytes ∷ calls) = is_flushed false calls
 is_flushed flushed (Flush ∷ calls) = is_flushed true calls
+is_flushed flushed (Told text ∷ calls) = is_flushed flushed calls
 
 -- before each read what went so far answers what came so far, and it was flushed; a read gives few bytes, so
--- all lines are answered but those of the last ones
-abbrev pub IsPromptBy : (List ℕ → List ℕ → Type 0) → (came gone : List ℕ) → Bool → List PeerCall → Type 0
-IsPromptBy Answers came gone flushed [] = Unit {0}
-IsPromptBy Answers came gone flushed (Came bytes ∷ calls) =
+-- all lines are answered but those of the last ones. The same holds when a state is told, which is that after what came
+abbrev pub IsPromptBy : (Answers StateIs : List ℕ → List ℕ → Type 0) → (came gone : List ℕ) → Bool
+    → List PeerCall → Type 0
+IsPromptBy Answers StateIs came gone flushed [] = Unit {0}
+IsPromptBy Answers StateIs came gone flushed (Came bytes ∷ calls) =
     (flushed ≡ true) × Answers came gone × (length bytes ≤ PIECE)
-    × IsPromptBy Answers (came ++ bytes) gone flushed calls
-IsPromptBy Answers came gone flushed (Went bytes ∷ calls) =
-    IsPromptBy Answers came (gone ++ bytes) false calls
-IsPromptBy Answers came gone flushed (Flush ∷ calls) = IsPromptBy Answers came gone true calls
+    × IsPromptBy Answers StateIs (came ++ bytes) gone flushed calls
+IsPromptBy Answers StateIs came gone flushed (Went bytes ∷ calls) =
+    IsPromptBy Answers StateIs came (gone ++ bytes) false calls
+IsPromptBy Answers StateIs came gone flushed (Flush ∷ calls) = IsPromptBy Answers StateIs came gone true calls
+IsPromptBy Answers StateIs came gone flushed (Told text ∷ calls) =
+    (flushed ≡ true) × Answers came gone × StateIs came text × IsPromptBy Answers StateIs came gone flushed calls
 
 -- these bytes came from the peer and this text went to it, and before more was read the text so far was an
--- answer
-pub record HasTalkedBy (Answers : List ℕ → List ℕ → Type 0) (old new : PeerState) (came gone : List ℕ)
+-- answer; each state that it was told is the one after what came
+pub record HasTalkedBy (Answers StateIs : List ℕ → List ℕ → Type 0) (old new : PeerState) (came gone : List ℕ)
     (flushed : Bool) : Type 0 where
   pub calls : List PeerCall
   pub grows : Grows old.calls new.calls calls
   pub came_is : came_of calls ≡ came
   pub gone_is : gone_of calls ≡ gone
-  pub prompt : IsPromptBy Answers [] [] true calls
+  pub prompt : IsPromptBy Answers StateIs [] [] true calls
   pub flush : is_flushed true calls ≡ flushed
   pub read : Consumes old.remaining new.remaining came
   pub written : Appends old.contents new.contents gone
+  pub origin : new.origin ≡ old.origin
 
 -- neither a read nor a write failed
 pub record AreGood (peer : PeerState) : Type 0 where
   pub reading : peer.read_failed ≡ false
   pub writing : peer.write_failed ≡ false
 
--- the call is no read
+-- the call is a write or a flush
 abbrev pub IsWrite : PeerCall → Type 0
 IsWrite (Came bytes) = ⊥
 IsWrite (Went bytes) = Unit {0}
 IsWrite Flush = Unit {0}
+IsWrite (Told text) = ⊥
 
 -- the text was written, and nothing was read
 pub record HasWritten (old : PeerState) (text : List ℕ) (new : PeerState) : Type 0 where
@@ -82,6 +91,7 @@ pub record HasWritten (old : PeerState) (text : List ℕ) (new : PeerState) : Ty
   pub written : Appends old.contents new.contents text
   pub remaining : new.remaining ≡ old.remaining
   pub reading : new.read_failed ≡ old.read_failed
+  pub origin : new.origin ≡ old.origin
 
 -- the text was written, and it is flushed if what was written before is
 pub record HasSentText (old : PeerState) (text : List ℕ) (new : PeerState) : Type 0 where
@@ -121,6 +131,33 @@ pub record HasAnsweredPart (Adds : Decoration) (before : FacilityState) (events 
   pub begun : IsBegun Adds after rest last
   pub text_is : text ≡ decorated ++ last
 
+-- these are the events of one read, so what comes after it is there too
+pub record HasAnsweredRead (Adds : Decoration) (before : FacilityState) (events : List Event) (after : FacilityState)
+    (text : List ℕ) : Type 0 where
+  pub outs : List Out
+  pub runs : IsRun before events outs after
+  pub added : IsReadDecorated Adds before events after (lines_of outs) text
+
+-- these are the events of some reads, after each of which comes what does
+pub record HasAnsweredReads (Adds : Decoration) (before : FacilityState) (events : List Event) (after : FacilityState)
+    (text : List ℕ) : Type 0 where
+  pub outs : List Out
+  pub runs : IsRun before events outs after
+  pub added : AreDecoratedByReads Adds before events after (lines_of outs) text
+
+-- some reads are answered, and of the next one the first events, without what comes after a read
+pub record HasAnsweredSomeReads (Adds : Decoration) (before : FacilityState) (events : List Event) (text : List ℕ)
+    : Type 0 where
+  pub done : List Event
+  pub rest : List Event
+  pub parts : events ≡ done ++ rest
+  pub after : FacilityState
+  pub decorated : List ℕ
+  pub answered : HasAnsweredReads Adds before done after decorated
+  pub last : List ℕ
+  pub begun : HasAnsweredPart Adds after rest last
+  pub text_is : text ≡ decorated ++ last
+
 -- the end line of a facility
 abbrev pub last_line : FacilityState → List ℕ
 last_line s = end_line s.now (length s.pending)
@@ -150,30 +187,41 @@ pub record IsAnsweredWith (on_bad : OnBadLine) (Adds : Decoration) (before : Fac
   pub events : List Event
   pub after : FacilityState
   pub passes : PassesEvents on_bad came events
-  pub answered : HasAnsweredEvents Adds before events after gone
+  pub answered : HasAnsweredReads Adds before events after gone
 
--- before each read all complete lines so far have been answered, and the answers flushed
+-- the text is the dump of the state after the events that pass of these bytes
+pub record IsStateAfter (on_bad : OnBadLine) (before : FacilityState) (came text : List ℕ) : Type 0 where
+  pub events : List Event
+  pub passes : PassesEvents on_bad came events
+  pub outs : List Out
+  pub after : FacilityState
+  pub runs : IsRun before events outs after
+  pub text_is : text ≡ dump_text after
+
+-- before each read all complete lines so far have been answered, and the answers flushed; so they have when the peer
+-- is told the state, which is that after these lines
 abbrev pub IsPrompt : OnBadLine → Decoration → FacilityState → List PeerCall → Type 0
-IsPrompt on_bad Adds before = IsPromptBy (IsAnsweredWith on_bad Adds before) [] [] true
+IsPrompt on_bad Adds before = IsPromptBy (IsAnsweredWith on_bad Adds before) (IsStateAfter on_bad before) [] [] true
 
 -- these bytes came from the peer and this text went to it, each complete line that passes answered before more
--- was read
+-- was read, or a state was told
 abbrev pub HasTalked : {F : Type 0} → Server F → (old new : PeerState) → (came gone : List ℕ) → Bool → Type 0
-HasTalked server = HasTalkedBy (IsAnsweredWith server.on_bad server.Adds server.before)
+HasTalked server =
+    HasTalkedBy (IsAnsweredWith server.on_bad server.Adds server.before) (IsStateAfter server.on_bad server.before)
 
 -- these bytes came from the peer, and all that went to it is the answer to these events, with what is added, flushed
 pub record HasAnsweredSoFar (on_bad : OnBadLine) (Adds : Decoration) (before : FacilityState) (came : List ℕ)
     (events : List Event) (old new : PeerState) (after : FacilityState) : Type 0 where
   pub sent : List ℕ
-  pub talked : HasTalkedBy (IsAnsweredWith on_bad Adds before) old new came sent true
-  pub answered : HasAnsweredEvents Adds before events after sent
+  pub talked : HasTalkedBy (IsAnsweredWith on_bad Adds before) (IsStateAfter on_bad before) old new came sent true
+  pub answered : HasAnsweredReads Adds before events after sent
 
 -- the first of the events are answered, and the last of the text for them has not been sent
 pub record HasAnsweredSome (on_bad : OnBadLine) (Adds : Decoration) (before : FacilityState) (came : List ℕ)
     (events : List Event) (old new : PeerState) (unsent : List ℕ) (flushed : Bool) : Type 0 where
   pub sent : List ℕ
-  pub talked : HasTalkedBy (IsAnsweredWith on_bad Adds before) old new came sent flushed
-  pub answered : HasAnsweredPart Adds before events (sent ++ unsent)
+  pub talked : HasTalkedBy (IsAnsweredWith on_bad Adds before) (IsStateAfter on_bad before) old new came sent flushed
+  pub answered : HasAnsweredSomeReads Adds before events (sent ++ unsent)
 
 -- of the bytes that came from the peer events passed, and all of them are answered
 pub record HasServedWhole {F : Type 0} (server : Server F) (Passed : List ℕ → List Event → Type 0)
@@ -198,7 +246,7 @@ pub record HasAnsweredAll {F : Type 0} (server : Server F) (peer : PeerState) (e
   pub answer : List ℕ
   pub answered : IsAnswer server.before events answer
   pub decorated : List ℕ
-  pub added : AreDecorated server.Adds server.before events answered.after (lines_of answered.outs) decorated
+  pub added : AreDecoratedByReads server.Adds server.before events answered.after (lines_of answered.outs) decorated
   pub text_is : text ≡ decorated ++ last_line answered.after
 
 -- what serving did, by how it ended; in each case every complete line that passes was answered, and its answer
@@ -210,7 +258,7 @@ HasServedPeer server old new (Ok clean) = (came : List ℕ) × (events : List Ev
     × HasReachedEnd server.on_bad clean server.contents old.faults new.faults came events
     × HasAnsweredAll server new.peer events text × HasTalked server old.peer new.peer came text true
     × AreGood new.peer
--- a read failed, each complete line that came is answered, or was reported as above
+-- a read failed, or a state was not kept; each complete line that came is answered, or was reported as above
 HasServedPeer server old new (Err faults.Read) = (s : FacilityState)
     × HasServedWhole server (HasPassed server.on_bad AreSoFar server.contents old.faults new.faults) old.peer new.peer s
     × (new.peer.read_failed ≡ true) × (new.peer.write_failed ≡ false)
@@ -256,11 +304,27 @@ pub record HasSentBut (Is : List ℕ → Type 0) (unsent : List ℕ) (flushed : 
 abbrev pub StopsTurn : Decoration → TurnFault → List Event → FacilityState → (old new : PeerState) → Type 0
 -- out of memory: all the text so far was sent
 StopsTurn Adds turns.OutOfMemory events s old new =
-    HasSentBut (HasAnsweredPart Adds s events) [] true old new × AreGood new
+    HasSentBut (HasAnsweredSomeReads Adds s events) [] true old new × AreGood new
 -- a write failed
 StopsTurn Adds turns.Write events s old new = (unsent : List ℕ) × (flushed : Bool)
-    × HasSentBut (HasAnsweredPart Adds s events) unsent flushed old new
+    × HasSentBut (HasAnsweredSomeReads Adds s events) unsent flushed old new
     × (new.read_failed ≡ false) × (new.write_failed ≡ true)
+
+-- the peer was told this state, or it was not; nothing was read or written
+pub record HasTold (text : List ℕ) (old new : PeerState) : Type 0 where
+  pub calls : List PeerCall
+  pub grows : Grows old.calls new.calls calls
+  pub told : (calls ≡ []) ⊎ (calls ≡ Told text ∷ [])
+  pub remaining : new.remaining ≡ old.remaining
+  pub contents : new.contents ≡ old.contents
+  pub origin : new.origin ≡ old.origin
+
+-- why it was not: it failed, or out of memory, and then it was not called
+abbrev pub StopsTelling : ServeFault → List ℕ → (old new : PeerState) → Type 0
+StopsTelling faults.Read text old new =
+    HasTold text old new × (new.read_failed ≡ true) × (new.write_failed ≡ false)
+StopsTelling faults.OutOfMemory text old new = new ≡ old
+StopsTelling _ text old new = ⊥
 
 -- the bytes that came were taken in, and the events that passed are answered
 pub record HasServedSoFar {F : Type 0} (server : Server F) (cutter : Cutter) (old new : Sides F) (state : FacilityState)

@@ -8,6 +8,7 @@ use Rattle.timer_script.specs.Peer.{PeerState}
 abbrev pub streams_state : {R S : Type 0} → (R → Option (List ℕ)) → (S → Option (List ℕ)) → Watched R
     → Watched S → PeerState
 streams_state remaining contents reader writer = record {
+  origin = None;
   remaining = remaining (inner_of reader);
   contents = contents (inner_of writer);
   calls = None;

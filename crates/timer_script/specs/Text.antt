@@ -1,11 +1,13 @@
 -- The text that answers a script: one line for each out, and the end line.
-use Rattle.std.specs.Prelude.{ℕ, List, [], ◌∷◌, ◌++◌, codes, decimal}
+use Rattle.std.specs.Prelude.{ℕ, ◌-◌, List, [], ◌∷◌, ◌++◌, codes, decimal}
 use Rattle.std.specs.List.{flat_map}
 use Rattle.timer_script.specs.Types.{Reason, NotTaken, TickFault, Out, Started, Stopped, Restarted, Refused, Expired, Returned}
 use Rattle.timer_facility.specs.declared.request.Reason.TheVariants as reason
 use Rattle.timer_facility.specs.declared.request.NotTaken.TheVariants as refusal
 use Rattle.timer_facility.specs.declared.request.TickFault.TheVariants as fault
 use Rattle.timer_facility.specs.declared.event.Out.TheVariants as out
+use Rattle.timer_facility.specs.declared.saved.StateLine.{StateLine}
+use Rattle.timer_facility.specs.declared.saved.StateLine.TheVariants as saved
 
 -- the word for a refusal of a request that was taken
 abbrev pub reason_word : Reason → List ℕ
@@ -33,6 +35,14 @@ fault_word fault.ClockEnd = codes "clock-end"
 abbrev pub numbers : List ℕ → List ℕ
 numbers all = flat_map (λ n. 32 ∷ decimal n) all
 
+-- a line of a dump: of serials and of request numbers it says how many were used
+abbrev pub state_line : StateLine → List ℕ
+state_line (saved.Open now next_serial) = codes "state open" ++ numbers (now ∷ (next_serial - 1) ∷ []) ++ codes "\n"
+state_line (saved.Closed now next_serial) = codes "state closed" ++ numbers (now ∷ (next_serial - 1) ∷ []) ++ codes "\n"
+state_line (saved.Number client next) = codes "number" ++ numbers (client ∷ (next - 1) ∷ []) ++ codes "\n"
+state_line (saved.Pending t) = codes "timer" ++ numbers (t.serial ∷ t.client ∷ t.number ∷ t.deadline ∷ t.action ∷ []) ++ codes "\n"
+state_line (saved.End pending) = codes "state end" ++ numbers (pending ∷ []) ++ codes "\n"
+
 -- the line of an out, with its line feed
 abbrev pub out_line : Out → List ℕ
 out_line (out.Answered client number (Started handle deadline)) =
@@ -52,6 +62,7 @@ out_line (out.Notice (Returned t)) = codes "returned"
 out_line (out.TickRefused why) = codes "tick refused " ++ fault_word why ++ codes "\n"
 out_line (out.Closed count) = codes "closed" ++ numbers (count ∷ []) ++ codes "\n"
 out_line out.CloseRefused = codes "close refused closed\n"
+out_line (out.Dumped line) = state_line line
 
 -- the end line: the tick, and how many timers are pending
 abbrev pub end_line : ℕ → ℕ → List ℕ

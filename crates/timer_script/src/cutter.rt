@@ -11,12 +11,13 @@
 ghost use Rattle.std.specs.Prelude.{◌≡◌, ◌↔◌, ◌<◌, ◌≤◌, ◌++◌, ◌∷◌, [], ℕ, List, length, take, true, IfOk, IfErr, OnOk, OnErr};
 ghost use Rattle.timer_script.specs.Types.{Event, OnBadLine, Watched, MAX_LINE};
 ghost use Rattle.timer_script.specs.Script.{HasNoFeed};
+ghost use Rattle.timer_script.specs.Lines.{read_view, stream_at};
 ghost use Rattle.timer_script.specs.Cutter.{Complaint, complaint_line, HasEndedLine, StopsLine, HasSorted, HasSortedSince, StopsAt, HasReported, HasReachedEnd, HasTakenIn, UnlessStopped};
 
 use crate::diagnosis::fault_of_bad;
 use crate::fault::ScriptFault;
 use crate::line_fault::LineFault;
-use crate::lines::{Grammar, MAX_LINE, line_len, read_stream_line};
+use crate::lines::{Grammar, MAX_LINE, line_len, read_line, read_stream_line};
 use crate::output::write_text;
 use crate::script_report::push_fault;
 use crate::watched::Watched;
@@ -56,6 +57,26 @@ fn push_complaint(reports: &mut Vec<u8>, number: u64, fault: LineFault) -> Resul
 {
     reports.extend_from_slice(b"bad ")?;
     push_fault(reports, number, fault)?;
+    Ok(())
+}
+
+/// The event of a line of a stream. Not inlined: it comes through memory, and the lines of a script are not to wait.
+#[inline(never)]
+fn read_apart(bytes: &[u8]) -> Option<(Event, &[u8])>
+    ensures { read_view (λ e. e) result ≡ stream_at bytes.now }
+{
+    read_stream_line(bytes)
+}
+
+/// Appends an event. A close has no fields, and none are written for it.
+#[inline(always)]
+fn push_event(events: &mut Vec<Event>, event: Event) -> Result<(), OutOfMemory>
+    ensures { OnOk result (events.new.items ≡ events.old.items ++ event ∷ []) }
+{
+    match event {
+        Event::Close => events.push(Event::Close)?,
+        _ => events.push(event)?,
+    }
     Ok(())
 }
 
@@ -194,9 +215,60 @@ impl Cutter {
         self.reports.clear();
         let mut taken = 0;
         while taken < piece.len() {
-            taken += self.take_line(&piece[taken..])?;
+            taken += self.take_lines(&piece[taken..])?;
         }
         Ok(())
+    }
+
+    /// Consumes the good lines at the front, or else bytes up to the end of a line, and returns how many.
+    fn take_lines(&mut self, bytes: &[u8]) -> Result<usize, ScriptFault>
+        requires some { 0 < length bytes.now }
+        ensures some { IfOk result (λ n. 0 < n) }
+        ensures within { IfOk result (λ n. n ≤ length bytes.now) }
+        ensures cut { IfOk result (λ n. (on_bad : OnBadLine) (came : List ℕ) (events : List Event)
+            (bad : List Complaint) → HasSortedSince on_bad self.old came events bad
+            → HasSortedSince on_bad self.new (came ++ take n bytes.now) events bad) }
+        ensures stopped { IfErr result (λ fault. (on_bad : OnBadLine) (came : List ℕ) (events : List Event)
+            (bad : List Complaint) → HasSortedSince on_bad self.old came events bad
+            → StopsAt fault on_bad (came ++ bytes.now) (events ++ self.new.events.items)) }
+        ensures clean { self.new.clean ≡ self.old.clean }
+    {
+        let len = self.take_good_lines(bytes)?;
+        if len > 0 {
+            return Ok(len);
+        }
+        self.take_line(bytes)
+    }
+
+    /// Consumes the good lines at the front, unless the front of a line is held, and returns how many bytes they take.
+    /// They are read in place.
+    fn take_good_lines(&mut self, bytes: &[u8]) -> Result<usize, OutOfMemory>
+        ensures within { IfOk result (λ n. n ≤ length bytes.now) }
+        ensures cut { IfOk result (λ n. (on_bad : OnBadLine) (came : List ℕ) (events : List Event)
+            (bad : List Complaint) → HasSortedSince on_bad self.old came events bad
+            → HasSortedSince on_bad self.new (came ++ take n bytes.now) events bad) }
+        ensures clean { self.new.clean ≡ self.old.clean }
+    {
+        if !self.held.is_empty() {
+            return Ok(0);
+        }
+        let before = self.events.len();
+        let mut rest = bytes;
+        while !rest.is_empty() {
+            if let Some((event, after)) = read_line(rest) {
+                push_event(&mut self.events, event)?;
+                rest = after;
+                continue;
+            }
+            let Some((event, after)) = read_apart(rest) else {
+                break;
+            };
+            self.events.push(event)?;
+            rest = after;
+        }
+        let taken = (self.events.len() - before) as u64;
+        self.number = self.number.saturating_add(taken);
+        Ok(bytes.len() - rest.len())
     }
 
     /// Consumes bytes up to the end of a line, and returns how many.

@@ -1,11 +1,11 @@
-//! What a server writes beside the answers: text after the answer to a line.
+//! What a server writes beside the answers: text after the answer to a line, and after the lines of one read.
 //!
 //!     Undecorated    started 0 1 1 4
 //!
 //!     one that       started 0 1 1 4
 //!     shows ticks      now 0
 ghost use Rattle.std.specs.Prelude.{OnOk};
-ghost use Rattle.timer_script.specs.Decorator.{Decoration, IsLawful, HasGrown, HasGrownAfter, HasGrownWithin};
+ghost use Rattle.timer_script.specs.Decorator.{Decoration, IsLawful, HasGrown, HasGrownAfter, HasGrownAfterRead, HasGrownWithin};
 
 use timer_base::{OutOfMemory, Wheel};
 use timer_facility::Facility;
@@ -13,7 +13,8 @@ use timer_facility::Facility;
 /// Adds text to answers.
 pub trait Decorator<W: Wheel + Drop> {
     /// What comes after the answer to a line, by the serial of the first timer that the line could start and the
-    /// facility's state at that place, and what may stand after the steps of its ticks.
+    /// facility's state at that place; what may stand after the steps of its ticks; and what comes once all lines of a
+    /// read were played.
     ghost adds: { Self → Decoration };
 
     /// Whether the text for each line is written before the next line is played. If not, that for all lines
@@ -29,6 +30,11 @@ pub trait Decorator<W: Wheel + Drop> {
         facility: &Facility<W>,
     ) -> Result<(), OutOfMemory>
         ensures added { OnOk result (HasGrownAfter (adds self.now) serial facility.now.state text.old.items text.new.items) }
+        ensures kept { HasGrown text.old.items text.new.items };
+
+    /// Appends what comes after the lines of one read, of which at least one was played. The only error is out of memory.
+    fn decorate_read(&self, text: &mut Vec<u8>, facility: &Facility<W>) -> Result<(), OutOfMemory>
+        ensures added { OnOk result (HasGrownAfterRead (adds self.now) facility.now.state text.old.items text.new.items) }
         ensures kept { HasGrown text.old.items text.new.items };
 
     /// Whether the ticks of a line are played in steps, and what comes after each of them is added. A step ends at
@@ -81,5 +87,13 @@ impl<W: Wheel + Drop> Decorator<W> for Undecorated {
         Ok(())
     }
 
-    ghost is_lawful = { λ decorator. after_is_lawful IsNothing };
+    fn decorate_read(
+        &self,
+        _text: &mut Vec<u8>,
+        _facility: &Facility<W>,
+    ) -> Result<(), OutOfMemory> {
+        Ok(())
+    }
+
+    ghost is_lawful = { λ decorator. after_is_lawful IsNothing IsNothing };
 }

@@ -91,7 +91,7 @@ impl From<timer_base::OutOfMemory> for TurnFault {
 /// Why serving ended early. Its text is the line that the user is shown.
 #[derive(Clone, Copy, Debug, PartialEq, Eq, Error)]
 pub enum ServeFault {
-    /// A read failed.
+    /// A read failed, or the peer did not keep a state that it was told.
     #[error("read failed")]
     Read,
     /// The first bad line, counted from 1 (2^64 - 1 stands for any later one).

@@ -12,9 +12,9 @@ ghost use Rattle.std.specs.Int.{from_le_bytes, w32};
 ghost use Rattle.std.specs.Str.Parse.{AllDigits, digits_value};
 ghost use Rattle.timer_script.specs.declared.lines.TheConstants.{MOST_DIGITS};
 ghost use Rattle.timer_script.specs.Script.{HasNoFeed};
-ghost use Rattle.timer_script.specs.Lines.{read_view, has_word, number_at, field_at, tick_count_at, other_at, line_at, own_line_at, stream_at, line_in};
+ghost use Rattle.timer_script.specs.Lines.{read_view, has_word, number_at, field_at, tick_count_at, other_at, line_at, other_own_at, own_line_at, stream_at, line_in};
 // made by tools/facts: imports of readers
-ghost use Rattle.timer_script.specs.Lines.{start_at, stop_at, restart_at, tick_at, close_at, at_line_at, start_at_line_at, restart_at_line_at};
+ghost use Rattle.timer_script.specs.Lines.{start_at, stop_at, restart_at, tick_at, close_at, at_line_at, start_at_line_at, restart_at_line_at, state_line_at};
 
 use timer_base::LAST;
 use timer_facility::Event;
@@ -81,7 +81,7 @@ fn read_number(bytes: &[u8]) -> Option<(u64, &[u8])>
 /// A number, and what follows the byte that ends its field.
 #[inline(always)]
 #[tactic(auto, using(crate::proofs::LineLemmas::bytes_of_fields), unfolding(crate::specs::Lines::field_at))]
-fn read_field(bytes: &[u8], end: u8) -> Option<(u64, &[u8])>
+pub fn read_field(bytes: &[u8], end: u8) -> Option<(u64, &[u8])>
     ensures { read_view (λ n. n) result ≡ field_at end bytes.now }
 {
     let (value, rest) = read_number(bytes)?;
@@ -128,7 +128,7 @@ fn has_word(bytes: &[u8], word: &[u8]) -> bool
 
 /// Whether the bytes begin with this word, however short it is.
 #[tactic(auto, unfolding(crate::specs::Lines::has_word))]
-fn has_short_word(bytes: &[u8], word: &[u8]) -> bool
+pub fn has_short_word(bytes: &[u8], word: &[u8]) -> bool
     ensures value { result ≡ has_word word.now bytes.now }
     ensures within { IsTrue result → length word.now ≤ length bytes.now }
 {
@@ -265,6 +265,16 @@ fn read_restart_at(bytes: &[u8]) -> Option<(Event, &[u8])>
     Some((event, rest))
 }
 
+/// The event of a line, from what follows `state\n`.
+#[inline(never)]
+#[tactic(auto, unfolding(crate::specs::Lines::state_line_at))]
+fn read_state(bytes: &[u8]) -> Option<(Event, &[u8])>
+    ensures { read_view (λ e. e) result ≡ state_line_at bytes.now }
+{
+    let event = Event::Dump;
+    Some((event, bytes))
+}
+
 // by hand
 /// The event of a line whose word is read by a call. Inlined as a function of its own, so that the results of its calls
 /// take no time in lines of other kinds. With all readers in place, `read_line` would be too large to be inlined.
@@ -305,6 +315,19 @@ pub fn read_line(bytes: &[u8]) -> Option<(Event, &[u8])>
     read_other(bytes)
 }
 
+/// The event of another line of a stream alone.
+#[tactic(auto, unfolding(crate::specs::Lines::other_own_at))]
+fn read_other_own(bytes: &[u8]) -> Option<(Event, &[u8])>
+    ensures { read_view (λ e. e) result ≡ other_own_at bytes.now }
+{
+    // made by tools/facts: other words of a stream
+    if has_short_word(bytes, b"state\n") {
+        return read_state(&bytes[6..]);
+    }
+    // by hand
+    None
+}
+
 /// The event of a line of a stream alone.
 #[inline(never)]
 #[tactic(auto, unfolding(crate::specs::Lines::own_line_at))]
@@ -322,7 +345,7 @@ fn read_own_line(bytes: &[u8]) -> Option<(Event, &[u8])>
         return read_restart_at(&bytes[11..]);
     }
     // by hand
-    None
+    read_other_own(bytes)
 }
 
 /// The event whose line is at the front of a stream, and the bytes after the line.

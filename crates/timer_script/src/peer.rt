@@ -1,9 +1,10 @@
 //! What a server talks with: it reads from it, writes to it, and flushes what it wrote.
 //!
 //! A reader and a writer alone cannot say in which order they were called. A peer is both, so a
-//! contract over it can say that an answer was flushed before more was read.
+//! contract over it can say that an answer was flushed before more was read. A peer that keeps what came can be
+//! told the state from time to time, to keep that in its place.
 ghost use Rattle.std.specs.Prelude.{Option, List, ℕ};
-ghost use Rattle.timer_script.specs.Peer.{PeerState, Gives, Takes, Flushes};
+ghost use Rattle.timer_script.specs.Peer.{PeerState, Gives, Takes, Flushes, KeepsState};
 
 use std::io;
 
@@ -23,4 +24,11 @@ pub trait Peer {
     /// Flushes what was written.
     fn flush(&mut self) -> io::Result<()>
         ensures { Flushes (state self.old) result (state self.new) };
+
+    /// Whether it wants to be told the state before it is read again.
+    fn wants_state(&self) -> bool;
+
+    /// Keeps the state after all that came: the lines of a dump. An error counts as that of a read.
+    fn keep_state(&mut self, text: &[u8]) -> io::Result<()>
+        ensures { KeepsState (state self.old) result text.now (state self.new) };
 }

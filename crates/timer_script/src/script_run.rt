@@ -10,6 +10,7 @@ ghost use Rattle.std.specs.Prelude.{◌≡◌, ◌↔◌, ◌∷◌, ℕ, [], fa
 ghost use Rattle.timer_facility.specs.declared.event.Event.{Event};
 ghost use Rattle.timer_script.specs.Script.{IsFault};
 ghost use Rattle.timer_script.specs.ScriptRun.{AddsLines, HasPlayedLines, IsAnswerTo, HasRun};
+ghost use Rattle.timer_script.specs.Decorator.{HasGrown};
 ghost use Rattle.timer_script.specs.Watched.{has_failed};
 
 use crate::fault::{RunFault, ScriptFault};
@@ -28,17 +29,19 @@ use timer_facility::{Event, Facility, Out, Player};
 const GROWTH: usize = 4;
 
 /// Plays an event, and adds the line of each of its outs to the text. `outs` is a scratch buffer,
-/// reused. Inlined, so that the event need not be in memory; what plays an event of each kind is a call.
+/// reused. Inlined, so that an event that was just read need not be in memory, and of one that is there only the fields
+/// of its kind are read; what plays an event of each kind is a call.
 #[inline(always)]
 pub fn play_event<W: Wheel + Drop>(
     player: &mut Player<W>,
-    event: Event,
+    event: &Event,
     outs: &mut Vec<Out>,
     text: &mut Vec<u8>,
 ) -> Result<(), OutOfMemory>
-    ensures { OnOk result (AddsLines player.old (event ∷ []) text.old.items text.new.items player.new) }
+    ensures lines { OnOk result (AddsLines player.old (event.now ∷ []) text.old.items text.new.items player.new) }
+    ensures kept { HasGrown text.old.items text.new.items }
 {
-    match event {
+    match *event {
         Event::Start {
             client,
             number,
@@ -59,9 +62,11 @@ pub fn play_event<W: Wheel + Drop>(
         } => answer_restart(player, client, number, serial, interval, action, text),
         Event::Ticks { count } => answer_ticks(player, count, outs, text),
         Event::Close => answer_close(player, outs, text),
-        // The lines of a stream alone. In a script they don't come.
-        Event::StartAt { .. } | Event::RestartAt { .. } | Event::TicksTo { .. } => {
-            answer_outs(player, event, outs, text)
+        // The lines of a stream alone. In a script they don't come. A copy is handed on: the event itself would be in
+        // memory for each line.
+        Event::StartAt { .. } | Event::RestartAt { .. } | Event::TicksTo { .. } | Event::Dump => {
+            let copy = *event;
+            answer_outs(player, copy, outs, text)
         }
     }
 }
@@ -76,8 +81,9 @@ fn answer_start<W: Wheel + Drop>(
     action: u64,
     text: &mut Vec<u8>,
 ) -> Result<(), OutOfMemory>
-    ensures { OnOk result (AddsLines player.old (Event.Start client number interval action ∷ [])
+    ensures lines { OnOk result (AddsLines player.old (Event.Start client number interval action ∷ [])
         text.old.items text.new.items player.new) }
+    ensures kept { HasGrown text.old.items text.new.items }
 {
     let out = player.play_start(client, number, interval, action)?;
     push_out(text, &out)
@@ -92,8 +98,9 @@ fn answer_stop<W: Wheel + Drop>(
     serial: u64,
     text: &mut Vec<u8>,
 ) -> Result<(), OutOfMemory>
-    ensures { OnOk result (AddsLines player.old (Event.Stop client number serial ∷ [])
+    ensures lines { OnOk result (AddsLines player.old (Event.Stop client number serial ∷ [])
         text.old.items text.new.items player.new) }
+    ensures kept { HasGrown text.old.items text.new.items }
 {
     let out = player.play_stop(client, number, serial);
     push_out(text, &out)
@@ -110,8 +117,9 @@ fn answer_restart<W: Wheel + Drop>(
     action: u64,
     text: &mut Vec<u8>,
 ) -> Result<(), OutOfMemory>
-    ensures { OnOk result (AddsLines player.old (Event.Restart client number serial interval action ∷ [])
+    ensures lines { OnOk result (AddsLines player.old (Event.Restart client number serial interval action ∷ [])
         text.old.items text.new.items player.new) }
+    ensures kept { HasGrown text.old.items text.new.items }
 {
     let out = player.play_restart(client, number, serial, interval, action)?;
     push_out(text, &out)
@@ -125,7 +133,8 @@ fn answer_ticks<W: Wheel + Drop>(
     outs: &mut Vec<Out>,
     text: &mut Vec<u8>,
 ) -> Result<(), OutOfMemory>
-    ensures { OnOk result (AddsLines player.old (Event.Ticks count ∷ []) text.old.items text.new.items player.new) }
+    ensures lines { OnOk result (AddsLines player.old (Event.Ticks count ∷ []) text.old.items text.new.items player.new) }
+    ensures kept { HasGrown text.old.items text.new.items }
 {
     answer_outs(player, Event::Ticks { count }, outs, text)
 }
@@ -137,7 +146,8 @@ fn answer_close<W: Wheel + Drop>(
     outs: &mut Vec<Out>,
     text: &mut Vec<u8>,
 ) -> Result<(), OutOfMemory>
-    ensures { OnOk result (AddsLines player.old (Event.Close ∷ []) text.old.items text.new.items player.new) }
+    ensures lines { OnOk result (AddsLines player.old (Event.Close ∷ []) text.old.items text.new.items player.new) }
+    ensures kept { HasGrown text.old.items text.new.items }
 {
     if let Some(out) = player.refused_close() {
         return push_out(text, &out);
@@ -152,7 +162,8 @@ fn answer_first_close<W: Wheel + Drop>(
     outs: &mut Vec<Out>,
     text: &mut Vec<u8>,
 ) -> Result<(), OutOfMemory>
-    ensures { OnOk result (AddsLines player.old (Event.Close ∷ []) text.old.items text.new.items player.new) }
+    ensures lines { OnOk result (AddsLines player.old (Event.Close ∷ []) text.old.items text.new.items player.new) }
+    ensures kept { HasGrown text.old.items text.new.items }
 {
     answer_outs(player, Event::Close, outs, text)
 }
@@ -164,7 +175,8 @@ fn answer_outs<W: Wheel + Drop>(
     outs: &mut Vec<Out>,
     text: &mut Vec<u8>,
 ) -> Result<(), OutOfMemory>
-    ensures { OnOk result (AddsLines player.old (event ∷ []) text.old.items text.new.items player.new) }
+    ensures lines { OnOk result (AddsLines player.old (event ∷ []) text.old.items text.new.items player.new) }
+    ensures kept { HasGrown text.old.items text.new.items }
 {
     outs.clear();
     player.play_one(event, outs)?;
@@ -189,7 +201,7 @@ fn play_lines<W: Wheel + Drop>(
         let Some((event, after)) = read_line(rest) else {
             return Err(ScriptFault::Bad { line: lines + 1 });
         };
-        play_event(player, event, &mut outs, text)?;
+        play_event(player, &event, &mut outs, text)?;
         lines += 1;
         rest = after;
     }

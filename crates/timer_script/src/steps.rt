@@ -83,6 +83,6 @@ fn play_step<W: Wheel + Drop, D: Decorator<W>>(
     ensures kept { HasGrown text.old.items text.new.items }
 {
     let before = decorator.before_step(session.player.facility());
-    session.play_one(Event::Ticks { count }, text)?;
+    session.play_one(&Event::Ticks { count }, text)?;
     decorator.decorate_step(before, text, session.player.facility())
 }

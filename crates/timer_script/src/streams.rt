@@ -1,6 +1,6 @@
 //! A reader and a writer, as the two directions of a peer.
 ghost use Rattle.std.specs.Prelude.{◌≡◌, false};
-ghost use Rattle.timer_script.specs.Peer.{PeerState, Gives, Takes, Flushes};
+ghost use Rattle.timer_script.specs.Peer.{PeerState, Gives, Takes, Flushes, KeepsState};
 ghost use Rattle.timer_script.specs.Streams.{streams_state};
 ghost use Rattle.timer_script.specs.Watched.{inner_of, has_failed};
 
@@ -44,5 +44,13 @@ impl<R: Read, S: Write> Peer for Streams<R, S> {
 
     fn flush(&mut self) -> io::Result<()> {
         self.writer.flush()
+    }
+
+    fn wants_state(&self) -> bool {
+        false
+    }
+
+    fn keep_state(&mut self, _text: &[u8]) -> io::Result<()> {
+        Ok(())
     }
 }

@@ -10,18 +10,25 @@
 //!     returned CLIENT SERIAL DEADLINE ACTION    a timer was returned by the close
 //!     tick refused REASON                       a tick was refused
 //!     close refused closed                      the facility had been closed before
+//!     state open NOW SERIALS                    the state: the tick, and how many serials were used
+//!     state closed NOW SERIALS                  the same of a closed facility
+//!     number CLIENT NUMBERS                     how many request numbers a client has used
+//!     timer SERIAL CLIENT NUMBER DEADLINE ACTION
+//!                                               a pending timer
+//!     state end PENDING                         the last line of the state
 //!     end NOW PENDING                           the tick and the number of pending timers at the end
 //!
 //! The text is built in one `Vec`, with no formatting machinery for each line.
 ghost use Rattle.std.specs.Prelude.{◌≡◌, ◌≤◌, ◌+◌, ◌∷◌, [], ◌++◌, length, drop, IfOk, OnOk, codes, decimal};
 ghost use Rattle.timer_script.specs.declared.text.TheConstants.{MAX_NUMBERS, MAX_DIGITS, MAX_WORD};
 ghost use Rattle.std.specs.List.{flat_map};
-ghost use Rattle.timer_script.specs.Text.{numbers, reason_word, refusal_word, fault_word, out_line, end_line, text};
+ghost use Rattle.timer_script.specs.Decorator.{HasGrown};
+ghost use Rattle.timer_script.specs.Text.{numbers, reason_word, refusal_word, fault_word, state_line, out_line, end_line, text};
 
 use itoa::write_digits;
 use std::alloc::Global;
 use timer_base::OutOfMemory;
-use timer_facility::{Answer, NotTaken, Notice, Out, Reason, TickFault};
+use timer_facility::{Answer, NotTaken, Notice, Out, Reason, StateLine, TickFault};
 
 /// The word for a refusal of a request that was taken.
 fn reason_of(reason: Reason) -> &'static [u8]
@@ -109,7 +116,8 @@ fn put_word(word: &[u8], buffer: &mut [u8], end: usize) -> usize
 #[inline(always)]
 fn push_words(out: &mut Vec<u8>, word: &[u8], all: &[u64], last: u8) -> Result<(), OutOfMemory>
     requires { (length word.now ≤ MAX_WORD) × (length all.now ≤ MAX_NUMBERS) }
-    ensures { OnOk result (out.new.items ≡ out.old.items ++ word.now ++ numbers all.now ++ last ∷ []) }
+    ensures text { OnOk result (out.new.items ≡ out.old.items ++ word.now ++ numbers all.now ++ last ∷ []) }
+    ensures kept { HasGrown out.old.items out.new.items }
 {
     let mut buffer = [0u8; ROOM];
     let mut at = ROOM - 1;
@@ -128,7 +136,8 @@ fn push_words(out: &mut Vec<u8>, word: &[u8], all: &[u64], last: u8) -> Result<(
 #[inline(always)]
 fn push_line(out: &mut Vec<u8>, word: &[u8], all: &[u64]) -> Result<(), OutOfMemory>
     requires { (length word.now ≤ MAX_WORD) × (length all.now ≤ MAX_NUMBERS) }
-    ensures { OnOk result (out.new.items ≡ out.old.items ++ word.now ++ numbers all.now ++ codes "\n") }
+    ensures text { OnOk result (out.new.items ≡ out.old.items ++ word.now ++ numbers all.now ++ codes "\n") }
+    ensures kept { HasGrown out.old.items out.new.items }
 {
     push_words(out, word, all, b'\n')
 }
@@ -142,8 +151,9 @@ fn push_refused(
     reason: &[u8],
 ) -> Result<(), OutOfMemory>
     requires { (length word.now ≤ MAX_WORD) × (length all.now ≤ MAX_NUMBERS) }
-    ensures { OnOk result (out.new.items ≡ out.old.items ++ word.now ++ numbers all.now ++ codes " "
+    ensures text { OnOk result (out.new.items ≡ out.old.items ++ word.now ++ numbers all.now ++ codes " "
         ++ reason.now ++ codes "\n") }
+    ensures kept { HasGrown out.old.items out.new.items }
 {
     push_words(out, word, all, b' ')?;
     out.extend_from_slice(reason)?;
@@ -162,8 +172,9 @@ fn push_answer(
     number: u64,
     answer: &Answer,
 ) -> Result<(), OutOfMemory>
-    ensures { OnOk result (text.new.items
+    ensures text { OnOk result (text.new.items
         ≡ text.old.items ++ out_line (Out.Answered client number answer.now)) }
+    ensures kept { HasGrown text.old.items text.new.items }
 {
     match answer {
         Answer::Started { handle, deadline } => push_line(
@@ -187,10 +198,42 @@ fn push_answer(
     }
 }
 
+/// Writes one line of a dump. Of serials and of request numbers it says how many were used.
+#[inline(never)]
+pub fn push_state_line(text: &mut Vec<u8>, line: &StateLine) -> Result<(), OutOfMemory>
+    ensures text { OnOk result (text.new.items ≡ text.old.items ++ state_line line.now) }
+    ensures kept { HasGrown text.old.items text.new.items }
+{
+    match line {
+        StateLine::Open { now, next_serial } => push_line(
+            text,
+            b"state open",
+            &[*now, next_serial.saturating_sub(1)],
+        ),
+        StateLine::Closed { now, next_serial } => push_line(
+            text,
+            b"state closed",
+            &[*now, next_serial.saturating_sub(1)],
+        ),
+        StateLine::Number { client, next } => push_line(
+            text,
+            b"number",
+            &[*client, next.saturating_sub(1)],
+        ),
+        StateLine::Pending(t) => push_line(
+            text,
+            b"timer",
+            &[t.serial, t.client, t.number, t.deadline, t.action],
+        ),
+        StateLine::End { pending } => push_line(text, b"state end", &[*pending]),
+    }
+}
+
 /// Writes one out as its line. Inlined, so that an out of which the kind is known need not be in memory.
 #[inline(always)]
 pub fn push_out(text: &mut Vec<u8>, out: &Out) -> Result<(), OutOfMemory>
-    ensures { OnOk result (text.new.items ≡ text.old.items ++ out_line out.now) }
+    ensures text { OnOk result (text.new.items ≡ text.old.items ++ out_line out.now) }
+    ensures kept { HasGrown text.old.items text.new.items }
 {
     match out {
         Out::Answered {
@@ -224,12 +267,14 @@ pub fn push_out(text: &mut Vec<u8>, out: &Out) -> Result<(), OutOfMemory>
             text.extend_from_slice(b"close refused closed\n")?;
             Ok(())
         }
+        Out::Dumped(line) => push_state_line(text, line),
     }
 }
 
 /// Writes each out as its line.
 pub fn push_outs(text: &mut Vec<u8>, outs: &[Out]) -> Result<(), OutOfMemory>
-    ensures { OnOk result (text.new.items ≡ text.old.items ++ flat_map out_line outs.now) }
+    ensures text { OnOk result (text.new.items ≡ text.old.items ++ flat_map out_line outs.now) }
+    ensures kept { HasGrown text.old.items text.new.items }
 {
     for out in outs {
         push_out(text, out)?;

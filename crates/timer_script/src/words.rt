@@ -1,7 +1,7 @@
 //! The words that begin lines, and the fields that follow them.
 ghost use Rattle.std.specs.Prelude.{◌≡◌, ◌≤◌, None, IfSome, length, slice_index};
 ghost use Rattle.timer_script.specs.Types.{Grammar};
-ghost use Rattle.timer_script.specs.Script.{IsScriptWord, IsStreamWord, IsWord};
+ghost use Rattle.timer_script.specs.Script.{IsScriptWord, IsTickWord, IsStreamWord, IsWord};
 ghost use Rattle.timer_script.specs.Diagnosis.{IsLetter, AreBytesBefore};
 
 use crate::line_fault::Field;
@@ -43,6 +43,9 @@ static RESTART_AT: [Field; 5] = [
     Field::Deadline,
     Field::Action,
 ];
+
+/// The fields of `state`.
+static STATE: [Field; 0] = [];
 
 // by hand
 /// How many bytes at the front are such as words have.
@@ -95,8 +98,19 @@ fn fields_in_stream(word: &[u8]) -> Option<&'static [Field]>
     ensures some { IfSome result (λ _. IsStreamWord word.now) }
     ensures none { result ≡ None → ¬ (IsStreamWord word.now) }
 {
+    if word == b"state".as_slice() {
+        return Some(&STATE);
+    }
+    fields_by_tick(word)
+}
+
+/// Those of a word that begins a line by tick.
+fn fields_by_tick(word: &[u8]) -> Option<&'static [Field]>
+    ensures some { IfSome result (λ _. IsTickWord word.now) }
+    ensures none { result ≡ None → ¬ (IsTickWord word.now) }
+{
     match word {
-        // made by tools/facts: words of lines of a stream
+        // made by tools/facts: words of lines by tick
         b"at" => Some(&AT),
         b"start-at" => Some(&START_AT),
         b"restart-at" => Some(&RESTART_AT),
@@ -138,6 +152,7 @@ fn known_in_stream(line: &[u8]) -> usize
     common_len(line, b"at")
         .max(common_len(line, b"start-at"))
         .max(common_len(line, b"restart-at"))
+        .max(common_len(line, b"state"))
 }
 
 /// How many bytes at the front are those of the word.

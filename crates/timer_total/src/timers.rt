@@ -106,6 +106,7 @@ impl<W: Wheel + Drop> Timers<W> {
     }
 
     /// Starts a timer that expires after `interval` ticks, under the next serial.
+    #[inline(always)]
     pub fn start(&mut self, interval: u64, action: u64) -> Result<Handle, StartFault>
         ensures started { IfOk result (λ handle. self.new ≡ with_start W.count_start
             (after_start handle.place (next_timer interval action self.old) self.old.wheel) self.old) }

@@ -1,5 +1,5 @@
 -- The tables that a hierarchy of wheels may have.
-use Rattle.std.specs.Prelude.{ℕ, ◌+◌, ◌*◌, ◌/◌, Bool, true, false, List, [], ◌∷◌}
+use Rattle.std.specs.Prelude.{ℕ, Bool, true, false, List, [], ◌∷◌}
 use Rattle.timer_base.specs.Layout.{Layout, NoSlots, OneWheel, OneRevolution, TwoRevolutions}
 use Rattle.timer_wheels.specs.Types.{LAST, Table}
 use Rattle.timer_wheels.specs.Digits.{equals, slots}
@@ -26,12 +26,6 @@ abbrev pub last_of_table : Table → ℕ
 last_of_table Wide = LAST
 last_of_table Clock = LAST_OF_CLOCK
 last_of_table Small = LAST_OF_SMALL
-
--- the most moves of a tick, if the paces were fixed for at most n timers
-abbrev pub tick_bound : Table → ℕ → ℕ
-tick_bound Wide n = 2 * n / 63 + 18
-tick_bound Clock n = n / 29 + 6
-tick_bound Small n = 2 * n / 15 + 10
 
 -- by hand
 

@@ -1,5 +1,5 @@
 -- The names in the public clauses of `TieredWheel`.
-use Rattle.std.specs.Prelude.{◌≡◌, ◌==◌, ℕ, if◌then◌else◌, ⊤, length, Option, Some, None}
+use Rattle.std.specs.Prelude.{◌==◌, ℕ, if◌then◌else◌, ⊤, length, Option, Some, None}
 use Rattle.timer_base.specs.Counts.{WheelCounts}
 use Rattle.timer_base.specs.Layout.{Layout}
 use Rattle.timer_base.specs.WellFormed.{with_layout-well_formed}
@@ -7,12 +7,13 @@ use Rattle.timer_base.specs.WheelState.{WheelState, IsWellFormed, with_layout}
 use Rattle.timer_links.specs.declared.kept.Kept.{Ghosts}
 use Rattle.timer_wheels.specs.Buckets.{state_of, state_of-well_formed}
 use Rattle.timer_wheels.specs.declared.buckets.Buckets.{Buckets}
-use Rattle.timer_wheels.specs.LazyWheel.{lazy_counts}
-use Rattle.timer_wheels.specs.Placement.{most_moves}
-use Rattle.timer_wheels.specs.SmoothWheel.{smooth_table, starts_of, moves_of, IsPacedFor}
+use Rattle.timer_wheels.specs.lazy.LazyWheel.{lazy_counts}
+use Rattle.timer_wheels.specs.hier.Placement.{most_moves}
+use Rattle.timer_wheels.specs.smooth.SmoothWheel.{starts_of, moves_of, IsPacedFor}
 use Rattle.timer_wheels.specs.Tables.{layout_of_table, smooth_layout}
 pub use Rattle.timer_wheels.specs.Tables.{radices_of, is_smooth}
 use Rattle.timer_wheels.specs.declared.smooth.SmoothWheel.{SmoothWheel}
+use Rattle.timer_wheels.specs.declared.table.Table.TheVariants.{Wide}
 use Rattle.timer_wheels.specs.declared.tiered.TheConstants.{NEVER}
 use Rattle.timer_wheels.specs.declared.tiered.TieredWheel.{TieredWheel}
 use Rattle.timer_wheels.specs.declared.tiered.TieredWheel.TheVariants.{Lazy, Smooth}
@@ -20,12 +21,12 @@ use Rattle.timer_wheels.specs.declared.tiered.TieredWheel.TheVariants.{Lazy, Smo
 -- the buckets of either wheel
 abbrev pub buckets_in : {N : Type 0} {kept : Ghosts N} → TieredWheel N kept → Buckets N kept
 buckets_in (Lazy wheel) = wheel.files.buckets
-buckets_in (Smooth wheel) = wheel.bank.buckets
+buckets_in (Smooth wheel) = wheel.wheels.buckets
 
 -- how their slots are laid out
 abbrev pub layout_in : {N : Type 0} {kept : Ghosts N} → TieredWheel N kept → Layout
 layout_in (Lazy wheel) = layout_of_table wheel.files.table
-layout_in (Smooth wheel) = smooth_layout wheel.bank.table
+layout_in (Smooth wheel) = smooth_layout Wide
 
 -- the state of the wheel
 abbrev pub tiered_state : {N : Type 0} {kept : Ghosts N} → TieredWheel N kept → WheelState
@@ -55,9 +56,9 @@ IfSmooth does (Smooth old) (Smooth new) = does old new
 IfSmooth does (Lazy old) (Smooth new) = ⊥
 IfSmooth does (Smooth old) (Lazy new) = ⊥
 
--- the table stays, and so does each number of timers for which the paces were fixed
+-- each number of timers for which the paces were fixed stays one
 abbrev pub KeepsPace : {N : Type 0} {kept : Ghosts N} → SmoothWheel N kept → SmoothWheel N kept → Type 0
-KeepsPace old new = (smooth_table new ≡ smooth_table old) × ((n : ℕ) → IsPacedFor n old → IsPacedFor n new)
+KeepsPace old new = (n : ℕ) → IsPacedFor n old → IsPacedFor n new
 
 -- the paces were fixed when at most n timers were held, if it is a smooth wheel
 abbrev pub IsPacedIn : {N : Type 0} {kept : Ghosts N} → ℕ → TieredWheel N kept → Type 0

@@ -2,7 +2,7 @@
 use Rattle.std.specs.Prelude.{ℕ, ◌+◌, ◌-◌, ◌%◌, List, [], ◌∷◌, Option, Some, None}
 use Rattle.timer_base.specs.Pending.{Entry}
 use Rattle.timer_base.specs.PlainState.{earliest}
-use Rattle.timer_wheels.specs.Leap.{timer_visit}
+use Rattle.timer_wheels.specs.hier.Leap.{timer_visit}
 
 -- the next tick at which a hierarchy visits a bucket with a pending timer: that of the first timer's bucket, since
 -- no later deadline has an earlier visit

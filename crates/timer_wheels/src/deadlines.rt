@@ -15,7 +15,7 @@ use timer_base::earlier;
 use timer_links::{Kept, Links};
 
 /// The first pending deadline, found by a walk along every bucket. Does not allocate.
-#[tactic(auto, using(crate::proofs::DeadlineLemmas::least_is_next))]
+#[tactic(auto, using(crate::proofs::bucket_lemmas::DeadlineLemmas::least_is_next))]
 pub fn first_deadline_by_walk<N: Kept>(buckets: &Buckets<N>) -> Option<u64>
     ensures { result ≡ next_deadline (state_of buckets.now).pending }
 {

@@ -26,16 +26,19 @@ ghost use Rattle.timer_base.specs.WheelState.{empty_wheel, held_at, old_timer, a
 ghost use Rattle.timer_wheels.specs.BucketLaws.{AreInOrder-prop};
 ghost use Rattle.timer_wheels.specs.BucketLists.{AreInOrder, slots_in};
 ghost use Rattle.timer_wheels.specs.Buckets.{IsListOf};
-ghost use Rattle.timer_wheels.specs.Hashed.{slot_of, rounds_of, IsHashed, AreInBuckets, AreInBuckets-prop, IsNextSweep};
+ghost use Rattle.timer_wheels.specs.hashed.Hashed.{slot_of, rounds_of, IsHashed, AreInBuckets, AreInBuckets-prop, IsNextSweep};
 ghost use Rattle.timer_wheels.specs.WakeUps.{earliest_sweep};
 
 use crate::buckets::Buckets;
 use crate::deadlines::first_deadline_by_walk;
-use crate::revolutions::skip_revolutions;
-use crate::sweep::{next_sweep, slot_after, sweep_tick};
+use crate::hashed::revolutions::skip_revolutions;
+use crate::hashed::sweep::{next_sweep, slot_after, sweep_tick};
 use std::alloc::Global;
 use timer_base::{Handle, LAST, MakeFault, OutOfMemory, Timer, Wheel};
 use timer_links::Links;
+
+mod revolutions;
+mod sweep;
 
 /// The greatest number of slots of a hashed wheel.
 pub const MAX_SLOTS: usize = 65536;
@@ -59,7 +62,7 @@ pub struct HashedWheel {
 }
 
 impl HashedWheel {
-    ghost use Rattle.timer_wheels.specs.HashedWheel.{hashed_state, slots_of, argument_fault, IsHashedFault};
+    ghost use Rattle.timer_wheels.specs.hashed.HashedWheel.{hashed_state, slots_of, argument_fault, IsHashedFault};
 
     /// A wheel with no timer, of 1 to 65,536 slots, at a first tick of at most `LAST`.
     ///
@@ -105,7 +108,7 @@ impl HashedWheel {
     /// The list and the rounds of a timer that is started now: its bucket, or the list of due timers if its
     /// deadline is now.
     #[inline(always)]
-    #[tactic(auto, using(crate::proofs::HashedTicks::slot_from))]
+    #[tactic(auto, using(crate::proofs::hashed_lemmas::Ticks::slot_from))]
     fn list_and_rounds(&self, timer: Timer) -> (usize, u64)
         requires not_past { (hashed_state self.now).now ≤ timer.deadline }
         ensures list { IsListOf result.0 (slots_of self.now) (hashed_state self.now).now timer.deadline }
@@ -144,7 +147,7 @@ impl HashedWheel {
 }
 
 impl Wheel for HashedWheel {
-    ghost use Rattle.timer_wheels.specs.HashedWheel.{hashed_state, slots_of};
+    ghost use Rattle.timer_wheels.specs.hashed.HashedWheel.{hashed_state, slots_of};
     ghost use Rattle.timer_wheels.specs.Buckets.{state_of-well_formed};
 
     ghost state = { λ wheel. hashed_state wheel };

@@ -60,46 +60,27 @@ ghost use Rattle.timer_base.specs.declared.limits.TheConstants.{LAST};
 ghost use Rattle.timer_base.specs.WakeUps.{IsQuietUntil};
 ghost use Rattle.timer_base.specs.WheelState.{empty_wheel, held_at, old_timer, after_reserve, after_replacement, after_tick, Advances};
 ghost use Rattle.timer_wheels.specs.Buckets.{state_of};
-ghost use Rattle.timer_wheels.specs.Leap.{IsNextVisit};
+ghost use Rattle.timer_wheels.specs.hier.Leap.{IsNextVisit};
 ghost use Rattle.timer_wheels.specs.Digits.{emptied, slots};
 ghost use Rattle.timer_wheels.specs.Tables.{radices, radices_of, last_of_table, layout_of_table};
 ghost use Rattle.timer_wheels.specs.declared.table.Table.TheVariants.{Wide};
 ghost use Rattle.timer_wheels.specs.HeldPlaces.{IsFirstHeld};
-ghost use Rattle.timer_wheels.specs.Placement.{ShowsWheels, IsPaid, most_moves};
+ghost use Rattle.timer_wheels.specs.hier.Placement.{ShowsWheels, IsPaid, most_moves};
 ghost use Rattle.timer_wheels.specs.WakeUps.{next_visit};
 
+use crate::hier::counts::Counts;
+use crate::hier::leap::visits_between;
+use crate::hier::wheels::Wheels;
 use crate::iteration::held_from;
-use crate::leap::visits_between;
 use crate::table::{Table, emptied_at, last_tick_of};
-use crate::wheels::Wheels;
 use std::alloc::Global;
 use timer_base::{Handle, LAST, MakeFault, OutOfMemory, Timer, Wheel};
 use timer_links::{Kept, Links};
 
-/// What a wheel did since it was made.
-#[derive(Clone, Copy, Drop)]
-struct Counts {
-    /// Timers that were started or restarted.
-    starts: u64,
-    /// Timers that were put into a lower wheel.
-    moves: u64,
-    /// Ticks up to now that visited no bucket: those before the wheel was made, and those that `advance`
-    /// skipped. A single tick visits one, so it has no visit to count.
-    skipped: u64,
-}
-
-impl Counts {
-    /// Adds to the moves. Most ticks move nothing, and store nothing.
-    #[inline]
-    fn add_moves(&mut self, moves: u64)
-        requires { self.old.moves + moves < 18446744073709551616 }
-        ensures { self.new ≡ record self.old { moves = self.old.moves + moves } }
-    {
-        if moves > 0 {
-            self.moves += moves;
-        }
-    }
-}
+mod counts;
+pub mod leap;
+mod migration;
+mod wheels;
 
 /// Wheels with the slots of a table, whose timers go to lower wheels as the clock comes near their deadline.
 ///
@@ -122,7 +103,7 @@ pub struct HierWheel<N: Kept = Timer> {
 }
 
 impl HierWheel {
-    ghost use Rattle.timer_wheels.specs.HierWheel.{hier_state, table_of, counts_of, IsHierFault};
+    ghost use Rattle.timer_wheels.specs.hier.HierWheel.{hier_state, table_of, counts_of, IsHierFault};
 
     /// An empty hierarchy of ten wheels of 64 slots, a clock of 2^60 ticks, at its first tick.
     ///
@@ -163,10 +144,10 @@ impl HierWheel {
 }
 
 impl<N: Kept> HierWheel<N> {
-    ghost use Rattle.timer_wheels.specs.HierWheel.{hier_state, table_of, counts_of, counts_of_tick, IsHierFault};
+    ghost use Rattle.timer_wheels.specs.hier.HierWheel.{hier_state, table_of, counts_of, counts_of_tick, IsHierFault};
 
     /// The same as `with_table`, whose lists keep of a timer what `N` says.
-    #[tactic(auto, using(crate::proofs::HierLemmas::new_paid))]
+    #[tactic(auto, using(crate::proofs::hier_lemmas::Invariant::new_paid))]
     pub fn keeping(alloc: Global, table: Table, first_tick: u64) -> Result<HierWheel<N>, MakeFault>
         ensures state { IfOk result (λ wheel. hier_state wheel
             ≡ empty_wheel (layout_of_table table) (last_of_table table) first_tick) }
@@ -267,7 +248,7 @@ impl<N: Kept> HierWheel<N> {
 }
 
 impl<N: Kept> HierWheel<N> {
-    ghost use Rattle.timer_wheels.specs.HierWheel.{hier_state, counts_of, counts_of_advance};
+    ghost use Rattle.timer_wheels.specs.hier.HierWheel.{hier_state, counts_of, counts_of_advance};
 
     /// Passes ticks as `advance` does, wherever it leads.
     // Kept out of line, so that an advance over a few quiet ticks is short.
@@ -294,7 +275,7 @@ impl<N: Kept> HierWheel<N> {
 }
 
 impl<N: Kept> Wheel for HierWheel<N> {
-    ghost use Rattle.timer_wheels.specs.HierWheel.{hier_state, hier-well_formed, table_of, counts_of, with_counted_start, counts_of_tick, counts_of_advance};
+    ghost use Rattle.timer_wheels.specs.hier.HierWheel.{hier_state, hier-well_formed, table_of, counts_of, with_counted_start, counts_of_tick, counts_of_advance};
 
     ghost state = { λ wheel. hier_state wheel };
 

@@ -40,6 +40,7 @@ use timer_links::{Kept, Links};
 mod files;
 mod filing;
 mod leaps;
+mod sorts;
 
 /// Wheels with the slots of a table, in which a restart for a deadline that is not before the old one touches no link.
 ///
@@ -51,8 +52,8 @@ pub struct LazyWheel<N: Kept = Timer> {
 }
 
 impl LazyWheel {
-    ghost use Rattle.timer_wheels.specs.HierWheel.{IsHierFault};
-    ghost use Rattle.timer_wheels.specs.LazyWheel.{lazy_state, lazy_table, lazy_counts};
+    ghost use Rattle.timer_wheels.specs.hier.HierWheel.{IsHierFault};
+    ghost use Rattle.timer_wheels.specs.lazy.LazyWheel.{lazy_state, lazy_table, lazy_counts};
 
     /// An empty wheel at its first tick.
     ///
@@ -74,8 +75,8 @@ impl LazyWheel {
 }
 
 impl<N: Kept> LazyWheel<N> {
-    ghost use Rattle.timer_wheels.specs.HierWheel.{IsHierFault};
-    ghost use Rattle.timer_wheels.specs.LazyWheel.{lazy_state, lazy_table, lazy_counts, ShowsFiled};
+    ghost use Rattle.timer_wheels.specs.hier.HierWheel.{IsHierFault};
+    ghost use Rattle.timer_wheels.specs.lazy.LazyWheel.{lazy_state, lazy_table, lazy_counts, ShowsFiled};
 
     /// The same as `with_table`, whose lists keep of a timer what `N` says.
     pub fn keeping(alloc: Global, table: Table, first_tick: u64) -> Result<LazyWheel<N>, MakeFault>
@@ -161,8 +162,8 @@ impl<N: Kept> LazyWheel<N> {
 }
 
 impl<N: Kept> Wheel for LazyWheel<N> {
-    ghost use Rattle.timer_wheels.specs.Files.{StaysInPlace, with_start, with_filings};
-    ghost use Rattle.timer_wheels.specs.LazyWheel.{lazy_state, lazy_lists, lazy_counts, lazy_left, lazy_filed_next, lazy-well_formed};
+    ghost use Rattle.timer_wheels.specs.lazy.Files.{StaysInPlace, with_start, with_filings};
+    ghost use Rattle.timer_wheels.specs.lazy.LazyWheel.{lazy_state, lazy_lists, lazy_counts, lazy_left, lazy_filed_next, lazy-well_formed};
 
     ghost state = { λ wheel. lazy_state wheel };
 

@@ -9,7 +9,7 @@
 //! comes before a higher one, and in a wheel the slots come in turn.
 ghost use Rattle.std.specs.Int.{bit_at};
 ghost use Rattle.std.specs.Prelude.{◌≡◌, ◌≢◌, ◌<◌, ◌≤◌, ◌+◌, ◌*◌, ℕ, List, length, IfSome, IsTrue, true, false};
-ghost use Rattle.timer_wheels.specs.Bank.{LeavesBits};
+ghost use Rattle.timer_wheels.specs.smooth.Wheels.{LeavesBits};
 ghost use Rattle.timer_wheels.specs.declared.occupied.TheConstants.{WORD_BITS};
 ghost use Rattle.timer_wheels.specs.declared.table.TheConstants.{MOST_BUCKETS};
 ghost use Rattle.timer_wheels.specs.Occupied.{bit_of, IsFirstSet, IsLowestSet};
@@ -65,7 +65,7 @@ impl<const WORDS: usize> Bits<WORDS> {
     /// Sets a list's bit.
     // Without a test whether it is set, and with a word's number of 32 bits, by which its address needs no mask of 64.
     #[inline]
-    #[tactic(auto, using(crate::proofs::OccupiedLemmas::set_here, crate::proofs::OccupiedLemmas::set_others))]
+    #[tactic(auto, using(crate::proofs::bucket_lemmas::OccupiedLemmas::set_here, crate::proofs::bucket_lemmas::OccupiedLemmas::set_others))]
     pub fn insert(&mut self, list: usize)
         requires list { list < 64 * WORDS }
         requires few { 64 * WORDS ≤ 4294967296 }
@@ -78,7 +78,7 @@ impl<const WORDS: usize> Bits<WORDS> {
 
     /// Sets a list's bit, and writes nothing if it is set.
     #[inline]
-    #[tactic(auto, using(crate::proofs::OccupiedLemmas::set_here, crate::proofs::OccupiedLemmas::set_others))]
+    #[tactic(auto, using(crate::proofs::bucket_lemmas::OccupiedLemmas::set_here, crate::proofs::bucket_lemmas::OccupiedLemmas::set_others))]
     pub fn insert_once(&mut self, list: usize)
         requires { list < 64 * WORDS }
         ensures here { bit_of self.new list ≡ 1 }
@@ -93,7 +93,7 @@ impl<const WORDS: usize> Bits<WORDS> {
 
     /// Clears a list's bit.
     #[inline]
-    #[tactic(auto, using(crate::proofs::OccupiedLemmas::clear_here, crate::proofs::OccupiedLemmas::clear_others))]
+    #[tactic(auto, using(crate::proofs::bucket_lemmas::OccupiedLemmas::clear_here, crate::proofs::bucket_lemmas::OccupiedLemmas::clear_others))]
     pub fn remove(&mut self, list: usize)
         requires { list < 64 * WORDS }
         ensures here { bit_of self.new list ≡ 0 }
@@ -159,7 +159,7 @@ fn clear_bits(word: u64, bit: usize) -> usize
 
 /// The place of the lowest bit that is set.
 #[inline]
-#[tactic(auto, using(crate::proofs::OccupiedLemmas::lowest_set))]
+#[tactic(auto, using(crate::proofs::bucket_lemmas::OccupiedLemmas::lowest_set))]
 pub fn lowest_bit(word: u64) -> usize
     requires { word ≢ 0 }
     ensures { IsLowestSet word result }
@@ -177,6 +177,20 @@ pub fn enter(occupied: &mut Occupied, tick: u64, deadline: u64, list: usize)
 {
     if deadline > tick {
         occupied.insert(list);
+    }
+}
+
+/// The same, which writes nothing unless the list `was_empty`: the bit of any other bucket is set already.
+#[inline(always)]
+pub fn enter_first(occupied: &mut Occupied, tick: u64, deadline: u64, list: usize, was_empty: bool)
+    requires list { tick < deadline → list < MOST_BUCKETS }
+    requires marked { tick < deadline → was_empty ≡ false → bit_of occupied.old list ≡ 1 }
+    ensures pending { tick < deadline
+        → (bit_of occupied.new list ≡ 1) × ((s : ℕ) → s ≢ list → bit_of occupied.new s ≡ bit_of occupied.old s) }
+    ensures due { deadline ≤ tick → occupied.new ≡ occupied.old }
+{
+    if was_empty {
+        enter(occupied, tick, deadline, list);
     }
 }
 

@@ -5,9 +5,9 @@
 //! into it two. Once it is empty it is open: a start whose deadline is in it goes to a lower wheel at once. So the
 //! timers of a bucket leave it in the order of starting, and none overtakes them.
 //!
-//! Each wheel has two revolutions of slots (`turns`), since timers come to a lower wheel before its last revolution
+//! Each wheel has two revolutions of slots (`slot_lists`), since timers come to a lower wheel before its last revolution
 //! ends. Which list a pending timer stands in follows from now, its deadline, its serial and the serials up to which
-//! the next buckets have moved on (`smooth_bucket` in specs/Smooth.antt).
+//! the next buckets have moved on (`smooth_bucket` in specs/smooth/Smooth.antt).
 //!
 //! Three timers of Wide, started at tick 10 for 8196 (serial 1), 8257 (2) and 12287 (3), all in slot 2 of wheel 2. At tick
 //! 4096 it begins to be the next bucket, at a pace of 2:
@@ -19,52 +19,51 @@
 //!
 //! At tick 8128 slot 128 begins to be the next bucket of wheel 1, and at the next tick timer 1 goes to slot 8196 of wheel 0.
 //!
-//! At each tick some timers of each next bucket move: its pace (`paces`), fixed as it begins to be the next one (`work`). So
-//! no tick moves a whole bucket, and in `Table::Wide` none moves more than 2n/63 + 18 timers, n the most that were held.
-//! `advance` leaps to the next tick that needs a look while nothing is to be moved (`ahead`).
+//! At each tick some timers of each next bucket move: its pace (`paces`), fixed as it begins to be the next one
+//! (`early_moves`). So no tick moves a whole bucket, and none moves more than 2n/63 + 18 timers, n the most that were held.
+//! `advance` leaps to the next tick that needs a look while nothing is to be moved (`wake_ups`).
 //!
-//! It meets the whole of `Wheel`, and C has it, beside the hierarchy (`tiered`). Open: speed. Most calls take
-//! the table as a value and not as a constant, and first slots are found anew each time, though only as far up as a wheel can
-//! have an earlier one.
+//! It meets the whole of `Wheel`, and C has it, beside the hierarchy (`tiered`). Open: speed. First slots are found anew
+//! each time, though only as far up as a wheel can have an earlier one.
 ghost use Rattle.std.specs.Prelude.{◌≡◌, ◌+◌, ◌-◌, ◌*◌, ◌<◌, ◌≤◌, ℕ, [], length, IfOk, IfErr, IfSome, IfNone, OnOk, OnErr, MatchOption, MatchResult};
 ghost use Rattle.timer_base.specs.declared.limits.TheConstants.{LAST};
-ghost use Rattle.timer_base.specs.WheelState.{IsPassing, empty_wheel, held_at, held_count, old_timer, first_due, after_reserve, after_held_start, after_removal, after_replacement, after_tick, after_expiry, after_clear, Advances};
-ghost use Rattle.timer_wheels.specs.Bank.{potential_of};
+ghost use Rattle.timer_base.specs.WheelState.{empty_wheel, held_at, held_count, old_timer, first_due, after_reserve, after_held_start, after_removal, after_replacement, after_tick, after_expiry, after_clear, Advances};
+ghost use Rattle.timer_wheels.specs.smooth.Wheels.{potential_of};
 ghost use Rattle.timer_wheels.specs.HeldPlaces.{IsFirstHeld};
-ghost use Rattle.timer_wheels.specs.Paces.{AreInTime, AreInTime-prop, tick_bound};
-ghost use Rattle.timer_wheels.specs.Placement.{most_moves};
-ghost use Rattle.timer_wheels.specs.Smooth.{next_lengths};
-ghost use Rattle.timer_wheels.specs.Tables.{radices, radices_of, last_of_table, smooth_layout};
+ghost use Rattle.timer_wheels.specs.smooth.Paces.{AreInTime, AreInTime-prop, tick_bound};
+ghost use Rattle.timer_wheels.specs.hier.Placement.{most_moves};
+ghost use Rattle.timer_wheels.specs.smooth.Smooth.{next_lengths};
+ghost use Rattle.timer_wheels.specs.Tables.{wide, radices_of, smooth_layout};
+ghost use Rattle.timer_wheels.specs.declared.table.Table.TheVariants.{Wide};
 ghost use Rattle.timer_wheels.specs.WakeUps.{next_visit};
 
 use crate::buckets::Buckets;
 use crate::iteration::held_from;
-use crate::smooth::bank::Bank;
+use crate::smooth::early_moves::{fix_paces, make_way, move_all};
 use crate::smooth::paces::Paces;
-use crate::smooth::work::{fix_paces, make_way, move_all};
-use crate::table::{Table, is_rollover, last_tick_of};
+use crate::smooth::wheels::Wheels;
+use crate::table::{Table, is_rollover};
 use std::alloc::Global;
-use timer_base::{Handle, MakeFault, OutOfMemory, Timer, Wheel};
+use timer_base::{Handle, LAST, MakeFault, OutOfMemory, Timer, Wheel};
 use timer_links::{Kept, Links};
 
-mod ahead;
-mod bank;
-mod descent;
+mod early_moves;
+mod leaps;
 mod paces;
-mod turns;
-mod work;
+mod slot_lists;
+mod wake_ups;
+mod wheels;
 
-/// Wheels with the slots of a table, whose timers go to lower wheels early and a few at a time.
+/// Ten wheels of 64 slots, whose timers go to lower wheels early and a few at a time.
 ///
-/// A timer moves at most nine times in `Table::Wide` and three times in `Table::Clock`, and keeps its place in the order
-/// of starting.
+/// A timer moves at most nine times, and keeps its place in the order of starting.
 ///
 /// `N` is what its lists keep of a timer. A start and a restart take the timers that it can give back whole; `Timer` keeps
 /// all of them.
 #[derive(Drop)]
 pub struct SmoothWheel<N: Kept = Timer> {
     /// The buckets and their bits.
-    bank: Bank<N>,
+    wheels: Wheels<N>,
     /// How many timers of each next bucket move at a tick.
     paces: Paces,
     /// Timers that were started or restarted.
@@ -72,99 +71,79 @@ pub struct SmoothWheel<N: Kept = Timer> {
     /// How many times a timer was put into a lower wheel.
     moves: u64,
     // So each next bucket is empty before it begins to be the present one, and no tick moves a whole bucket.
-    ghost in_time: { AreInTime bank.table bank.buckets paces } by { AreInTime-prop bank.table bank.buckets paces },
-    ghost few_starts: { starts ≤ bank.buckets.last_serial },
+    ghost in_time: { AreInTime Wide wheels.buckets paces } by { AreInTime-prop Wide wheels.buckets paces },
+    ghost few_starts: { starts ≤ wheels.buckets.last_serial },
     // A start allows one move for each wheel but the highest, and each move lowers a wheel. So what is left to move is
     // counted too.
-    ghost paid: { moves + potential_of bank.table bank.buckets ≤ most_moves (radices bank.table) * starts },
+    ghost paid: { moves + potential_of Wide wheels.buckets ≤ most_moves wide * starts },
 }
 
 impl SmoothWheel {
-    ghost use Rattle.timer_wheels.specs.SmoothWheel.{smooth_state, smooth_table, starts_of, moves_of, IsPacedFor};
-    ghost use Rattle.timer_wheels.specs.HierWheel.{IsHierFault};
+    ghost use Rattle.timer_wheels.specs.smooth.SmoothWheel.{smooth_state, starts_of, moves_of, IsPacedFor};
+    ghost use Rattle.timer_wheels.specs.hier.HierWheel.{IsHierFault};
 
     /// An empty wheel at its first tick.
     ///
-    /// Errors, in this order: `FirstTick` above the table's last tick, which is `LAST` or
-    /// `LAST_OF_CLOCK`; `OutOfMemory`.
-    pub fn with_table(
-        alloc: Global,
-        table: Table,
-        first_tick: u64,
-    ) -> Result<SmoothWheel, MakeFault>
+    /// Errors, in this order: `FirstTick` above `LAST`; `OutOfMemory`.
+    pub fn new(alloc: Global, first_tick: u64) -> Result<SmoothWheel, MakeFault>
         ensures state { IfOk result (λ wheel. smooth_state wheel
-            ≡ empty_wheel (smooth_layout table) (last_of_table table) first_tick) }
-        ensures table { IfOk result (λ wheel. smooth_table wheel ≡ table) }
+            ≡ empty_wheel (smooth_layout Wide) LAST first_tick) }
         ensures starts { IfOk result (λ wheel. starts_of wheel ≡ 0) }
         ensures moves { IfOk result (λ wheel. moves_of wheel ≡ 0) }
         ensures paced { IfOk result (λ wheel. IsPacedFor 0 wheel) }
-        ensures in_range { IfOk result (λ wheel. first_tick ≤ last_of_table table) }
-        ensures fault { IfErr result (λ fault. IsHierFault (last_of_table table) first_tick fault) }
+        ensures in_range { IfOk result (λ wheel. first_tick ≤ LAST) }
+        ensures fault { IfErr result (λ fault. IsHierFault LAST first_tick fault) }
     {
-        SmoothWheel::keeping(alloc, table, first_tick)
+        SmoothWheel::keeping(alloc, first_tick)
     }
 }
 
 impl<N: Kept> SmoothWheel<N> {
-    ghost use Rattle.timer_wheels.specs.SmoothWheel.{smooth_state, smooth_table, starts_of, moves_of, next_moves, moves_ahead, IsPacedFor, ShowsSmooth};
-    ghost use Rattle.timer_wheels.specs.HierWheel.{IsHierFault};
+    ghost use Rattle.timer_wheels.specs.smooth.SmoothWheel.{smooth_state, starts_of, moves_of, next_moves, moves_ahead, IsPacedFor, ShowsSmooth};
+    ghost use Rattle.timer_wheels.specs.hier.HierWheel.{IsHierFault};
 
-    /// The same as `with_table`, whose lists keep of a timer what `N` says.
-    pub fn keeping(
-        alloc: Global,
-        table: Table,
-        first_tick: u64,
-    ) -> Result<SmoothWheel<N>, MakeFault>
+    /// The same as `new`, whose lists keep of a timer what `N` says.
+    pub fn keeping(alloc: Global, first_tick: u64) -> Result<SmoothWheel<N>, MakeFault>
         ensures state { IfOk result (λ wheel. smooth_state wheel
-            ≡ empty_wheel (smooth_layout table) (last_of_table table) first_tick) }
-        ensures table { IfOk result (λ wheel. smooth_table wheel ≡ table) }
+            ≡ empty_wheel (smooth_layout Wide) LAST first_tick) }
         ensures starts { IfOk result (λ wheel. starts_of wheel ≡ 0) }
         ensures moves { IfOk result (λ wheel. moves_of wheel ≡ 0) }
         ensures paced { IfOk result (λ wheel. IsPacedFor 0 wheel) }
-        ensures in_range { IfOk result (λ wheel. first_tick ≤ last_of_table table) }
-        ensures fault { IfErr result (λ fault. IsHierFault (last_of_table table) first_tick fault) }
+        ensures in_range { IfOk result (λ wheel. first_tick ≤ LAST) }
+        ensures fault { IfErr result (λ fault. IsHierFault LAST first_tick fault) }
     {
-        if first_tick > last_tick_of(table) {
+        if first_tick > LAST {
             return Err(MakeFault::FirstTick);
         }
-        let Ok(bank) = Bank::new(alloc, table, first_tick) else {
+        let Ok(wheels) = Wheels::new(alloc, first_tick) else {
             return Err(MakeFault::OutOfMemory);
         };
         Ok(SmoothWheel {
-            bank,
+            wheels,
             paces: Paces::new(),
             starts: 0,
             moves: 0,
         })
     }
 
-    /// The buckets, and after them the list of due timers, which is list 1,280 of `Table::Wide` and list 584 of
-    /// `Table::Clock`.
+    /// The buckets, and after them the list of due timers, which is list 1,280.
     ///
-    /// Slot i of wheel k, of the slots counted from tick 0 on, is list `128 * k + i % (2 * r)`, r the wheel's radix. The
-    /// timers of a bucket stand by serial, each under its handle's place, with rounds 0. Does not allocate.
+    /// Slot i of wheel k, of the slots counted from tick 0 on, is list `128 * k + i % 128`. The timers of a bucket stand by
+    /// serial, each under its handle's place, with rounds 0. Does not allocate.
     pub fn links(&self) -> &Links<N>
-        ensures shows { ShowsSmooth (smooth_table self.now) (smooth_state self.now) result.now.lists }
-        ensures ahead { moves_ahead self.now ≡ next_lengths (radices (smooth_table self.now)) (smooth_state self.now).now
-            result.now.lists (length (radices (smooth_table self.now)) - 1) }
+        ensures shows { ShowsSmooth Wide (smooth_state self.now) result.now.lists }
+        ensures ahead { moves_ahead self.now ≡ next_lengths wide (smooth_state self.now).now
+            result.now.lists (length wide - 1) }
     {
-        &self.bank.buckets.links
-    }
-
-    /// The table whose radices the wheels have, which stays as it was chosen. Does not allocate.
-    pub fn table(&self) -> Table
-        ensures table { result ≡ smooth_table self.now }
-        ensures layout { (smooth_state self.now).layout ≡ smooth_layout result }
-    {
-        self.bank.table
+        &self.wheels.buckets.links
     }
 
     /// The clock and the buckets.
     #[inline]
     pub(crate) fn buckets(&self) -> &Buckets<N>
-        ensures { result.now ≡ self.now.bank.buckets }
+        ensures { result.now ≡ self.now.wheels.buckets }
     {
-        &self.bank.buckets
+        &self.wheels.buckets
     }
 
     /// How many timers were started or restarted since the wheel was made. Does not allocate.
@@ -177,7 +156,7 @@ impl<N: Kept> SmoothWheel<N> {
     /// How many times a timer was put into a lower wheel since the wheel was made. Does not allocate.
     pub fn moves(&self) -> u64
         ensures value { result ≡ moves_of self.now }
-        ensures at_most { result ≤ most_moves (radices (smooth_table self.now)) * starts_of self.now }
+        ensures at_most { result ≤ most_moves wide * starts_of self.now }
     {
         self.moves
     }
@@ -190,14 +169,11 @@ impl<N: Kept> SmoothWheel<N> {
     }
 
     /// Whether the next tick is quiet: no timer moves or becomes due, and no pace is fixed. Nothing depends on it but how a
-    /// tick is compiled: short for the wide table.
+    /// tick is compiled.
     #[inline(always)]
     pub(crate) fn is_quiet(&self) -> bool {
-        let tick = self.bank.buckets.tick + 1;
-        matches!(self.bank.table, Table::Wide)
-            && self.paces.sum() == 0
-            && self.bank.is_empty_at(tick)
-            && !is_rollover(self.bank.table, tick)
+        let tick = self.wheels.buckets.tick + 1;
+        self.paces.sum() == 0 && self.wheels.is_empty_at(tick) && !is_rollover(Table::Wide, tick)
     }
 
     /// The handle of the timer, pending or due, at this place or the first later one that has a timer, or
@@ -208,59 +184,12 @@ impl<N: Kept> SmoothWheel<N> {
         ensures first { IsFirstHeld place (smooth_state self.now) result }
         ensures in_range { IfSome result (λ handle. handle.place < 4294967296) }
     {
-        held_from(&self.bank.buckets, place)
-    }
-}
-
-impl<N: Kept> SmoothWheel<N> {
-    ghost use Rattle.timer_wheels.specs.SmoothWheel.{smooth_state, smooth_table, starts_of, moves_of, next_moves, wheels_left, wheel_in, PassesSomeTicks, IsPacedFor};
-
-    /// Sets the clock forward to the tick before the next event, or before the end if that comes first, unless a tick has
-    /// timers to move.
-    fn leap(&mut self, end: u64)
-        requires nothing_due { (smooth_state self.old).due ≡ [] }
-        requires later { (smooth_state self.old).now < end }
-        requires end { end ≤ (smooth_state self.old).last_tick }
-        ensures passing { IsPassing ((smooth_state self.new).now - (smooth_state self.old).now)
-            (smooth_state self.old) (smooth_state self.new) }
-        ensures later { (smooth_state self.old).now ≤ (smooth_state self.new).now }
-        ensures end { (smooth_state self.new).now < end }
-        ensures moves { moves_of self.new ≡ moves_of self.old }
-        ensures counted { wheels_left self.new ≡ wheels_left self.old }
-        ensures starts { starts_of self.new ≡ starts_of self.old }
-        ensures held { held_count (smooth_state self.new) ≡ held_count (smooth_state self.old) }
-        ensures paced { (n : ℕ) → IsPacedFor n self.old → IsPacedFor n self.new }
-        ensures table { smooth_table self.new ≡ smooth_table self.old }
-    {
-        if self.paces.sum() != 0 {
-            return;
-        }
-        let event = self.bank.next_event(end);
-        self.bank.skip_to(event - 1);
-    }
-
-    /// Passes at least one tick, and those before it at which nothing moves and nothing is due, up to an end.
-    fn pass(&mut self, end: u64)
-        requires nothing_due { (smooth_state self.old).due ≡ [] }
-        requires later { (smooth_state self.old).now < end }
-        requires end { end ≤ (smooth_state self.old).last_tick }
-        ensures passes { PassesSomeTicks (smooth_state self.old) (smooth_state self.new) }
-        ensures end { (smooth_state self.new).now ≤ end }
-        ensures held { held_count (smooth_state self.new) ≡ held_count (smooth_state self.old) }
-        ensures bound { (n : ℕ) → IsPacedFor n self.old → moves_of self.new ≤ moves_of self.old
-            + tick_bound (smooth_table self.old) n }
-        ensures counted { moves_of self.new + wheels_left self.new ≡ moves_of self.old + wheels_left self.old }
-        ensures starts { starts_of self.new ≡ starts_of self.old }
-        ensures paced { (n : ℕ) → held_count (smooth_state self.old) ≤ n → IsPacedFor n self.old → IsPacedFor n self.new }
-        ensures table { smooth_table self.new ≡ smooth_table self.old }
-    {
-        self.leap(end);
-        self.per_tick();
+        held_from(&self.wheels.buckets, place)
     }
 }
 
 impl<N: Kept> Wheel for SmoothWheel<N> {
-    ghost use Rattle.timer_wheels.specs.SmoothWheel.{smooth_state, smooth-well_formed, smooth_table, starts_of, moves_of, next_moves, moves_ahead, lists_in, AreWhereTheyWere, wheels_left, wheel_in, PassesSomeTicks, IsPacedFor};
+    ghost use Rattle.timer_wheels.specs.smooth.SmoothWheel.{smooth_state, smooth-well_formed, starts_of, moves_of, next_moves, moves_ahead, lists_in, AreWhereTheyWere, wheels_left, wheel_in, IsPacedFor};
     ghost use Rattle.timer_wheels.specs.Buckets.{RemovesRow};
 
     ghost state = { λ wheel. smooth_state wheel };
@@ -270,23 +199,23 @@ impl<N: Kept> Wheel for SmoothWheel<N> {
     ghost wakes = { λ layout now pending wake. wake ≡ next_visit (radices_of layout) now pending };
 
     fn last_tick(&self) -> u64 {
-        self.bank.buckets.last_tick
+        self.wheels.buckets.last_tick
     }
 
     fn now(&self) -> u64 {
-        self.bank.buckets.tick
+        self.wheels.buckets.tick
     }
 
     fn len(&self) -> usize {
-        self.bank.buckets.len()
+        self.wheels.buckets.len()
     }
 
     fn has_due(&self) -> bool {
-        self.bank.buckets.has_due()
+        self.wheels.buckets.has_due()
     }
 
     fn last_serial(&self) -> u64 {
-        self.bank.buckets.last_serial
+        self.wheels.buckets.last_serial
     }
 
     /// If the timer comes to a next bucket that has timers, two of that bucket move.
@@ -310,11 +239,10 @@ impl<N: Kept> Wheel for SmoothWheel<N> {
         ensures none { OnErr result (moves_of self.new ≡ moves_of self.old) }
         ensures stay { OnErr result (lists_in self.new ≡ lists_in self.old) }
         ensures paced { (n : ℕ) → IsPacedFor n self.old → IsPacedFor n self.new }
-        ensures table { smooth_table self.new ≡ smooth_table self.old }
     {
-        let (handle, wheel) = self.bank.start(timer)?;
+        let (handle, wheel) = self.wheels.start(timer)?;
         self.starts += 1;
-        self.moves += make_way(&mut self.bank, wheel);
+        self.moves += make_way(&mut self.wheels, wheel);
         Ok(handle)
     }
 
@@ -327,13 +255,12 @@ impl<N: Kept> Wheel for SmoothWheel<N> {
         ensures moves { moves_of self.new ≡ moves_of self.old }
         ensures starts { starts_of self.new ≡ starts_of self.old }
         ensures paced { (n : ℕ) → IsPacedFor n self.old → IsPacedFor n self.new }
-        ensures table { smooth_table self.new ≡ smooth_table self.old }
     {
-        self.bank.reserve(most)
+        self.wheels.reserve(most)
     }
 
     fn look(&self, handle: Handle) -> Option<Timer> {
-        self.bank.buckets.look(handle)
+        self.wheels.buckets.look(handle)
     }
 
     fn stop(&mut self, handle: Handle) -> Option<Timer>
@@ -343,9 +270,8 @@ impl<N: Kept> Wheel for SmoothWheel<N> {
         ensures moves { moves_of self.new ≡ moves_of self.old }
         ensures starts { starts_of self.new ≡ starts_of self.old }
         ensures paced { (n : ℕ) → IsPacedFor n self.old → IsPacedFor n self.new }
-        ensures table { smooth_table self.new ≡ smooth_table self.old }
     {
-        self.bank.stop(handle)
+        self.wheels.stop(handle)
     }
 
     /// If the new timer comes to a next bucket that has timers, two of that bucket move.
@@ -368,16 +294,15 @@ impl<N: Kept> Wheel for SmoothWheel<N> {
         ensures none { IfNone result (moves_of self.new ≡ moves_of self.old) }
         ensures stay { IfNone result (lists_in self.new ≡ lists_in self.old) }
         ensures paced { (n : ℕ) → IsPacedFor n self.old → IsPacedFor n self.new }
-        ensures table { smooth_table self.new ≡ smooth_table self.old }
     {
-        let (restarted, wheel) = self.bank.restart(handle, timer)?;
+        let (restarted, wheel) = self.wheels.restart(handle, timer)?;
         self.starts += 1;
-        self.moves += make_way(&mut self.bank, wheel);
+        self.moves += make_way(&mut self.wheels, wheel);
         Some(restarted)
     }
 
-    /// Each timer that moves goes just one wheel down, and is counted. At most as many move as the paces are in sum: in
-    /// `Table::Wide` at most 2n/63 + 18, if never more than n were held since the wheel was made.
+    /// Each timer that moves goes just one wheel down, and is counted. At most as many move as the paces are in sum: at
+    /// most 2n/63 + 18, if never more than n were held since the wheel was made.
     #[inline(always)]
     fn per_tick(&mut self)
         requires nothing_due { (smooth_state self.old).due ≡ [] }
@@ -386,15 +311,14 @@ impl<N: Kept> Wheel for SmoothWheel<N> {
         ensures at_most { moves_of self.new ≤ moves_of self.old + next_moves self.old }
         ensures ahead { moves_of self.new ≤ moves_of self.old + moves_ahead self.old }
         ensures bound { (n : ℕ) → IsPacedFor n self.old → moves_of self.new ≤ moves_of self.old
-            + tick_bound (smooth_table self.old) n }
+            + tick_bound n }
         ensures counted { moves_of self.new + wheels_left self.new ≡ moves_of self.old + wheels_left self.old }
         ensures starts { starts_of self.new ≡ starts_of self.old }
         ensures paced { (n : ℕ) → held_count (smooth_state self.new) ≤ n → IsPacedFor n self.old → IsPacedFor n self.new }
-        ensures table { smooth_table self.new ≡ smooth_table self.old }
     {
-        let moves = move_all(&mut self.bank, &mut self.paces);
-        self.bank.next_tick();
-        fix_paces(&self.bank, &mut self.paces);
+        let moves = move_all(&mut self.wheels, &mut self.paces);
+        self.wheels.next_tick();
+        fix_paces(&self.wheels, &mut self.paces);
         self.moves += moves;
     }
 
@@ -407,18 +331,17 @@ impl<N: Kept> Wheel for SmoothWheel<N> {
         requires before_last { most ≤ (smooth_state self.old).last_tick - (smooth_state self.old).now }
         ensures advances { Advances most result (smooth_state self.old) (smooth_state self.new) }
         ensures bound { (n : ℕ) → held_count (smooth_state self.old) ≤ n → IsPacedFor n self.old → moves_of self.new
-            ≤ moves_of self.old + result * tick_bound (smooth_table self.old) n }
+            ≤ moves_of self.old + result * tick_bound n }
         ensures counted { moves_of self.new + wheels_left self.new ≡ moves_of self.old + wheels_left self.old }
         ensures starts { starts_of self.new ≡ starts_of self.old }
         ensures paced { (n : ℕ) → held_count (smooth_state self.old) ≤ n → IsPacedFor n self.old → IsPacedFor n self.new }
-        ensures table { smooth_table self.new ≡ smooth_table self.old }
     {
-        let first = self.bank.buckets.tick;
+        let first = self.wheels.buckets.tick;
         let end = first + most;
-        while self.bank.buckets.tick < end {
+        while self.wheels.buckets.tick < end {
             self.pass(end);
-            if self.bank.buckets.has_due() {
-                return self.bank.buckets.tick - first;
+            if self.wheels.buckets.has_due() {
+                return self.wheels.buckets.tick - first;
             }
         }
         most
@@ -428,14 +351,14 @@ impl<N: Kept> Wheel for SmoothWheel<N> {
     /// wheel, without a walk.
     #[inline(never)]
     fn quiet_until(&self) -> Option<u64> {
-        self.bank.next_visit()
+        self.wheels.next_visit()
     }
 
     /// Found in the first bucket with a timer of each wheel: on wheel 0 without a look at its timers, and on a higher wheel
     /// by a walk along that bucket, unless it begins after a deadline that was found already.
     #[inline(never)]
     fn next_deadline(&self) -> Option<u64> {
-        self.bank.next_deadline()
+        self.wheels.next_deadline()
     }
 
     fn expire(&mut self) -> Option<Timer>
@@ -445,17 +368,16 @@ impl<N: Kept> Wheel for SmoothWheel<N> {
         ensures moves { moves_of self.new ≡ moves_of self.old }
         ensures starts { starts_of self.new ≡ starts_of self.old }
         ensures paced { (n : ℕ) → IsPacedFor n self.old → IsPacedFor n self.new }
-        ensures table { smooth_table self.new ≡ smooth_table self.old }
     {
-        self.bank.expire()
+        self.wheels.expire()
     }
 
     fn list(&self) -> Result<Vec<Timer>, OutOfMemory> {
-        self.bank.buckets.list()
+        self.wheels.buckets.list()
     }
 
     fn list_into(&self, timers: &mut Vec<Timer>) -> Result<(), OutOfMemory> {
-        self.bank.buckets.list_into(timers)
+        self.wheels.buckets.list_into(timers)
     }
 
     #[inline(never)]
@@ -464,9 +386,8 @@ impl<N: Kept> Wheel for SmoothWheel<N> {
         ensures moves { moves_of self.new ≡ moves_of self.old }
         ensures starts { starts_of self.new ≡ starts_of self.old }
         ensures paced { IsPacedFor 0 self.new }
-        ensures table { smooth_table self.new ≡ smooth_table self.old }
     {
-        self.bank.clear();
+        self.wheels.clear();
         self.paces = Paces::new();
     }
 

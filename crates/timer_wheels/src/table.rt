@@ -9,12 +9,11 @@
 //!     Small   4161 = 1 * 16^3 + 4 * 16 + 1                     digits  0 0 1 0 4 1
 //!
 //! How a digit is found is each table's own matter. All that depends on it is in the table's file, or in `equal` for a
-//! table of equal digits that has none. Its public functions are called by those here and by those of a smooth wheel's
-//! `turns`.
+//! table of equal digits that has none. Its public functions are called by those here.
 ghost use Rattle.std.specs.Prelude.{◌≡◌, ◌==◌, ◌<◌, ◌≤◌, ◌/◌, ◌%◌};
 ghost use Rattle.timer_base.specs.declared.limits.TheConstants.{LAST};
 ghost use Rattle.timer_wheels.specs.declared.table.TheConstants.{MOST_BUCKETS};
-ghost use Rattle.timer_wheels.specs.Leap.{list_visit};
+ghost use Rattle.timer_wheels.specs.hier.Leap.{list_visit};
 ghost use Rattle.timer_wheels.specs.Tables.{radices, last_of_table};
 ghost use Rattle.timer_wheels.specs.Digits.{bucket, emptied, slots, last_of, lowest_radix};
 
@@ -48,9 +47,6 @@ pub const LAST_OF_SMALL: u64 = 16777215;
 pub const MOST_BUCKETS: usize = 640;
 
 // by hand
-
-/// The lists of each wheel but the highest, if it has two revolutions of slots.
-pub const STRIDE: usize = 128;
 
 /// A call of a function in the table's own file.
 macro_rules! of_table {
@@ -101,7 +97,7 @@ pub fn buckets_of(table: Table) -> usize
 
 /// The last tick that has its digits in the table.
 #[inline]
-#[tactic(auto, using(crate::proofs::TableLaws::named_last))]
+#[tactic(auto, using(crate::proofs::table_lemmas::TableLaws::named_last))]
 pub fn last_tick_of(table: Table) -> u64
     ensures value { result ≡ last_of (radices table) }
     ensures named { result ≡ last_of_table table }

@@ -6,14 +6,12 @@ ghost use Rattle.timer_base.specs.Counts.{no_counts};
 ghost use Rattle.timer_base.specs.WheelState.{empty_wheel, held_at, held_count, old_timer, first_due, after_reserve, after_held_start, after_removal, after_replacement, after_tick, after_expiry, after_clear, Advances};
 ghost use Rattle.timer_base.specs.declared.limits.TheConstants.{LAST};
 ghost use Rattle.timer_wheels.specs.Buckets.{RemovesRow};
-ghost use Rattle.timer_wheels.specs.Paces.{tick_bound};
-ghost use Rattle.timer_wheels.specs.SmoothWheel.{smooth_state, smooth_table, starts_of, moves_of, next_moves, moves_ahead, lists_in, AreWhereTheyWere, wheels_left, wheel_in, IsPacedFor};
+ghost use Rattle.timer_wheels.specs.smooth.Paces.{tick_bound};
+ghost use Rattle.timer_wheels.specs.smooth.SmoothWheel.{smooth_state, starts_of, moves_of, next_moves, moves_ahead, lists_in, AreWhereTheyWere, wheels_left, wheel_in, IsPacedFor};
 ghost use Rattle.timer_wheels.specs.TieredWheel.{option_of, KeepsPace};
 ghost use Rattle.timer_base.specs.WakeUps.{IsQuietUntil};
 ghost use Rattle.timer_wheels.specs.HeldPlaces.{IsFirstHeld, IsAlone};
-ghost use Rattle.timer_wheels.specs.HierWheel.{IsHierFault, with_counted_start};
-ghost use Rattle.timer_wheels.specs.Files.{with_start};
-ghost use Rattle.timer_wheels.specs.LazyWheel.{lazy_state, lazy_counts};
+ghost use Rattle.timer_wheels.specs.hier.HierWheel.{IsHierFault, with_counted_start};
 ghost use Rattle.timer_wheels.specs.Tables.{layout_of_table, last_of_table, radices_of};
 ghost use Rattle.timer_wheels.specs.Tiers.{layout_of_tiers, last_of_tiers};
 ghost use Rattle.timer_wheels.specs.WakeUps.{next_visit};
@@ -40,6 +38,19 @@ pub enum TieredWheel<N: Kept = Timer> {
     Smooth(SmoothWheel<N>),
 }
 
+/// What becomes of a timer that is restarted.
+#[derive(Clone, Copy, Drop)]
+pub enum RestartWay {
+    /// It stays in its bucket.
+    Stays,
+    /// It moves to another bucket.
+    Moves,
+    /// There is none, and a node is ready for one that is started.
+    Starts,
+    /// Anything else: in a smooth wheel, for a deadline that has passed, or where memory has to be found.
+    Other,
+}
+
 impl<N: Kept> TieredWheel<N> {
     ghost use Rattle.timer_wheels.specs.TieredWheel.{tiered_state, buckets_in, counts_in, moves_in, moves_of_start, IsPacedIn};
 
@@ -61,7 +72,7 @@ impl<N: Kept> TieredWheel<N> {
     {
         let table = match tiers {
             Tiers::Smooth => {
-                let wheel = SmoothWheel::keeping(alloc, Table::Wide, first_tick)?;
+                let wheel = SmoothWheel::keeping(alloc, first_tick)?;
                 return Ok(TieredWheel::Smooth(wheel));
             }
             // made by tools/facts: tables of hierarchies
@@ -97,12 +108,35 @@ impl<N: Kept> TieredWheel<N> {
         }
     }
 
-    /// Whether a restart of this timer for this deadline leaves it where it stands. Nothing depends on it but how a restart is
+    /// What becomes of a timer with this handle if it is restarted for this deadline. Nothing depends on it but how calls are
     /// compiled. Does not allocate.
     #[inline(always)]
-    pub fn stays(&self, handle: Handle, deadline: u64) -> bool {
+    pub fn way(&self, handle: Handle, deadline: u64) -> RestartWay {
+        let TieredWheel::Lazy(wheel) = self else {
+            return RestartWay::Other;
+        };
+        let buckets = wheel.buckets();
+        let Some(old) = buckets.look(handle) else {
+            return if wheel.is_ready() {
+                RestartWay::Starts
+            } else {
+                RestartWay::Other
+            };
+        };
+        if old.deadline > buckets.tick && old.deadline <= deadline {
+            RestartWay::Stays
+        } else if deadline > buckets.tick {
+            RestartWay::Moves
+        } else {
+            RestartWay::Other
+        }
+    }
+
+    /// Whether a node is ready for the next timer of a lazy wheel. Nothing depends on it but how a start is compiled.
+    #[inline(always)]
+    pub fn is_ready(&self) -> bool {
         match self {
-            TieredWheel::Lazy(_) => self.buckets().stays(handle, deadline),
+            TieredWheel::Lazy(wheel) => wheel.is_ready(),
             TieredWheel::Smooth(_) => false,
         }
     }
@@ -197,30 +231,20 @@ impl<N: Kept> Wheel for TieredWheel<N> {
         ensures stay { OnErr result (IfSmooth (λ old new. lists_in new ≡ lists_in old) self.old self.new) }
         ensures paced { IfSmooth KeepsPace self.old self.new }
     {
-        let place = match self {
-            TieredWheel::Lazy(wheel) => {
-                if wheel.is_ready() {
-                    return wheel.start(timer);
-                }
-                start_lazy(
+        match self {
+            TieredWheel::Lazy(wheel) => wheel.start(timer),
+            TieredWheel::Smooth(wheel) => {
+                let place = start_smooth(
                     wheel,
                     timer.serial,
                     timer.client,
                     timer.number,
                     timer.deadline,
                     timer.action,
-                )
+                );
+                handle_at(place, timer.serial)
             }
-            TieredWheel::Smooth(wheel) => start_smooth(
-                wheel,
-                timer.serial,
-                timer.client,
-                timer.number,
-                timer.deadline,
-                timer.action,
-            ),
-        };
-        handle_at(place, timer.serial)
+        }
     }
 
     fn reserve(&mut self, most: usize) -> Result<(), OutOfMemory>
@@ -303,12 +327,11 @@ impl<N: Kept> Wheel for TieredWheel<N> {
         ensures at_most { IfSmooth (λ old new. moves_of new ≤ moves_of old + next_moves old) self.old self.new }
         ensures ahead { IfSmooth (λ old new. moves_of new ≤ moves_of old + moves_ahead old) self.old self.new }
         ensures bound { IfSmooth (λ old new. (n : ℕ) → IsPacedFor n old
-            → moves_of new ≤ moves_of old + tick_bound (smooth_table old) n) self.old self.new }
+            → moves_of new ≤ moves_of old + tick_bound n) self.old self.new }
         ensures counted { IfSmooth (λ old new. moves_of new + wheels_left new ≡ moves_of old + wheels_left old)
             self.old self.new }
         ensures paced { IfSmooth (λ old new. (n : ℕ) → held_count (smooth_state new) ≤ n → IsPacedFor n old
             → IsPacedFor n new) self.old self.new }
-        ensures table { IfSmooth (λ old new. smooth_table new ≡ smooth_table old) self.old self.new }
     {
         match self {
             TieredWheel::Lazy(wheel) => wheel.per_tick(),
@@ -330,12 +353,11 @@ impl<N: Kept> Wheel for TieredWheel<N> {
         ensures advances { Advances most result (tiered_state self.old) (tiered_state self.new) }
         ensures counts { counts_in self.new ≡ counts_in self.old }
         ensures bound { IfSmooth (λ old new. (n : ℕ) → held_count (smooth_state old) ≤ n → IsPacedFor n old
-            → moves_of new ≤ moves_of old + result * tick_bound (smooth_table old) n) self.old self.new }
+            → moves_of new ≤ moves_of old + result * tick_bound n) self.old self.new }
         ensures counted { IfSmooth (λ old new. moves_of new + wheels_left new ≡ moves_of old + wheels_left old)
             self.old self.new }
         ensures paced { IfSmooth (λ old new. (n : ℕ) → held_count (smooth_state old) ≤ n → IsPacedFor n old
             → IsPacedFor n new) self.old self.new }
-        ensures table { IfSmooth (λ old new. smooth_table new ≡ smooth_table old) self.old self.new }
     {
         match self {
             TieredWheel::Lazy(wheel) => wheel.advance(most),
@@ -385,7 +407,6 @@ impl<N: Kept> Wheel for TieredWheel<N> {
         ensures counts { counts_in self.new ≡ counts_in self.old }
         ensures moves { moves_in self.new ≡ moves_in self.old }
         ensures paced { IsPacedIn 0 self.new }
-        ensures table { IfSmooth (λ old new. smooth_table new ≡ smooth_table old) self.old self.new }
     {
         match self {
             TieredWheel::Lazy(wheel) => wheel.clear(),
@@ -422,46 +443,8 @@ fn handle_at(place: Option<usize>, serial: u64) -> Result<Handle, OutOfMemory>
     }
 }
 
-// The calls that are out of line: those of a smooth wheel, and a start that makes room. What they return fits into registers:
-// else the others would have their results in memory, too.
-
-/// Starts a timer, and returns its place.
-#[inline(never)]
-fn start_lazy<N: Kept>(
-    wheel: &mut LazyWheel<N>,
-    serial: u64,
-    client: u64,
-    number: u64,
-    deadline: u64,
-    action: u64,
-) -> Option<usize>
-    requires not_past { (lazy_state wheel.old).now ≤ deadline }
-    requires deadline { deadline ≤ (lazy_state wheel.old).last_tick }
-    requires fresh { (lazy_state wheel.old).last_serial < serial }
-    requires serial { serial ≤ LAST }
-    requires keeps { N.keeps (record {
-      timer = record { serial = serial; client = client; number = number; deadline = deadline; action = action };
-      rounds = 0;
-    }) }
-    ensures started { IfSome result (λ place. lazy_state wheel.new
-        ≡ after_held_start place (record { serial = serial; client = client; number = number; deadline = deadline; action = action }) (lazy_state wheel.old)) }
-    ensures full { IfNone result ((lazy_state wheel.old).room ≤ held_count (lazy_state wheel.old)) }
-    ensures err { IfNone result (lazy_state wheel.new ≡ lazy_state wheel.old) }
-    ensures counts { MatchOption result (lazy_counts wheel.new ≡ lazy_counts wheel.old)
-        (λ _. lazy_counts wheel.new ≡ with_start (lazy_counts wheel.old)) }
-{
-    let timer = Timer {
-        serial,
-        client,
-        number,
-        deadline,
-        action,
-    };
-    match wheel.start(timer) {
-        Ok(handle) => Some(handle.place),
-        Err(_) => None,
-    }
-}
+// The calls that are out of line: those of a smooth wheel. What they return fits into registers: else the others would have their
+// results in memory, too.
 
 /// Starts a timer, and returns its place.
 #[inline(never)]
@@ -561,10 +544,9 @@ fn tick_smooth<N: Kept>(wheel: &mut SmoothWheel<N>)
     ensures at_most { moves_of wheel.new ≤ moves_of wheel.old + next_moves wheel.old }
     ensures ahead { moves_of wheel.new ≤ moves_of wheel.old + moves_ahead wheel.old }
     ensures bound { (n : ℕ) → IsPacedFor n wheel.old → moves_of wheel.new ≤ moves_of wheel.old
-        + tick_bound (smooth_table wheel.old) n }
+        + tick_bound n }
     ensures counted { moves_of wheel.new + wheels_left wheel.new ≡ moves_of wheel.old + wheels_left wheel.old }
     ensures paced { (n : ℕ) → held_count (smooth_state wheel.new) ≤ n → IsPacedFor n wheel.old → IsPacedFor n wheel.new }
-    ensures table { smooth_table wheel.new ≡ smooth_table wheel.old }
 {
     wheel.per_tick();
 }

@@ -9,12 +9,12 @@ ghost use Rattle.timer_base.specs.declared.limits.TheConstants.{LAST};
 ghost use Rattle.timer_links.specs.Lists.{SetsNode};
 ghost use Rattle.timer_wheels.specs.Buckets.{state_of, IsListOf};
 ghost use Rattle.timer_wheels.specs.Digits.{bucket, slots};
-ghost use Rattle.timer_wheels.specs.Files.{AreFiles, AreFiles-prop, ArePaid, StaysInPlace, with_start};
+ghost use Rattle.timer_wheels.specs.lazy.Files.{AreFiles, AreFiles-prop, ArePaid, StaysInPlace, with_start};
 ghost use Rattle.timer_wheels.specs.Tables.{radices, slots_of_table, last_of_table};
 
 use crate::buckets::Buckets;
 use crate::lazy::filing::SPARE_LISTS;
-use crate::occupied::{Occupied, enter, leave};
+use crate::occupied::{Occupied, enter_first, leave};
 use crate::table::{Table, bucket_of, buckets_of, last_tick_of};
 use std::alloc::Global;
 use timer_base::{Handle, OutOfMemory, Timer};
@@ -32,10 +32,11 @@ pub struct FilingCounts {
 /// The buckets of a table, and which of them have a timer.
 #[derive(Drop)]
 pub struct Files<N: Kept = Timer> {
-    /// The radices, which no call changes.
-    pub table: Table,
+    // First, as in a smooth wheel: so C reads the buckets of either without a branch.
     /// A bucket for each slot of each wheel, and after them the spare lists of `filing`.
     pub buckets: Buckets<N>,
+    /// The radices, which no call changes.
+    pub table: Table,
     /// Which buckets have a timer.
     pub occupied: Occupied,
     /// What it counted.
@@ -108,8 +109,9 @@ impl<N: Kept> Files<N> {
     {
         let tick = self.buckets.tick;
         let list = self.list_of(timer.deadline);
+        let was_empty = self.buckets.links.is_empty(list);
         let handle = self.buckets.start(list, timer, 0)?;
-        enter(&mut self.occupied, tick, timer.deadline, list);
+        enter_first(&mut self.occupied, tick, timer.deadline, list, was_empty);
         let counts = &mut self.counts;
         counts.starts += 1;
         Ok(handle)
@@ -192,8 +194,7 @@ impl<N: Kept> Files<N> {
     }
 
     /// Removes the timer with just this handle, and starts another at its place, in its bucket. Does not allocate.
-    // Out of line: most restarts push a timer back.
-    #[inline(never)]
+    #[inline(always)]
     pub fn restart_apart(&mut self, handle: Handle, timer: Timer) -> Option<(Handle, Timer)>
         requires not_past { self.old.buckets.tick ≤ timer.deadline }
         requires deadline { timer.deadline ≤ self.old.buckets.last_tick }
@@ -212,9 +213,12 @@ impl<N: Kept> Files<N> {
         self.buckets.links.lemma_keys_unique();
         let tick = self.buckets.tick;
         let list = self.list_of(timer.deadline);
+        let had_timers = !self.buckets.links.is_empty(list);
         let (restarted, emptied) = self.buckets.replace(handle, list, timer, 0)?;
+        // The one that it had may be this one, which leaves it first.
+        let was_empty = !had_timers || emptied.is_some();
         leave(&mut self.occupied, self.buckets.slots, emptied);
-        enter(&mut self.occupied, tick, timer.deadline, list);
+        enter_first(&mut self.occupied, tick, timer.deadline, list, was_empty);
         let counts = &mut self.counts;
         counts.starts += 1;
         Some(restarted)

@@ -12,14 +12,14 @@ ghost use Rattle.std.specs.Prelude.{◌≡◌, ◌+◌, ◌<◌, ◌≤◌, ℕ,
 ghost use Rattle.std.specs.List.{AllByRecursion};
 ghost use Rattle.timer_links.specs.Lists.{list_at};
 ghost use Rattle.timer_wheels.specs.Digits.{slots};
-ghost use Rattle.timer_wheels.specs.Filing.{EmptiesBucket};
-ghost use Rattle.timer_wheels.specs.Merges.{AreSorted, Sorts};
-ghost use Rattle.timer_wheels.specs.Migration.{MayMigrate, migrated, left_rows};
+ghost use Rattle.timer_wheels.specs.lazy.Filing.{EmptiesBucket};
+ghost use Rattle.timer_wheels.specs.lazy.Merges.{AreSorted, Sorts};
+ghost use Rattle.timer_wheels.specs.hier.Migration.{MayMigrate, migrated, left_rows};
 ghost use Rattle.timer_wheels.specs.Occupied.{bit_of, AreMarked, AreMarkedBut};
 ghost use Rattle.timer_wheels.specs.Tables.{radices};
 
+use crate::lazy::sorts::sort;
 use crate::occupied::Occupied;
-use crate::sorts::sort;
 use crate::table::{Table, bucket_of, buckets_of};
 use crate::walks::{front_timer, second_timer};
 use timer_links::{Kept, Links};

@@ -8,14 +8,14 @@ ghost use Rattle.timer_base.specs.WheelState.{Advances, IsPassing, after_tick};
 ghost use Rattle.timer_links.specs.Lists.{list_at};
 ghost use Rattle.timer_wheels.specs.Buckets.{state_of};
 ghost use Rattle.timer_wheels.specs.Digits.{emptied, slots};
-ghost use Rattle.timer_wheels.specs.Files.{AreVisitedFrom, IsBy, with_filings, filings_left, filed_next};
-ghost use Rattle.timer_wheels.specs.SmoothWheel.{PassesSomeTicks};
+ghost use Rattle.timer_wheels.specs.lazy.Files.{AreVisitedFrom, IsBy, with_filings, filings_left, filed_next};
+ghost use Rattle.timer_wheels.specs.smooth.SmoothWheel.{PassesSomeTicks};
 ghost use Rattle.timer_wheels.specs.Tables.{radices};
 
 use crate::deadlines::least_in;
+use crate::hier::leap::is_clear_to;
 use crate::lazy::files::Files;
 use crate::lazy::filing::empty_bucket;
-use crate::leap::is_clear_to;
 use crate::table::{Table, buckets_of, emptied_at, visit_of, with_constant_table};
 use timer_base::earlier;
 use timer_links::Kept;

@@ -3,11 +3,11 @@
 //! A pace is fixed as a bucket begins to be the next one, and is 0 if the bucket has no timers, or none any more. Then no
 //! timer comes to it until it is the next one no longer. So if the sum is 0, a tick has nothing to move.
 ghost use Rattle.std.specs.Prelude.{◌≡◌, ◌≢◌, ◌<◌, ◌≤◌, ℕ, List};
-ghost use Rattle.timer_wheels.specs.Paces.{ArePaces, pace_at, pace_sum};
+ghost use Rattle.timer_wheels.specs.smooth.Paces.{ArePaces, pace_at, pace_sum};
 ghost use Rattle.timer_wheels.specs.declared.smooth.paces.TheConstants.{MOST_PACE};
-ghost use Rattle.timer_wheels.specs.declared.smooth.turns.TheConstants.{MOST_WHEELS};
+ghost use Rattle.timer_wheels.specs.declared.smooth.slot_lists.TheConstants.{MOST_WHEELS};
 
-use crate::smooth::turns::MOST_WHEELS;
+use crate::smooth::slot_lists::MOST_WHEELS;
 use std::marker::Model;
 
 /// No pace is above it, for as many timers as links can name.

@@ -1,15 +1,11 @@
 //! The table of a clock: wheels of 60 seconds, 60 minutes, 24 hours and 100 days, which divide by constants.
 //!
 //! Its ticks fit into 32 bits. Such a number is divided by one product of 64 bits, and takes fewer registers.
-ghost use Rattle.std.specs.Prelude.{◌≡◌, ◌==◌, ◌<◌, ◌≤◌, ◌*◌, ◌/◌, ◌%◌, length};
-ghost use Rattle.timer_wheels.specs.Leap.{list_visit};
-ghost use Rattle.timer_wheels.specs.Digits.{level, bucket, emptied, slots, radix, weight, last_of, lowest_radix};
-ghost use Rattle.timer_wheels.specs.Smooth.{slot_in, smooth_list, smooth_slots};
+ghost use Rattle.std.specs.Prelude.{◌≡◌, ◌==◌, ◌<◌, ◌≤◌, ◌/◌, ◌%◌};
+ghost use Rattle.timer_wheels.specs.hier.Leap.{list_visit};
+ghost use Rattle.timer_wheels.specs.Digits.{bucket, emptied, slots, last_of, lowest_radix};
 ghost use Rattle.timer_wheels.specs.Tables.{clock};
-ghost use Rattle.timer_wheels.specs.declared.smooth.turns.TheConstants.{MOST_WHEELS, MOST_LISTS};
 ghost use Rattle.timer_wheels.specs.declared.table.TheConstants.{MOST_BUCKETS};
-
-use crate::table::STRIDE;
 
 /// How many buckets all wheels have.
 #[inline]
@@ -52,7 +48,7 @@ pub fn is_rollover(tick: u64) -> bool
 
 /// The list of a timer that is pending now.
 #[inline(always)]
-#[tactic(auto, using(crate::proofs::ClockDigits::clock_buckets), unfolding(crate::specs::Tables::clock))]
+#[tactic(auto, using(crate::proofs::table_lemmas::ClockDigits::clock_buckets), unfolding(crate::specs::Tables::clock))]
 pub fn bucket_of(now: u64, deadline: u64) -> usize
     requires later { now < deadline }
     requires deadline { deadline ≤ last_of clock }
@@ -79,7 +75,7 @@ pub fn bucket_of(now: u64, deadline: u64) -> usize
 
 /// The list that a tick empties.
 #[inline]
-#[tactic(auto, using(crate::proofs::ClockDigits::clock_emptied), unfolding(crate::specs::Tables::clock))]
+#[tactic(auto, using(crate::proofs::table_lemmas::ClockDigits::clock_emptied), unfolding(crate::specs::Tables::clock))]
 pub fn emptied_at(tick: u64) -> usize
     requires later { 0 < tick }
     requires in_range { tick ≤ last_of clock }
@@ -103,7 +99,7 @@ pub fn emptied_at(tick: u64) -> usize
 
 /// Now with the slot of a list as its digit, and zeros below.
 #[inline]
-#[tactic(auto, using(crate::proofs::ClockDigits::clock_visits), unfolding(crate::specs::Tables::clock))]
+#[tactic(auto, using(crate::proofs::table_lemmas::ClockDigits::clock_visits), unfolding(crate::specs::Tables::clock))]
 pub fn visit_of(list: usize, now: u64) -> u64
     requires list { list < slots clock }
     requires now { now ≤ last_of clock }
@@ -122,107 +118,4 @@ pub fn visit_of(list: usize, now: u64) -> u64
         return (60 * (60 * (24 * (hour / 24) + (list - 120)))) as u64;
     }
     (60 * (60 * (24 * (list - 144)))) as u64
-}
-
-/// How many wheels there are.
-#[inline]
-#[tactic(auto, unfolding(crate::specs::Tables::clock))]
-pub fn wheels() -> usize
-    ensures value { result ≡ length clock }
-    ensures few { result ≤ MOST_WHEELS }
-    ensures some { 0 < result }
-{
-    4
-}
-
-/// How many lists the buckets are, with two revolutions of slots each.
-#[inline]
-#[tactic(auto, unfolding(crate::specs::Tables::clock))]
-pub fn turned_lists() -> usize
-    ensures value { result ≡ smooth_slots clock }
-    ensures in_range { result ≤ MOST_LISTS }
-{
-    584
-}
-
-/// How many ticks a slot of a wheel is.
-#[inline]
-#[tactic(auto, unfolding(crate::specs::Tables::clock))]
-pub fn weight_of(wheel: usize) -> u64
-    requires { wheel < length clock }
-    ensures { result ≡ weight wheel clock }
-{
-    match wheel {
-        0 => 1,
-        1 => 60,
-        2 => 3600,
-        _ => 86400,
-    }
-}
-
-/// How many slots a wheel has in two revolutions.
-#[inline]
-#[tactic(auto, unfolding(crate::specs::Tables::clock))]
-pub fn turns_of(wheel: usize) -> u64
-    requires { wheel < length clock }
-    ensures value { result ≡ 2 * radix wheel clock }
-    ensures few { result ≤ 200 }
-{
-    match wheel {
-        0 => 120,
-        1 => 120,
-        2 => 48,
-        _ => 200,
-    }
-}
-
-/// The slot of a tick on a wheel, counted from tick 0 on.
-#[inline]
-#[tactic(auto, unfolding(crate::specs::Tables::clock))]
-pub fn slot_of(wheel: usize, tick: u64) -> u64
-    requires { wheel < length clock }
-    ensures { result ≡ slot_in clock wheel tick }
-{
-    match wheel {
-        0 => tick,
-        1 => tick / 60,
-        2 => tick / 3600,
-        _ => tick / 86400,
-    }
-}
-
-/// The list of such a slot.
-#[inline]
-#[tactic(auto, unfolding(crate::specs::Tables::clock))]
-pub fn list_of_slot(wheel: usize, slot: u64) -> usize
-    requires { wheel < length clock }
-    ensures value { result ≡ smooth_list clock wheel slot }
-    ensures in_range { result < smooth_slots clock }
-{
-    match wheel {
-        0 => (slot % 120) as usize,
-        1 => STRIDE + (slot % 120) as usize,
-        2 => 2 * STRIDE + (slot % 48) as usize,
-        _ => 3 * STRIDE + (slot % 200) as usize,
-    }
-}
-
-/// The highest wheel on which a deadline has another digit than now.
-#[inline]
-#[tactic(auto, using(crate::proofs::ClockDigits::clock_levels, crate::proofs::ClockDigits::clock_length), unfolding(crate::specs::Tables::clock))]
-pub fn wheel_of(now: u64, deadline: u64) -> usize
-    requires later { now < deadline }
-    requires deadline { deadline ≤ last_of clock }
-    ensures value { result ≡ level clock now deadline }
-    ensures in_range { result < length clock }
-{
-    if now / 60 == deadline / 60 {
-        0
-    } else if now / 60 / 60 == deadline / 60 / 60 {
-        1
-    } else if now / 60 / 60 / 24 == deadline / 60 / 60 / 24 {
-        2
-    } else {
-        3
-    }
 }

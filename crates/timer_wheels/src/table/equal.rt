@@ -3,17 +3,13 @@
 //! The loops are shorter than a case for each wheel, and a machine with little memory has little room for code. They pass
 //! all wheels but one at most. No table of them needs a file of its own.
 ghost use Rattle.std.specs.Prelude.{◌≡◌, ◌==◌, ◌<◌, ◌≤◌, ◌+◌, ◌*◌, ◌/◌, ◌%◌, ◌^◌, length};
-ghost use Rattle.timer_wheels.specs.Leap.{list_visit};
-ghost use Rattle.timer_wheels.specs.Smooth.{slot_in, smooth_list, smooth_slots};
-ghost use Rattle.timer_wheels.specs.Digits.{equals, AreFew, level, bucket, emptied, slots, radix, weight, last_of, lowest_radix};
-ghost use Rattle.timer_wheels.specs.declared.smooth.turns.TheConstants.{MOST_WHEELS, MOST_LISTS};
+ghost use Rattle.timer_wheels.specs.hier.Leap.{list_visit};
+ghost use Rattle.timer_wheels.specs.Digits.{equals, AreFew, bucket, emptied, slots, last_of, lowest_radix};
 ghost use Rattle.timer_wheels.specs.declared.table.TheConstants.{MOST_BUCKETS};
-
-use crate::table::STRIDE;
 
 /// How many values a digit has.
 #[inline]
-#[tactic(auto, using(crate::proofs::EqualDigits::few_radix))]
+#[tactic(auto, using(crate::proofs::table_lemmas::EqualDigits::few_radix))]
 fn radix_of<const BITS: u32>() -> u64
     requires { BITS ≤ 6 }
     ensures value { result ≡ 2 ^ BITS }
@@ -36,7 +32,7 @@ fn bits_below<const BITS: u32, const WHEELS: usize>(wheel: usize) -> u32
 
 /// How many buckets all wheels have.
 #[inline]
-#[tactic(auto, using(crate::proofs::EqualDigits::list_rules))]
+#[tactic(auto, using(crate::proofs::table_lemmas::EqualDigits::list_rules))]
 pub fn buckets<const BITS: u32, const WHEELS: usize>() -> usize
     requires { AreFew BITS WHEELS }
     ensures value { result ≡ slots (equals BITS WHEELS) }
@@ -47,7 +43,7 @@ pub fn buckets<const BITS: u32, const WHEELS: usize>() -> usize
 
 /// How many slots the lowest wheel has.
 #[inline]
-#[tactic(auto, using(crate::proofs::EqualDigits::lowest_is_radix))]
+#[tactic(auto, using(crate::proofs::table_lemmas::EqualDigits::lowest_is_radix))]
 pub fn lowest_slots<const BITS: u32, const WHEELS: usize>() -> usize
     requires { AreFew BITS WHEELS }
     ensures value { result ≡ lowest_radix (equals BITS WHEELS) }
@@ -59,7 +55,7 @@ pub fn lowest_slots<const BITS: u32, const WHEELS: usize>() -> usize
 
 /// How many multiples of the lowest wheel's slots are after 0 and at most the tick.
 #[inline]
-#[tactic(auto, using(crate::proofs::EqualDigits::revolutions_are))]
+#[tactic(auto, using(crate::proofs::table_lemmas::EqualDigits::revolutions_are))]
 pub fn revolutions<const BITS: u32, const WHEELS: usize>(tick: u64) -> u64
     requires { AreFew BITS WHEELS }
     ensures { result ≡ tick / lowest_radix (equals BITS WHEELS) }
@@ -69,7 +65,7 @@ pub fn revolutions<const BITS: u32, const WHEELS: usize>(tick: u64) -> u64
 
 /// Whether the tick is a multiple of the lowest wheel's slots.
 #[inline]
-#[tactic(auto, using(crate::proofs::EqualDigits::rollover_is))]
+#[tactic(auto, using(crate::proofs::table_lemmas::EqualDigits::rollover_is))]
 pub fn is_rollover<const BITS: u32, const WHEELS: usize>(tick: u64) -> bool
     requires { AreFew BITS WHEELS }
     ensures { result ≡ (tick % lowest_radix (equals BITS WHEELS) == 0) }
@@ -128,86 +124,4 @@ pub fn visit_of<const BITS: u32, const WHEELS: usize>(list: usize, now: u64) -> 
     let shift = bits_below::<BITS, WHEELS>((list / radix) as usize);
     let above = now >> shift;
     (above - above % radix + list % radix) << shift
-}
-
-/// How many wheels there are.
-#[inline]
-#[tactic(auto, using(crate::proofs::EqualDigits::wheels_are))]
-pub fn wheels<const BITS: u32, const WHEELS: usize>() -> usize
-    requires { AreFew BITS WHEELS }
-    ensures value { result ≡ length (equals BITS WHEELS) }
-    ensures few { result ≤ MOST_WHEELS }
-    ensures some { 0 < result }
-{
-    WHEELS
-}
-
-/// How many lists the buckets are, with two revolutions of slots each.
-#[inline]
-#[tactic(auto, using(crate::proofs::EqualDigits::turned_are))]
-pub fn turned_lists<const BITS: u32, const WHEELS: usize>() -> usize
-    requires { AreFew BITS WHEELS }
-    ensures value { result ≡ smooth_slots (equals BITS WHEELS) }
-    ensures in_range { result ≤ MOST_LISTS }
-{
-    STRIDE * (WHEELS - 1) + 2 * radix_of::<BITS>() as usize
-}
-
-/// How many ticks a slot of a wheel is.
-#[inline]
-#[tactic(auto, using(crate::proofs::EqualDigits::weight_by_bits))]
-pub fn weight_of<const BITS: u32, const WHEELS: usize>(wheel: usize) -> u64
-    requires few { AreFew BITS WHEELS }
-    requires wheel { wheel < length (equals BITS WHEELS) }
-    ensures { result ≡ weight wheel (equals BITS WHEELS) }
-{
-    1 << bits_below::<BITS, WHEELS>(wheel)
-}
-
-/// How many slots a wheel has in two revolutions.
-#[inline]
-#[tactic(auto, using(crate::proofs::EqualDigits::turns_are))]
-pub fn turns_of<const BITS: u32, const WHEELS: usize>(wheel: usize) -> u64
-    requires few { AreFew BITS WHEELS }
-    requires wheel { wheel < length (equals BITS WHEELS) }
-    ensures value { result ≡ 2 * radix wheel (equals BITS WHEELS) }
-    ensures few { result ≤ 200 }
-{
-    2 * radix_of::<BITS>()
-}
-
-/// The slot of a tick on a wheel, counted from tick 0 on.
-#[inline]
-#[tactic(auto, using(crate::proofs::EqualDigits::slot_by_bits))]
-pub fn slot_of<const BITS: u32, const WHEELS: usize>(wheel: usize, tick: u64) -> u64
-    requires few { AreFew BITS WHEELS }
-    requires wheel { wheel < length (equals BITS WHEELS) }
-    ensures { result ≡ slot_in (equals BITS WHEELS) wheel tick }
-{
-    tick >> bits_below::<BITS, WHEELS>(wheel)
-}
-
-/// The list of such a slot.
-#[inline]
-#[tactic(auto, using(crate::proofs::EqualDigits::turn_rules))]
-pub fn list_of_slot<const BITS: u32, const WHEELS: usize>(wheel: usize, slot: u64) -> usize
-    requires few { AreFew BITS WHEELS }
-    requires wheel { wheel < length (equals BITS WHEELS) }
-    ensures value { result ≡ smooth_list (equals BITS WHEELS) wheel slot }
-    ensures in_range { result < smooth_slots (equals BITS WHEELS) }
-{
-    STRIDE * wheel + (slot % (2 * radix_of::<BITS>())) as usize
-}
-
-/// The highest wheel on which a deadline has another digit than now.
-#[inline]
-#[tactic(auto, using(crate::proofs::EqualDigits::level_rules))]
-pub fn wheel_of<const BITS: u32, const WHEELS: usize>(now: u64, deadline: u64) -> usize
-    requires few { AreFew BITS WHEELS }
-    requires later { now < deadline }
-    requires deadline { deadline ≤ last_of (equals BITS WHEELS) }
-    ensures value { result ≡ level (equals BITS WHEELS) now deadline }
-    ensures in_range { result < length (equals BITS WHEELS) }
-{
-    bucket_of::<BITS, WHEELS>(now, deadline) / radix_of::<BITS>() as usize
 }

@@ -2,16 +2,12 @@
 //!
 //! A digit is six bits: the highest digit in which two ticks differ holds the highest bit in which they differ, and the
 //! lowest digit that isn't zero holds the lowest bit that is set.
-ghost use Rattle.std.specs.Prelude.{◌≡◌, ◌==◌, ◌<◌, ◌≤◌, ◌*◌, ◌/◌, ◌%◌, length};
+ghost use Rattle.std.specs.Prelude.{◌≡◌, ◌==◌, ◌<◌, ◌≤◌, ◌/◌, ◌%◌};
 ghost use Rattle.timer_base.specs.declared.limits.TheConstants.{LAST};
-ghost use Rattle.timer_wheels.specs.Leap.{list_visit};
-ghost use Rattle.timer_wheels.specs.Digits.{digit, level, lowest, bucket, emptied, slots, radix, weight, last_of, lowest_radix};
-ghost use Rattle.timer_wheels.specs.Smooth.{slot_in, smooth_list, smooth_slots};
+ghost use Rattle.timer_wheels.specs.hier.Leap.{list_visit};
+ghost use Rattle.timer_wheels.specs.Digits.{digit, level, lowest, bucket, emptied, slots, last_of, lowest_radix};
 ghost use Rattle.timer_wheels.specs.Tables.{wide};
-ghost use Rattle.timer_wheels.specs.declared.smooth.turns.TheConstants.{MOST_WHEELS, MOST_LISTS};
 ghost use Rattle.timer_wheels.specs.declared.table.TheConstants.{MOST_BUCKETS};
-
-use crate::table::STRIDE;
 
 /// How many bits a digit has.
 const DIGIT_BITS: u32 = 6;
@@ -60,7 +56,7 @@ pub fn is_rollover(tick: u64) -> bool
 
 /// Digit `k` of a tick.
 #[inline]
-#[tactic(auto, using(crate::proofs::WideDigits::digit_by_shift))]
+#[tactic(auto, using(crate::proofs::table_lemmas::WideDigits::digit_by_shift))]
 fn digit_of(k: u32, tick: u64) -> usize
     requires { k < 10 }
     ensures value { result ≡ digit wide k tick }
@@ -72,8 +68,8 @@ fn digit_of(k: u32, tick: u64) -> usize
 /// The wheel of a timer: the highest digit in which its deadline differs from now.
 // `63 ^ zeros` is the highest bit, which processors find in one step; and times 43 / 256 is divided by 6 for these.
 #[inline]
-#[tactic(auto, using(crate::proofs::WideDigits::wide_levels))]
-fn level_of(now: u64, deadline: u64) -> u32
+#[tactic(auto, using(crate::proofs::table_lemmas::WideDigits::wide_levels))]
+pub fn level_of(now: u64, deadline: u64) -> u32
     requires later { now < deadline }
     requires deadline { deadline ≤ LAST }
     ensures value { result ≡ level wide now deadline }
@@ -84,7 +80,7 @@ fn level_of(now: u64, deadline: u64) -> u32
 
 /// The number of a tick's lowest digit that isn't zero.
 #[inline]
-#[tactic(auto, using(crate::proofs::WideDigits::wide_lowest))]
+#[tactic(auto, using(crate::proofs::table_lemmas::WideDigits::wide_lowest))]
 fn lowest_digit(tick: u64) -> u32
     requires later { 0 < tick }
     requires in_range { tick ≤ LAST }
@@ -96,7 +92,7 @@ fn lowest_digit(tick: u64) -> u32
 
 /// The list of a timer that is pending now.
 #[inline(always)]
-#[tactic(auto, using(crate::proofs::WideDigits::slot_by_product), unfolding(crate::specs::Tables::wide))]
+#[tactic(auto, using(crate::proofs::table_lemmas::WideDigits::slot_by_product), unfolding(crate::specs::Tables::wide))]
 pub fn bucket_of(now: u64, deadline: u64) -> usize
     requires later { now < deadline }
     requires deadline { deadline ≤ last_of wide }
@@ -114,7 +110,7 @@ pub fn bucket_of(now: u64, deadline: u64) -> usize
 
 /// The list that a tick empties.
 #[inline]
-#[tactic(auto, using(crate::proofs::WideDigits::wide_emptied), unfolding(crate::specs::Tables::wide))]
+#[tactic(auto, using(crate::proofs::table_lemmas::WideDigits::wide_emptied), unfolding(crate::specs::Tables::wide))]
 pub fn emptied_at(tick: u64) -> usize
     requires later { 0 < tick }
     requires in_range { tick ≤ last_of wide }
@@ -132,7 +128,7 @@ pub fn emptied_at(tick: u64) -> usize
 
 /// Now with the slot of a list as its digit, and zeros below.
 #[inline]
-#[tactic(auto, using(crate::proofs::WideDigits::visit_by_shift), unfolding(crate::specs::Tables::wide))]
+#[tactic(auto, using(crate::proofs::table_lemmas::WideDigits::visit_by_shift), unfolding(crate::specs::Tables::wide))]
 pub fn visit_of(list: usize, now: u64) -> u64
     requires list { list < slots wide }
     requires now { now ≤ last_of wide }
@@ -141,79 +137,4 @@ pub fn visit_of(list: usize, now: u64) -> u64
     let shift = DIGIT_BITS * (list / RADIX) as u32;
     let above = now >> shift;
     (above - above % 64 + (list % RADIX) as u64) << shift
-}
-
-/// How many wheels there are.
-#[inline]
-#[tactic(auto, unfolding(crate::specs::Tables::wide))]
-pub fn wheels() -> usize
-    ensures value { result ≡ length wide }
-    ensures few { result ≤ MOST_WHEELS }
-    ensures some { 0 < result }
-{
-    10
-}
-
-/// How many lists the buckets are, with two revolutions of slots each.
-#[inline]
-#[tactic(auto, unfolding(crate::specs::Tables::wide))]
-pub fn turned_lists() -> usize
-    ensures value { result ≡ smooth_slots wide }
-    ensures in_range { result ≤ MOST_LISTS }
-{
-    1280
-}
-
-/// How many ticks a slot of a wheel is.
-#[inline]
-#[tactic(auto, using(crate::proofs::WideDigits::wide_shift, crate::proofs::WideDigits::wide_length))]
-pub fn weight_of(wheel: usize) -> u64
-    requires { wheel < length wide }
-    ensures { result ≡ weight wheel wide }
-{
-    1 << (6 * wheel)
-}
-
-/// How many slots a wheel has in two revolutions.
-#[inline]
-#[tactic(auto, using(crate::proofs::WideDigits::wide_turns, crate::proofs::WideDigits::wide_length))]
-pub fn turns_of(wheel: usize) -> u64
-    requires { wheel < length wide }
-    ensures value { result ≡ 2 * radix wheel wide }
-    ensures few { result ≤ 200 }
-{
-    128
-}
-
-/// The slot of a tick on a wheel, counted from tick 0 on.
-#[inline]
-#[tactic(auto, using(crate::proofs::WideDigits::wide_slot, crate::proofs::WideDigits::wide_length))]
-pub fn slot_of(wheel: usize, tick: u64) -> u64
-    requires { wheel < length wide }
-    ensures { result ≡ slot_in wide wheel tick }
-{
-    tick >> (6 * wheel)
-}
-
-/// The list of such a slot.
-#[inline]
-#[tactic(auto, using(crate::proofs::WideDigits::wide_list), unfolding(crate::specs::Tables::wide))]
-pub fn list_of_slot(wheel: usize, slot: u64) -> usize
-    requires { wheel < length wide }
-    ensures value { result ≡ smooth_list wide wheel slot }
-    ensures in_range { result < smooth_slots wide }
-{
-    STRIDE * wheel + (slot % 128) as usize
-}
-
-/// The highest wheel on which a deadline has another digit than now.
-#[inline]
-#[tactic(auto, unfolding(crate::specs::Tables::wide))]
-pub fn wheel_of(now: u64, deadline: u64) -> usize
-    requires later { now < deadline }
-    requires deadline { deadline ≤ last_of wide }
-    ensures value { result ≡ level wide now deadline }
-    ensures in_range { result < length wide }
-{
-    level_of(now, deadline) as usize
 }

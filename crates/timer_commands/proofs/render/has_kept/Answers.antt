@@ -1,6 +1,6 @@
 use Rattle.std.proofs.Common.{◌≡◌, ◌≤◌, false, refl, sym, ◌∙◌, ap, arith}
 use Rattle.timer_links.specs.Lists.{node_at}
-use Rattle.timer_wheels.proofs.WalkLemmas.{gathered_none, gathered_one, gathered_all, here_is_some}
+use Rattle.timer_wheels.proofs.bucket_lemmas.WalkLemmas.{gathered_none, gathered_one, gathered_all, here_is_some}
 use Rattle.timer_commands.specs.Pictures.{has_row}
 use Rattle.timer_commands.proofs.PictureLemmas.{dropped_row, gathered_end, kept_here}
 use Rattle.timer_commands.proofs.render.has_kept.Goals as goal

@@ -1,4 +1,4 @@
-use Rattle.timer_wheels.proofs.WalkLemmas.{IsGathering}
+use Rattle.timer_wheels.proofs.bucket_lemmas.WalkLemmas.{IsGathering}
 use Rattle.timer_commands.proofs.PictureLemmas.{IsUnkept}
 use Rattle.timer_commands.proofs.render.has_kept.Given as goal
 

@@ -1,6 +1,6 @@
 use Rattle.std.proofs.Common.{◌≤◌, ℕ, List, [], ◌∷◌, ◌++◌, refl, sym, subst, ◌∙◌, append-nil, arith, rules}
 use Rattle.timer_links.specs.Lists.{node_at}
-use Rattle.timer_wheels.proofs.WalkLemmas.{gathered_none, gathered_one, gathered_all, here_is_some}
+use Rattle.timer_wheels.proofs.bucket_lemmas.WalkLemmas.{gathered_none, gathered_one, gathered_all, here_is_some}
 use Rattle.timer_commands.specs.Indented.{HasGrownByBare}
 use Rattle.timer_commands.proofs.IndentedLemmas.{bare_word, bare_join}
 use Rattle.timer_commands.proofs.PictureLemmas.{IsDrawn, drawn_kept, drawn_dropped}

@@ -1,4 +1,4 @@
-use Rattle.timer_wheels.proofs.WalkLemmas.{IsGathering}
+use Rattle.timer_wheels.proofs.bucket_lemmas.WalkLemmas.{IsGathering}
 use Rattle.timer_commands.specs.Indented.{HasGrownByBare}
 use Rattle.timer_commands.proofs.PictureLemmas.{IsDrawn}
 use Rattle.timer_commands.proofs.render.push_rows.Given as goal

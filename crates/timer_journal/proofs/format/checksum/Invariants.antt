@@ -1,7 +1,10 @@
-use Rattle.std.proofs.Common.{◌≡◌, drop}
+use Rattle.std.proofs.Common.{◌≡◌, length}
 use Rattle.timer_journal.specs.Format.{checksum_from, checksum}
 use Rattle.timer_journal.proofs.format.checksum.Given as goal
 
 -- the checksum so far goes on with the bytes that are left
-abbrev pub invariant-loop-byte : goal.invariant-loop-byte
-invariant-loop-byte l = checksum_from l.sum (drop l.byte-index l.bytes) ≡ checksum l.bytes
+abbrev pub invariant-loop-rest : goal.invariant-loop-rest
+invariant-loop-rest l = checksum_from l.sum l.rest ≡ checksum l.bytes
+
+abbrev pub decreases-loop-rest : goal.decreases-loop-rest
+decreases-loop-rest l = length l.rest

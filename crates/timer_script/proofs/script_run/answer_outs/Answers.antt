@@ -5,8 +5,8 @@ use Rattle.timer_facility.proofs.PlayedLemmas.{IsRun-none, IsRun-more}
 use Rattle.timer_script.specs.Text.{lines_of}
 use Rattle.timer_script.proofs.script_run.answer_outs.Goals as goal
 
-pub returns : goal.returns
-returns g c =
+pub returns-clause-lines : goal.returns-clause-lines
+returns-clause-lines g c =
     let event = c.args.event in
     let outs = c.play_one.new.outs.items in
     let ran : AddsRun c.args.player.now event [] outs c.play_one.new.self =
@@ -15,4 +15,4 @@ returns g c =
       outs = outs;
       runs = IsRun-more _ [] event [] _ _ _ (IsRun-none c.args.player.now) ran;
       lines = added ∙ ap (λ os. c.args.text.now.items ++ lines_of os) c.deref.ensures.value;
-    }) c.push_outs.ensures
+    }) c.push_outs.ensures.text

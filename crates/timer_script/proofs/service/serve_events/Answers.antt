@@ -1,9 +1,9 @@
 use Rattle.std.proofs.Common.{true, [], ◌∙◌, ◌+◌, ◌++◌, ap, sym, subst, append-nil, rules}
 use Rattle.std.proofs.lemmas.List.{take_more, take_all}
-use Rattle.timer_script.specs.Service.{HasAnsweredEvents, HasSentText, HasSentBut}
+use Rattle.timer_script.specs.Service.{HasAnsweredEvents, HasSentText}
 use Rattle.timer_script.proofs.Results.{handed_on, true_false}
 use Rattle.timer_script.proofs.PeerLemmas.{but_none, but_sent}
-use Rattle.timer_script.proofs.ServicePieces.{answered_none, but_more, but_part, but_first, stops_unsent}
+use Rattle.timer_script.proofs.ServicePieces.{answered_none, but_more, but_part, but_first, but_ended, but_as, some_of_read, stops_unsent}
 use Rattle.timer_script.proofs.service.serve_events.Goals as goal
 
 pub loop-event-init : goal.loop-event-init
@@ -82,24 +82,45 @@ loop-event-preserved g c =
       each = λ e. c.clear-in-loop-event.ensures.items;
     }
 
+-- what comes after the read can't be added
 pub returns-in_err-send-3-clause-fault : goal.returns-in_err-send-3-clause-fault
 returns-in_err-send-3-clause-fault g c =
     let i = c.loop-event.invariant in
     let fault = c.in_err-send-3.field-0.0 in
     handed_on _ c.from_residual-in_err-send-3.result fault c.from_residual-in_err-send-3.ensures.1
     (stops_unsent fault c.in_err-send-3.ensures.fault (but_first c.args.events.now c.loop-event.event-index i.sent)
-    c.deref-then-not-each_line-2.ensures.value c.in_err-send-3.ensures.part i.good.reading)
+    (c.deref-in_default-end_read.ensures.value ∙ c.in_default-end_read.ensures.nothing) c.in_err-send-3.ensures.part i.good.reading)
 
-pub returns-in_ok-send-3-clause-served : goal.returns-in_ok-send-3-clause-served
-returns-in_ok-send-3-clause-served g c =
+pub returns-in_default-end_read-clause-fault : goal.returns-in_default-end_read-clause-fault
+returns-in_default-end_read-clause-fault g c =
     let i = c.loop-event.invariant in
     let text = c.loop-event.text.items in
-    let p = g.P.Peer.state c.args.peer.now in
-    let q = g.P.Peer.state c.loop-event.peer in
-    let r = g.P.Peer.state c.send-then-not-each_line-2.new.peer in
-    let A = g.D.Decorator.adds c.args.decorator.now in
-    let s = c.args.session.now.player in
-    let sent = subst (λ t. HasSentText q t r) c.deref-then-not-each_line-2.ensures.value c.in_ok-send-3.ensures.ok in
-    subst (λ es. HasSentBut (HasAnsweredEvents A s es c.loop-event.session.player) [] true p r)
-    (take_all c.loop-event.event-index c.args.events.now c.loop-event-test.false)
-    (but_sent text [] true (sym (append-nil text)) i.sent sent.written sent.flushed)
+    let now = c.deref-in_default-end_read.ensures.value ∙ c.in_default-end_read.ensures.nothing in
+    let sent = subst (λ t. HasSentText (g.P.Peer.state c.loop-event.peer) t (g.P.Peer.state c.send-in_default-end_read.new.peer)) now
+    c.in_ok-send-3.ensures.ok in (
+      but_sent text [] _ (sym (append-nil text)) (but_first c.args.events.now c.loop-event.event-index i.sent) sent.written sent.flushed,
+      record { reading = sent.written.reading ∙ i.good.reading; writing = sent.good },
+    )
+
+pub returns-in_err-send-4-clause-fault : goal.returns-in_err-send-4-clause-fault
+returns-in_err-send-4-clause-fault g c =
+    let i = c.loop-event.invariant in
+    let n = c.loop-event.event-index in
+    let events = c.args.events.now in
+    let fault = c.in_err-send-4.field-0.0 in
+    handed_on _ c.from_residual-in_err-send-4.result fault c.from_residual-in_err-send-4.ensures.1
+    (stops_unsent fault c.in_err-send-4.ensures.fault
+    (but_as (but_ended _ c.end_read.new.text.items events n (take_all n events c.loop-event-test.false) i.sent c.in-Ok-end_read.ensures.whole)
+    (some_of_read (g.D.Decorator.adds c.args.decorator.now) c.args.session.now.player c.loop-event.session.player events))
+    c.deref-2.ensures.value c.in_err-send-4.ensures.part i.good.reading)
+
+pub returns-clause-served : goal.returns-clause-served
+returns-clause-served g c =
+    let i = c.loop-event.invariant in
+    let n = c.loop-event.event-index in
+    let events = c.args.events.now in
+    let text = c.end_read.new.text.items in
+    let sent = subst (λ t. HasSentText (g.P.Peer.state c.loop-event.peer) t (g.P.Peer.state c.send-2.new.peer)) c.deref-2.ensures.value
+    c.in_ok-send-4.ensures.ok in
+    but_sent text [] true (sym (append-nil text))
+    (but_ended _ text events n (take_all n events c.loop-event-test.false) i.sent c.in-Ok-end_read.ensures.whole) sent.written sent.flushed

@@ -1,5 +1,5 @@
 use Rattle.std.proofs.Common.{◌<◌, length, arith}
-use Rattle.timer_wheels.proofs.DeadlineLemmas.{least-more}
+use Rattle.timer_wheels.proofs.bucket_lemmas.DeadlineLemmas.{least-more}
 use Rattle.timer_wheels.proofs.deadlines.least_below.Goals as goal
 
 pub loop-list-preserved : goal.loop-list-preserved

@@ -1,7 +1,7 @@
 use Rattle.std.proofs.Common.{◌≤◌, refl, arith}
 use Rattle.timer_links.specs.Lists.{node_at}
-use Rattle.timer_wheels.proofs.WalkLemmas.{gathered_none, gathered_one, gathered_all, here_is_some}
-use Rattle.timer_wheels.proofs.DeadlineLemmas.{sought_one}
+use Rattle.timer_wheels.proofs.bucket_lemmas.WalkLemmas.{gathered_none, gathered_one, gathered_all, here_is_some}
+use Rattle.timer_wheels.proofs.bucket_lemmas.DeadlineLemmas.{sought_one}
 use Rattle.timer_wheels.proofs.deadlines.least_in.Goals as goal
 
 pub loop-step-init : goal.loop-step-init

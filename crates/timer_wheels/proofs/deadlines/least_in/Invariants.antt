@@ -1,5 +1,5 @@
-use Rattle.timer_wheels.proofs.DeadlineLemmas.{IsSought}
-use Rattle.timer_wheels.proofs.WalkLemmas.{IsGathering}
+use Rattle.timer_wheels.proofs.bucket_lemmas.DeadlineLemmas.{IsSought}
+use Rattle.timer_wheels.proofs.bucket_lemmas.WalkLemmas.{IsGathering}
 use Rattle.timer_wheels.proofs.deadlines.least_in.Given as goal
 
 abbrev pub invariant-loop-step : goal.invariant-loop-step

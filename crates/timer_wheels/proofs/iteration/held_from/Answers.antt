@@ -1,5 +1,5 @@
 use Rattle.std.proofs.Common.{refl}
-use Rattle.timer_wheels.proofs.IterationLemmas.{none_held, first_held, alone}
+use Rattle.timer_wheels.proofs.bucket_lemmas.IterationLemmas.{none_held, first_held, alone}
 use Rattle.timer_wheels.proofs.iteration.held_from.Goals as goal
 
 pub returns-in_default-clause-first : goal.returns-in_default-clause-first

@@ -1,4 +1,4 @@
-use Rattle.timer_wheels.proofs.DigitLaws.{bucket_at_tick}
+use Rattle.timer_wheels.proofs.table_lemmas.DigitLaws.{bucket_at_tick}
 use Rattle.timer_wheels.proofs.laws.a_tick_empties_one_bucket.Goals as goal
 
 pub returns : goal.returns

@@ -1,7 +1,7 @@
-use Rattle.timer_wheels.proofs.DigitLaws.{digits_down}
+use Rattle.timer_wheels.proofs.table_lemmas.DigitLaws.{digits_down}
 use Rattle.timer_wheels.specs.Digits.{last_of}
 use Rattle.timer_wheels.specs.Tables.{radices}
-use Rattle.timer_wheels.proofs.TableLaws.{of_table}
+use Rattle.timer_wheels.proofs.table_lemmas.TableLaws.{of_table}
 use Rattle.timer_wheels.proofs.laws.the_digits_are_enough.Goals as goal
 
 pub returns-clause-table : goal.returns-clause-table

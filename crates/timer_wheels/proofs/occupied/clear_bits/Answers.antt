@@ -1,6 +1,6 @@
 use Rattle.std.proofs.Common.{◌/◌, ◌^◌, ℕ, arith, subst}
 use Rattle.timer_wheels.specs.Occupied.{IsLowestSet}
-use Rattle.timer_wheels.proofs.OccupiedLemmas.{clear_rest, clear_below, set_below, set_first}
+use Rattle.timer_wheels.proofs.bucket_lemmas.OccupiedLemmas.{clear_rest, clear_below, set_below, set_first}
 use Rattle.timer_wheels.proofs.occupied.clear_bits.Goals as goal
 
 pub returns-then-rest-eq0-clause-clear : goal.returns-then-rest-eq0-clause-clear

@@ -1,6 +1,6 @@
 use Rattle.std.proofs.Common.{◌≡◌, ℕ, ◌∙◌, sym, subst, Option, Some}
 use Rattle.timer_base.specs.WakeUps.{IsQuietUntil}
-use Rattle.timer_wheels.specs.SmoothWheel.{smooth_state, smooth-well_formed}
+use Rattle.timer_wheels.specs.smooth.SmoothWheel.{smooth_state, smooth-well_formed}
 use Rattle.timer_wheels.specs.TieredWheel.{option_of}
 use Rattle.timer_wheels.proofs.TieredLemmas.{some_tick, wake_in_clock}
 use Rattle.timer_wheels.proofs.tiered.quiet_smooth.Goals as goal

@@ -1,7 +1,7 @@
 use Rattle.std.proofs.Common.{◌≤◌, refl, sym, ◌∙◌, arith}
 use Rattle.std.proofs.lemmas.List.{append-nil}
 use Rattle.timer_links.specs.Lists.{node_at}
-use Rattle.timer_wheels.proofs.WalkLemmas.{gathered_none, gathered_one, gathered_all, here_is_some, copied_one, copied_fits}
+use Rattle.timer_wheels.proofs.bucket_lemmas.WalkLemmas.{gathered_none, gathered_one, gathered_all, here_is_some, copied_one, copied_fits}
 use Rattle.timer_wheels.proofs.walks.copy_list.Goals as goal
 
 pub loop-step-init : goal.loop-step-init

@@ -1,6 +1,6 @@
 use Rattle.std.proofs.Common.{◌≡◌}
 use Rattle.std.specs.Prelude.{vec_capacity}
-use Rattle.timer_wheels.proofs.WalkLemmas.{IsGathering, IsCopied}
+use Rattle.timer_wheels.proofs.bucket_lemmas.WalkLemmas.{IsGathering, IsCopied}
 use Rattle.timer_wheels.proofs.walks.copy_list.Given as goal
 
 abbrev pub invariant-loop-step : goal.invariant-loop-step

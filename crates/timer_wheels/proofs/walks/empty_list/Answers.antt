@@ -1,6 +1,6 @@
 use Rattle.std.proofs.Common.{refl, ◌≡◌, ◌≤◌, ap, ◌∙◌, arith, not}
 use Rattle.timer_links.specs.Lists.{row_count}
-use Rattle.timer_wheels.proofs.WalkLemmas.{emptying-begun, emptied-some, emptied-count}
+use Rattle.timer_wheels.proofs.bucket_lemmas.WalkLemmas.{emptying-begun, emptied-some, emptied-count}
 use Rattle.timer_wheels.proofs.walks.empty_list.Goals as goal
 
 pub loop-step-init : goal.loop-step-init

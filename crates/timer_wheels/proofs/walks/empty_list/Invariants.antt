@@ -1,5 +1,5 @@
 use Rattle.std.proofs.Common.{◌≡◌}
-use Rattle.timer_wheels.proofs.WalkLemmas.{IsEmptying}
+use Rattle.timer_wheels.proofs.bucket_lemmas.WalkLemmas.{IsEmptying}
 use Rattle.timer_wheels.proofs.walks.empty_list.Given as goal
 
 abbrev pub invariant-loop-step : goal.invariant-loop-step

@@ -1,5 +1,5 @@
 use Rattle.std.proofs.Common.{◌≡◌}
-use Rattle.timer_wheels.proofs.WalkLemmas.{AreEmptied}
+use Rattle.timer_wheels.proofs.bucket_lemmas.WalkLemmas.{AreEmptied}
 use Rattle.timer_wheels.proofs.walks.empty_lists.Given as goal
 
 abbrev pub invariant-loop-list : goal.invariant-loop-list

@@ -1,5 +1,5 @@
 use Rattle.std.proofs.Common.{sym, ◌∙◌}
-use Rattle.timer_wheels.proofs.MigrationLoop.{front_of, never_none, front_timer_is}
+use Rattle.timer_wheels.proofs.hier_lemmas.MigrationLoop.{front_of, never_none, front_timer_is}
 use Rattle.timer_wheels.proofs.walks.front_timer.Goals as goal
 
 pub returns-in_err-node : goal.returns-in_err-node

@@ -1,6 +1,6 @@
 use Rattle.std.proofs.Common.{◌≡◌, ◌≤◌, length, refl, arith}
 use Rattle.timer_links.specs.Lists.{list_at}
-use Rattle.timer_wheels.proofs.WalkLemmas.{gathered_none, gathered_one, gathered_all, here_in_use, counted_one}
+use Rattle.timer_wheels.proofs.bucket_lemmas.WalkLemmas.{gathered_none, gathered_one, gathered_all, here_in_use, counted_one}
 use Rattle.timer_wheels.proofs.walks.list_len.Goals as goal
 
 pub loop-step-init : goal.loop-step-init

@@ -1,4 +1,4 @@
-use Rattle.timer_wheels.proofs.WalkLemmas.{IsGathering, IsCounted}
+use Rattle.timer_wheels.proofs.bucket_lemmas.WalkLemmas.{IsGathering, IsCounted}
 use Rattle.timer_wheels.proofs.walks.list_len.Given as goal
 
 abbrev pub invariant-loop-step : goal.invariant-loop-step

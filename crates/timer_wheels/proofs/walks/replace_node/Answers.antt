@@ -1,6 +1,6 @@
 use Rattle.timer_links.specs.Lists.{node_at}
 use Rattle.timer_links.proofs.LinksCalls.{held, some_is}
-use Rattle.timer_wheels.proofs.ReplaceLemmas.{alone_before, now_under, mid_in_range, replaced}
+use Rattle.timer_wheels.proofs.bucket_lemmas.ReplaceLemmas.{alone_before, now_under, mid_in_range, replaced}
 use Rattle.timer_wheels.proofs.walks.replace_node.Goals as goal
 
 pub move_back-requires-clause-used : goal.move_back-requires-clause-used

@@ -1,5 +1,5 @@
 use Rattle.std.proofs.Common.{sym, ◌∙◌}
-use Rattle.timer_wheels.proofs.MigrationLoop.{front_of, second_of, no_second_timer, never_none, second_timer_is, is_in_use}
+use Rattle.timer_wheels.proofs.hier_lemmas.MigrationLoop.{front_of, second_of, no_second_timer, never_none, second_timer_is, is_in_use}
 use Rattle.timer_wheels.proofs.walks.second_timer.Goals as goal
 
 pub next-requires : goal.next-requires

@@ -14,7 +14,7 @@ pub loop-taken-preserved : goal.loop-taken-preserved
 loop-taken-preserved c =
     let i = c.loop-taken.invariant in
     record {
-      cut = λ o came events bad kept h. subst (λ z. HasSortedSince o c.take_line.new.self z events bad)
+      cut = λ o came events bad kept h. subst (λ z. HasSortedSince o c.take_lines.new.self z events bad)
           (piece_more came c.args.piece.now c.loop-taken.taken c.in_ok-taken.field-0 _ refl)
           (c.in_ok-taken.ensures.cut o _ events bad (i.cut o came events bad kept h));
       clean = c.in_ok-taken.ensures.clean ∙ i.clean;
@@ -28,5 +28,5 @@ pub returns-in_err-taken-clause-stopped : goal.returns-in_err-taken-clause-stopp
 returns-in_err-taken-clause-stopped c =
     let fault = c.in_err-taken.field-0.0 in
     handed_on _ c.from_residual.result fault c.from_residual.ensures.1 (λ o came events bad kept h.
-    subst (λ z. StopsAt fault o z (events ++ c.take_line.new.self.events.items)) (piece_rest came c.args.piece.now c.loop-taken.taken)
+    subst (λ z. StopsAt fault o z (events ++ c.take_lines.new.self.events.items)) (piece_rest came c.args.piece.now c.loop-taken.taken)
     (c.in_err-taken.ensures.stopped o _ events bad (c.loop-taken.invariant.cut o came events bad kept h)))

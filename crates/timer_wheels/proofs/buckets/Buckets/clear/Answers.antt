@@ -1,6 +1,6 @@
 use Rattle.std.proofs.Common.{ap, ◌≤◌, ◌∙◌, ℕ, arith}
 use Rattle.timer_base.specs.WheelState.{with_room}
-use Rattle.timer_wheels.proofs.Updates.{cleared, cleared-state}
+use Rattle.timer_wheels.proofs.bucket_lemmas.Updates.{cleared, cleared-state}
 use Rattle.timer_wheels.proofs.buckets.Buckets.clear.Goals as goal
 
 not_below : (n : ℕ) → n ≤ n

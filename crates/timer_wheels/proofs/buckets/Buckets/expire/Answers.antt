@@ -1,6 +1,6 @@
 use Rattle.std.proofs.Common.{ap}
 use Rattle.timer_base.specs.WheelState.{with_room}
-use Rattle.timer_wheels.proofs.Updates.{expired, popped}
+use Rattle.timer_wheels.proofs.bucket_lemmas.Updates.{expired, popped}
 use Rattle.timer_wheels.proofs.buckets.Buckets.expire.Goals as goal
 
 pub invariant_of-self : goal.invariant_of-self

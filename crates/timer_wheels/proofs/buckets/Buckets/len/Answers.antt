@@ -1,6 +1,6 @@
 use Rattle.std.proofs.Common.{arith}
 use Rattle.timer_wheels.specs.BucketLists.{rows_below}
-use Rattle.timer_wheels.proofs.BucketLemmas.{row_count-parts, length-pending_in}
+use Rattle.timer_wheels.proofs.bucket_lemmas.Calls.{row_count-parts, length-pending_in}
 use Rattle.timer_wheels.proofs.buckets.Buckets.len.Goals as goal
 
 pub overflow_sub-result : goal.overflow_sub-result

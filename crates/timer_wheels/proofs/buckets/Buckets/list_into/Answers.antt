@@ -4,8 +4,8 @@ use Rattle.timer_base.specs.Order.{in_order, itself}
 use Rattle.timer_base.specs.Pending.{timers_of}
 use Rattle.timer_wheels.specs.Types.{Timer, KeyedLists}
 use Rattle.timer_wheels.specs.BucketLists.{rows_below, row_timer, row_timers, pending_in}
-use Rattle.timer_wheels.proofs.BucketLemmas.{length-pending_in}
-use Rattle.timer_wheels.proofs.RowLemmas.{timers_below-more, length-rows_below-next}
+use Rattle.timer_wheels.proofs.bucket_lemmas.Calls.{length-pending_in}
+use Rattle.timer_wheels.proofs.bucket_lemmas.RowLemmas.{timers_below-more, length-rows_below-next}
 use Rattle.timer_wheels.specs.BucketLaws.{timers_of-pending}
 use Rattle.timer_wheels.proofs.buckets.Buckets.list_into.Goals as goal
 

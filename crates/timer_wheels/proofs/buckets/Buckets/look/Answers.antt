@@ -1,6 +1,6 @@
 use Rattle.std.proofs.Common.{Some, None, sym, ◌∙◌}
 use Rattle.std.proofs.lemmas.Bool.{ne_eqb, eq-eqb}
-use Rattle.timer_wheels.proofs.Handles.{held_is, names_one}
+use Rattle.timer_wheels.proofs.bucket_lemmas.Handles.{held_is, names_one}
 use Rattle.timer_wheels.proofs.buckets.Buckets.look.Goals as goal
 
 pub returns-in_err-node-clause-timer : goal.returns-in_err-node-clause-timer

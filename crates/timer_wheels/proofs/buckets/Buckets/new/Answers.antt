@@ -1,9 +1,9 @@
 use Rattle.std.proofs.Common.{◌≡◌, ◌+◌, ℕ, [], length, refl, ◌∙◌, ap, replicate}
 use Rattle.std.proofs.lemmas.List.{length-replicate}
 use Rattle.timer_links.specs.Lists.{LinksState, list_at}
-use Rattle.timer_wheels.proofs.RowLemmas.{rows_below-none}
+use Rattle.timer_wheels.proofs.bucket_lemmas.RowLemmas.{rows_below-none}
 use Rattle.timer_links.proofs.NewLinks.{no_rows_at}
-use Rattle.timer_wheels.proofs.Updates.{emptied}
+use Rattle.timer_wheels.proofs.bucket_lemmas.Updates.{emptied}
 use Rattle.timer_wheels.proofs.buckets.Buckets.new.Goals as goal
 
 at_new : (k s : ℕ) (links : LinksState) → links ≡ record { lists = replicate k []; room = 0; ready = 0 } → list_at s links.lists ≡ []

@@ -2,8 +2,8 @@ use Rattle.std.proofs.Common.{sym, ◌∙◌, ap, arith}
 use Rattle.timer_base.proofs.HeldLaws.{with_room-held_start}
 use Rattle.timer_base.specs.WheelState.{with_room, after_removal}
 use Rattle.timer_wheels.specs.Buckets.{roomless_state}
-use Rattle.timer_wheels.proofs.Handles.{held_used}
-use Rattle.timer_wheels.proofs.Postponed.{postponed_sound, postponed_state}
+use Rattle.timer_wheels.proofs.bucket_lemmas.Handles.{held_used}
+use Rattle.timer_wheels.proofs.bucket_lemmas.Postponed.{postponed_sound, postponed_state}
 use Rattle.timer_wheels.proofs.buckets.Buckets.postpone.Goals as goal
 
 pub set_node-requires-clause-used : goal.set_node-requires-clause-used

@@ -2,8 +2,8 @@ use Rattle.std.proofs.Common.{sym, ◌∙◌, ap}
 use Rattle.timer_base.proofs.HeldLaws.{with_room-held_start}
 use Rattle.timer_base.specs.WheelState.{with_room, after_held_start, after_removal}
 use Rattle.timer_wheels.specs.Buckets.{roomless_state, row_at}
-use Rattle.timer_wheels.proofs.Handles.{held_used, removed_state}
-use Rattle.timer_wheels.proofs.Updates.{removed, pushed_in, pushed_in-state, in_lists}
+use Rattle.timer_wheels.proofs.bucket_lemmas.Handles.{held_used, removed_state}
+use Rattle.timer_wheels.proofs.bucket_lemmas.Updates.{removed, pushed_in, pushed_in-state, in_lists}
 use Rattle.timer_wheels.proofs.buckets.Buckets.replace.Goals as goal
 
 pub replace_node-emptied-requires-clause-used : goal.replace_node-emptied-requires-clause-used

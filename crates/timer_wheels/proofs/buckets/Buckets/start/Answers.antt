@@ -5,8 +5,8 @@ use Rattle.timer_base.specs.WheelState.{with_room}
 use Rattle.timer_links.specs.Lists.{list_at}
 use Rattle.timer_wheels.specs.Buckets.{roomless_state, row_at}
 use Rattle.timer_wheels.specs.BucketLists.{rows_below, entry_of}
-use Rattle.timer_wheels.proofs.BucketLemmas.{row_count-parts, length-pending_in}
-use Rattle.timer_wheels.proofs.Updates.{pushed_in, pushed_in-state, in_lists}
+use Rattle.timer_wheels.proofs.bucket_lemmas.Calls.{row_count-parts, length-pending_in}
+use Rattle.timer_wheels.proofs.bucket_lemmas.Updates.{pushed_in, pushed_in-state, in_lists}
 use Rattle.timer_wheels.proofs.buckets.Buckets.start.Goals as goal
 
 pub push_back-requires-clause-list : goal.push_back-requires-clause-list

@@ -2,8 +2,8 @@ use Rattle.std.proofs.Common.{sym, ◌∙◌, ap}
 use Rattle.timer_base.proofs.HeldLaws.{none_removed}
 use Rattle.timer_base.specs.WheelState.{with_room}
 use Rattle.timer_wheels.specs.Buckets.{state_of}
-use Rattle.timer_wheels.proofs.Handles.{held_used, removed_state}
-use Rattle.timer_wheels.proofs.Updates.{removed}
+use Rattle.timer_wheels.proofs.bucket_lemmas.Handles.{held_used, removed_state}
+use Rattle.timer_wheels.proofs.bucket_lemmas.Updates.{removed}
 use Rattle.timer_wheels.proofs.buckets.Buckets.take.Goals as goal
 
 pub returns-in_err-timer-clause-stopped : goal.returns-in_err-timer-clause-stopped

@@ -1,7 +1,7 @@
-use Rattle.timer_wheels.proofs.RoomLemmas.{shows-with_room}
-use Rattle.timer_wheels.specs.Hashed.{slot_of, rounds_of}
-use Rattle.timer_wheels.proofs.OrderedLists.{ordered-all}
-use Rattle.timer_wheels.proofs.ShownLemmas.{shows}
+use Rattle.timer_wheels.proofs.bucket_lemmas.RoomLemmas.{shows-with_room}
+use Rattle.timer_wheels.specs.hashed.Hashed.{slot_of, rounds_of}
+use Rattle.timer_wheels.proofs.bucket_lemmas.OrderedLists.{ordered-all}
+use Rattle.timer_wheels.proofs.bucket_lemmas.ShownLemmas.{shows}
 use Rattle.timer_wheels.proofs.hashed.HashedWheel.links.Goals as goal
 
 pub returns : goal.returns

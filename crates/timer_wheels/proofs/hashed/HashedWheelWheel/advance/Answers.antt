@@ -2,7 +2,7 @@ use Rattle.std.proofs.Common.{◌≡◌, ◌≤◌, ◌+◌, ◌-◌, arith, [],
 use Rattle.timer_base.specs.WheelState.{IsPassing}
 use Rattle.timer_base.proofs.TickLaws.{not_due}
 use Rattle.timer_wheels.specs.Buckets.{state_of}
-use Rattle.timer_wheels.proofs.RevolutionLemmas.{passing_on, passing_from, passing_skip, advances_on, room_left, turn_fits}
+use Rattle.timer_wheels.proofs.hashed_lemmas.RevolutionLemmas.{passing_on, passing_from, passing_skip, advances_on, room_left, turn_fits}
 use Rattle.timer_wheels.proofs.hashed.HashedWheelWheel.advance.Goals as goal
 
 pub tick_until_due-passed-requires-clause-before_last : goal.tick_until_due-passed-requires-clause-before_last

@@ -1,5 +1,5 @@
 use Rattle.std.proofs.Common.{◌≡◌, ◌+◌, ◌%◌, ℕ, sym, ◌∙◌, ap}
-use Rattle.timer_wheels.proofs.HashedTicks.{next_slot}
+use Rattle.timer_wheels.proofs.hashed_lemmas.Ticks.{next_slot}
 use Rattle.timer_wheels.proofs.hashed.HashedWheelWheel.per_tick.Goals as goal
 
 pub sweep_tick-requires-clause-slot : goal.sweep_tick-requires-clause-slot

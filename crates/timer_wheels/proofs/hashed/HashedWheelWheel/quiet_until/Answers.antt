@@ -1,5 +1,5 @@
 use Rattle.timer_wheels.specs.Buckets.{state_of, state_of-well_formed}
-use Rattle.timer_wheels.proofs.ExactWakeUps.{earliest_sweep_is}
+use Rattle.timer_wheels.proofs.hashed_lemmas.ExactWakeUps.{earliest_sweep_is}
 use Rattle.timer_wheels.proofs.hashed.HashedWheelWheel.quiet_until.Goals as goal
 
 pub returns-clause-exact : goal.returns-clause-exact

@@ -4,11 +4,11 @@ use Rattle.timer_links.specs.Lists.{without_key}
 use Rattle.timer_wheels.specs.Types.{Handle, Timer, KeyedLists}
 use Rattle.timer_wheels.specs.Buckets.{IsListOf, ReplacesRow, row_at}
 use Rattle.timer_wheels.specs.BucketLists.{AreInOrder, AreBuckets}
-use Rattle.timer_wheels.specs.Hashed.{AreInBuckets, IsInBucket, slot_of, rounds_of}
-use Rattle.timer_wheels.proofs.BucketLemmas.{each_come, each-without_key}
-use Rattle.timer_wheels.proofs.HashedTicks.{same_frame}
-use Rattle.timer_wheels.proofs.OrderedLists.{ordered-without_key, ordered-come}
-use Rattle.timer_wheels.proofs.Updates.{removed}
+use Rattle.timer_wheels.specs.hashed.Hashed.{AreInBuckets, IsInBucket, slot_of, rounds_of}
+use Rattle.timer_wheels.proofs.bucket_lemmas.Calls.{each_come, each-without_key}
+use Rattle.timer_wheels.proofs.hashed_lemmas.Ticks.{same_frame}
+use Rattle.timer_wheels.proofs.bucket_lemmas.OrderedLists.{ordered-without_key, ordered-come}
+use Rattle.timer_wheels.proofs.bucket_lemmas.Updates.{removed}
 use Rattle.timer_wheels.proofs.hashed.HashedWheelWheel.restart.Goals as goal
 
 in_buckets : (n now list rounds key : ℕ) (t : Timer) (old new : KeyedLists) (result : Option (Handle × Timer))

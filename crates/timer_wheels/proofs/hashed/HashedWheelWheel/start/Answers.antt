@@ -4,10 +4,10 @@ use Rattle.timer_links.specs.Lists.{with_row}
 use Rattle.timer_wheels.specs.Types.{Handle, Timer, KeyedLists}
 use Rattle.timer_wheels.specs.Buckets.{IsListOf, row_at}
 use Rattle.timer_wheels.specs.BucketLists.{AreInOrder, AreBuckets}
-use Rattle.timer_wheels.specs.Hashed.{AreInBuckets, IsInBucket, slot_of, rounds_of}
-use Rattle.timer_wheels.proofs.BucketLemmas.{each_come}
-use Rattle.timer_wheels.proofs.HashedTicks.{same_frame}
-use Rattle.timer_wheels.proofs.OrderedLists.{ordered-come}
+use Rattle.timer_wheels.specs.hashed.Hashed.{AreInBuckets, IsInBucket, slot_of, rounds_of}
+use Rattle.timer_wheels.proofs.bucket_lemmas.Calls.{each_come}
+use Rattle.timer_wheels.proofs.hashed_lemmas.Ticks.{same_frame}
+use Rattle.timer_wheels.proofs.bucket_lemmas.OrderedLists.{ordered-come}
 use Rattle.timer_wheels.proofs.hashed.HashedWheelWheel.start.Goals as goal
 
 in_buckets : (A : Type 0) (n now list rounds : ℕ) (t : Timer) (old new : KeyedLists) (result : Result Handle OutOfMemory)

@@ -2,10 +2,10 @@ use Rattle.std.proofs.Common.{◌≡◌, ℕ, map, Option, Some, None, MatchOpti
 use Rattle.timer_base.specs.declared.timer.Timer.{Timer}
 use Rattle.timer_links.specs.Lists.{without_key, KeyedLists}
 use Rattle.timer_wheels.specs.BucketLists.{AreInOrder}
-use Rattle.timer_wheels.specs.Hashed.{AreInBuckets, IsInBucket}
-use Rattle.timer_wheels.proofs.BucketLemmas.{each-without_key}
-use Rattle.timer_wheels.proofs.HashedTicks.{same_frame}
-use Rattle.timer_wheels.proofs.OrderedLists.{ordered-without_key}
+use Rattle.timer_wheels.specs.hashed.Hashed.{AreInBuckets, IsInBucket}
+use Rattle.timer_wheels.proofs.bucket_lemmas.Calls.{each-without_key}
+use Rattle.timer_wheels.proofs.hashed_lemmas.Ticks.{same_frame}
+use Rattle.timer_wheels.proofs.bucket_lemmas.OrderedLists.{ordered-without_key}
 use Rattle.timer_wheels.proofs.hashed.HashedWheelWheel.stop.Goals as goal
 
 -- each row that a stop leaves stays in its bucket

@@ -3,11 +3,11 @@ use Rattle.timer_wheels.specs.Buckets.{state_of}
 use Rattle.timer_base.specs.Counts.{WheelCounts}
 use Rattle.timer_wheels.specs.Digits.{lowest_radix}
 use Rattle.timer_wheels.specs.Tables.{radices, layout_of_table}
-use Rattle.timer_wheels.specs.Placement.{visited_between, hops_of, levels_of}
-use Rattle.timer_wheels.proofs.HierLemmas.{paid_at, paid_bound, moves_fit}
-use Rattle.timer_wheels.proofs.RoomLemmas.{advances-with_layout}
-use Rattle.timer_wheels.proofs.TableLaws.{of_table}
-use Rattle.timer_wheels.proofs.HierCounts.{any_of, advanced_serial, leapt_paid, leapt_moves}
+use Rattle.timer_wheels.specs.hier.Placement.{visited_between, hops_of, levels_of}
+use Rattle.timer_wheels.proofs.hier_lemmas.Invariant.{paid_at, paid_bound, moves_fit}
+use Rattle.timer_wheels.proofs.bucket_lemmas.RoomLemmas.{advances-with_layout}
+use Rattle.timer_wheels.proofs.table_lemmas.TableLaws.{of_table}
+use Rattle.timer_wheels.proofs.hier_lemmas.Counts.{any_of, advanced_serial, leapt_paid, leapt_moves}
 use Rattle.timer_wheels.proofs.hier.HierWheel.advance_far.Goals as goal
 
 pub invariant_of-self-2-clause-few_starts : goal.invariant_of-self-2-clause-few_starts

@@ -1,6 +1,6 @@
 use Rattle.timer_wheels.specs.Tables.{radices, layout_of_table}
-use Rattle.timer_wheels.proofs.HierLemmas.{shown}
-use Rattle.timer_wheels.proofs.RoomLemmas.{shows-with_layout}
+use Rattle.timer_wheels.proofs.hier_lemmas.Invariant.{shown}
+use Rattle.timer_wheels.proofs.bucket_lemmas.RoomLemmas.{shows-with_layout}
 use Rattle.timer_wheels.proofs.hier.HierWheel.links.Goals as goal
 
 pub returns : goal.returns

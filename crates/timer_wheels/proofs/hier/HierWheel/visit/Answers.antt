@@ -2,11 +2,11 @@ use Rattle.std.proofs.Common.{◌≡◌, ◌<◌, ◌+◌, ◌-◌, ℕ, ap, ◌
 use Rattle.timer_base.specs.Counts.{WheelCounts}
 use Rattle.timer_base.specs.WheelState.{WheelState}
 use Rattle.timer_wheels.specs.Buckets.{state_of}
-use Rattle.timer_wheels.specs.Placement.{levels_of}
+use Rattle.timer_wheels.specs.hier.Placement.{levels_of}
 use Rattle.timer_wheels.specs.Tables.{radices}
-use Rattle.timer_wheels.proofs.HierLemmas.{paid_bound, moves_fit}
-use Rattle.timer_wheels.proofs.TableLaws.{of_table}
-use Rattle.timer_wheels.specs.declared.hier.Counts.{Counts}
+use Rattle.timer_wheels.proofs.hier_lemmas.Invariant.{paid_bound, moves_fit}
+use Rattle.timer_wheels.proofs.table_lemmas.TableLaws.{of_table}
+use Rattle.timer_wheels.specs.declared.hier.counts.Counts.{Counts}
 use Rattle.timer_wheels.proofs.hier.HierWheel.visit.Goals as goal
 
 pub add_moves-requires : goal.add_moves-requires

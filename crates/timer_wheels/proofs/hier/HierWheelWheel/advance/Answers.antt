@@ -3,12 +3,12 @@ use Rattle.timer_base.specs.Counts.{WheelCounts}
 use Rattle.timer_base.specs.WheelState.{Advances}
 use Rattle.timer_wheels.specs.Buckets.{state_of}
 use Rattle.timer_wheels.specs.Digits.{lowest_radix}
-use Rattle.timer_wheels.specs.Placement.{hops_of}
+use Rattle.timer_wheels.specs.hier.Placement.{hops_of}
 use Rattle.timer_wheels.specs.Tables.{radices, layout_of_table}
-use Rattle.timer_wheels.proofs.HierCounts.{leapt_serial, leapt_paid, leapt_moves, none_visited}
-use Rattle.timer_wheels.proofs.HierLemmas.{paid_at}
-use Rattle.timer_wheels.proofs.HierLeaps.{advancing_ends}
-use Rattle.timer_wheels.proofs.RoomLemmas.{advances-with_layout}
+use Rattle.timer_wheels.proofs.hier_lemmas.Counts.{leapt_serial, leapt_paid, leapt_moves, none_visited}
+use Rattle.timer_wheels.proofs.hier_lemmas.Invariant.{paid_at}
+use Rattle.timer_wheels.proofs.hier_lemmas.Leaps.{advancing_ends}
+use Rattle.timer_wheels.proofs.bucket_lemmas.RoomLemmas.{advances-with_layout}
 use Rattle.timer_wheels.proofs.hier.HierWheelWheel.advance.Goals as goal
 
 none_more : (n : ℕ) → n + 0 ≡ n

@@ -1,6 +1,6 @@
 use Rattle.timer_wheels.specs.Buckets.{state_of}
 use Rattle.timer_wheels.specs.Tables.{radices, layout_of_table}
-use Rattle.timer_wheels.proofs.RoomLemmas.{next_visit-with_layout}
+use Rattle.timer_wheels.proofs.bucket_lemmas.RoomLemmas.{next_visit-with_layout}
 use Rattle.timer_wheels.proofs.hier.HierWheelWheel.quiet_until.Goals as goal
 
 pub returns-clause-next : goal.returns-clause-next

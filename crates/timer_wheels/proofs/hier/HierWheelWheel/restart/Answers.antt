@@ -2,8 +2,8 @@ use Rattle.std.proofs.Common.{◌+◌, refl, arith}
 use Rattle.timer_base.specs.WheelState.{after_removal}
 use Rattle.timer_wheels.specs.Buckets.{state_of}
 use Rattle.timer_wheels.specs.Tables.{radices}
-use Rattle.timer_wheels.proofs.HierLemmas.{levels-without, paid_at, paid_start, few_starts}
-use Rattle.timer_wheels.proofs.TableLaws.{of_table}
+use Rattle.timer_wheels.proofs.hier_lemmas.Invariant.{levels-without, paid_at, paid_start, few_starts}
+use Rattle.timer_wheels.proofs.table_lemmas.TableLaws.{of_table}
 use Rattle.timer_wheels.proofs.hier.HierWheelWheel.restart.Goals as goal
 
 pub invariant_of-self-2-clause-few_starts : goal.invariant_of-self-2-clause-few_starts

@@ -1,8 +1,8 @@
 use Rattle.std.proofs.Common.{◌+◌, refl, arith}
 use Rattle.timer_wheels.specs.Buckets.{state_of}
 use Rattle.timer_wheels.specs.Tables.{radices}
-use Rattle.timer_wheels.proofs.HierLemmas.{paid_at, paid_start, few_starts}
-use Rattle.timer_wheels.proofs.TableLaws.{of_table}
+use Rattle.timer_wheels.proofs.hier_lemmas.Invariant.{paid_at, paid_start, few_starts}
+use Rattle.timer_wheels.proofs.table_lemmas.TableLaws.{of_table}
 use Rattle.timer_wheels.proofs.hier.HierWheelWheel.start.Goals as goal
 
 pub invariant_of-self-2-clause-few_starts : goal.invariant_of-self-2-clause-few_starts

@@ -1,7 +1,7 @@
 use Rattle.std.proofs.Common.{ap}
 use Rattle.timer_base.specs.WheelState.{WheelState}
 use Rattle.timer_wheels.specs.Tables.{radices}
-use Rattle.timer_wheels.proofs.HierLemmas.{paid_at, paid_without}
+use Rattle.timer_wheels.proofs.hier_lemmas.Invariant.{paid_at, paid_without}
 use Rattle.timer_wheels.proofs.hier.HierWheelWheel.stop.Goals as goal
 
 pub invariant_of-self-clause-paid : goal.invariant_of-self-clause-paid

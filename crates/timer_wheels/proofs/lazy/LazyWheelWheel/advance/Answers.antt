@@ -1,7 +1,7 @@
 use Rattle.std.proofs.Common.{ap}
 use Rattle.timer_wheels.specs.Buckets.{state_of}
 use Rattle.timer_wheels.specs.Tables.{layout_of_table}
-use Rattle.timer_wheels.proofs.RoomLemmas.{advances-with_layout}
+use Rattle.timer_wheels.proofs.bucket_lemmas.RoomLemmas.{advances-with_layout}
 use Rattle.timer_wheels.proofs.lazy.LazyWheelWheel.advance.Goals as goal
 
 pub returns-clause-advances : goal.returns-clause-advances

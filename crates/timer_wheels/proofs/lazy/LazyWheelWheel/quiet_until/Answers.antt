@@ -1,4 +1,4 @@
-use Rattle.timer_wheels.proofs.FilesLemmas.{quiet_to_visit}
+use Rattle.timer_wheels.proofs.lazy_lemmas.FilesLemmas.{quiet_to_visit}
 use Rattle.timer_wheels.proofs.lazy.LazyWheelWheel.quiet_until.Goals as goal
 
 pub returns : goal.returns

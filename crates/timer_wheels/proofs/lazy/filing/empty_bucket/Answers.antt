@@ -2,9 +2,9 @@ use Rattle.std.proofs.Common.{◌+◌, ℕ, length, sym, ◌∙◌, ap, arith}
 use Rattle.timer_wheels.specs.Digits.{slots}
 use Rattle.timer_wheels.specs.Tables.{radices}
 use Rattle.timer_links.specs.Lists.{list_at, KeyedLists}
-use Rattle.timer_wheels.proofs.FilingLemmas.{migrated-length, emptied_all}
-use Rattle.timer_wheels.proofs.OccupiedLemmas.{marked_same}
-use Rattle.timer_wheels.proofs.WheelUpdates.{in_word}
+use Rattle.timer_wheels.proofs.lazy_lemmas.FilingLemmas.{migrated-length, emptied_all}
+use Rattle.timer_wheels.proofs.bucket_lemmas.OccupiedLemmas.{marked_same}
+use Rattle.timer_wheels.proofs.bucket_lemmas.WheelUpdates.{in_word}
 use Rattle.timer_wheels.proofs.lazy.filing.empty_bucket.Goals as goal
 
 pub remove-requires : goal.remove-requires

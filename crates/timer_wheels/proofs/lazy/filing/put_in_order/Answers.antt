@@ -1,4 +1,4 @@
-use Rattle.timer_wheels.proofs.FilingLemmas.{sorted_already}
+use Rattle.timer_wheels.proofs.lazy_lemmas.FilingLemmas.{sorted_already}
 use Rattle.timer_wheels.proofs.lazy.filing.put_in_order.Goals as goal
 
 pub returns-else-not-is_sorted-clause-sorted : goal.returns-else-not-is_sorted-clause-sorted

@@ -2,12 +2,12 @@ use Rattle.std.proofs.Common.{◌≡◌, ◌<◌, ◌+◌, ◌++◌, ◌∷◌, 
 use Rattle.timer_wheels.specs.Types.{Rows}
 use Rattle.timer_links.specs.Lists.{list_at}
 use Rattle.timer_wheels.specs.Digits.{slots}
-use Rattle.timer_wheels.specs.Merges.{serial_of}
+use Rattle.timer_wheels.specs.lazy.Merges.{serial_of}
 use Rattle.timer_wheels.specs.Occupied.{filled}
 use Rattle.timer_wheels.specs.Tables.{radices}
-use Rattle.timer_wheels.proofs.FilingLemmas.{AreSortedTo, sorted_none, sorted_more, front_serial}
-use Rattle.timer_wheels.proofs.MigrationLoop.{first_row, front_deadline_is, no_front, next_due, next_left, due_target, left_target, goes_elsewhere, next_timer, gone_to, gone_past, shorter, moves_fit, ended_none, emptying_begun}
-use Rattle.timer_wheels.proofs.OccupiedLemmas.{marked_due, marked_left, marked_all}
+use Rattle.timer_wheels.proofs.lazy_lemmas.FilingLemmas.{AreSortedTo, sorted_none, sorted_more, front_serial}
+use Rattle.timer_wheels.proofs.hier_lemmas.MigrationLoop.{first_row, front_deadline_is, no_front, next_due, next_left, due_target, left_target, goes_elsewhere, next_timer, gone_to, gone_past, shorter, moves_fit, ended_none, emptying_begun}
+use Rattle.timer_wheels.proofs.bucket_lemmas.OccupiedLemmas.{marked_due, marked_left, marked_all}
 use Rattle.timer_wheels.proofs.lazy.filing.refile.Goals as goal
 
 pub loop-next-preserved-then-timer-tick : goal.loop-next-preserved-then-timer-tick

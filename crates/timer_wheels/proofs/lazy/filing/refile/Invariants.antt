@@ -3,9 +3,9 @@ use Rattle.timer_wheels.specs.Digits.{slots}
 use Rattle.timer_wheels.specs.Tables.{radices}
 use Rattle.timer_wheels.specs.Occupied.{bit_of, AreMarkedBut}
 use Rattle.timer_links.specs.Lists.{list_at}
-use Rattle.timer_wheels.specs.Migration.{timer_in_front}
-use Rattle.timer_wheels.proofs.FilingLemmas.{AreSortedTo}
-use Rattle.timer_wheels.proofs.MigrationLoop.{IsEmptying}
+use Rattle.timer_wheels.specs.hier.Migration.{timer_in_front}
+use Rattle.timer_wheels.proofs.lazy_lemmas.FilingLemmas.{AreSortedTo}
+use Rattle.timer_wheels.proofs.hier_lemmas.MigrationLoop.{IsEmptying}
 use Rattle.timer_wheels.proofs.lazy.filing.refile.Given as goal
 
 abbrev pub invariant-loop-next : goal.invariant-loop-next

@@ -3,7 +3,7 @@ use Rattle.timer_wheels.specs.Types.{Table}
 use Rattle.timer_wheels.specs.Digits.{lowest_radix}
 use Rattle.timer_wheels.specs.Occupied.{bit_of}
 use Rattle.timer_wheels.specs.Tables.{radices}
-use Rattle.timer_wheels.proofs.LazyLeaps.{quiet_to}
+use Rattle.timer_wheels.proofs.lazy_lemmas.Leaps.{quiet_to}
 use Rattle.timer_wheels.proofs.lazy.leaps.is_quiet_by.Goals as goal
 
 pub returns : goal.returns

@@ -2,15 +2,15 @@ use Rattle.std.proofs.Common.{◌≡◌, ◌<◌, ◌+◌, ℕ, [], length, sym,
 use Rattle.timer_wheels.specs.Types.{Ghosts, list_at, Rows, Table}
 use Rattle.timer_wheels.specs.Buckets.{state_of}
 use Rattle.timer_wheels.specs.Digits.{slots, emptied}
-use Rattle.timer_wheels.specs.Files.{filed_next}
+use Rattle.timer_wheels.specs.lazy.Files.{filed_next}
 use Rattle.timer_wheels.specs.Occupied.{bit_of}
 use Rattle.timer_wheels.specs.declared.lazy.files.Files.{Files}
 use Rattle.timer_wheels.specs.declared.lazy.files.FilingCounts.{FilingCounts}
-use Rattle.timer_wheels.specs.Migration.{left_rows}
+use Rattle.timer_wheels.specs.hier.Migration.{left_rows}
 use Rattle.timer_wheels.specs.Tables.{radices}
-use Rattle.timer_wheels.proofs.FilesLemmas.{none_where}
-use Rattle.timer_wheels.proofs.LazyLeaps.{passes_by, passing_one}
-use Rattle.timer_wheels.proofs.WheelUpdates.{in_word}
+use Rattle.timer_wheels.proofs.lazy_lemmas.FilesLemmas.{none_where}
+use Rattle.timer_wheels.proofs.lazy_lemmas.Leaps.{passes_by, passing_one}
+use Rattle.timer_wheels.proofs.bucket_lemmas.WheelUpdates.{in_word}
 use Rattle.timer_wheels.proofs.lazy.leaps.tick_by.Goals as goal
 
 pub has-requires : goal.has-requires

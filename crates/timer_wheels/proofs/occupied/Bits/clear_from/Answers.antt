@@ -1,6 +1,6 @@
 use Rattle.std.proofs.Common.{◌≡◌, ◌<◌, ◌≤◌, ◌+◌, ℕ, List, subst}
 use Rattle.timer_wheels.specs.Occupied.{bit_of}
-use Rattle.timer_wheels.proofs.OccupiedLemmas.{clear_lists}
+use Rattle.timer_wheels.proofs.bucket_lemmas.OccupiedLemmas.{clear_lists}
 use Rattle.timer_wheels.proofs.occupied.Bits.clear_from.Goals as goal
 
 pub returns-clause-clear : goal.returns-clause-clear

@@ -1,6 +1,6 @@
 use Rattle.std.proofs.Common.{◌≡◌, ℕ, List, sym, ap, ◌∙◌, subst, slice_index_or}
 use Rattle.timer_wheels.specs.Occupied.{IsLowestSet}
-use Rattle.timer_wheels.proofs.OccupiedLemmas.{clear_word, first_bit}
+use Rattle.timer_wheels.proofs.bucket_lemmas.OccupiedLemmas.{clear_word, first_bit}
 use Rattle.timer_wheels.proofs.occupied.Bits.first.Goals as goal
 
 pub returns-then-word-ne0 : goal.returns-then-word-ne0

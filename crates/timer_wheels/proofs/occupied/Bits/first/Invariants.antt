@@ -1,4 +1,4 @@
-use Rattle.timer_wheels.proofs.OccupiedLemmas.{AreClear}
+use Rattle.timer_wheels.proofs.bucket_lemmas.OccupiedLemmas.{AreClear}
 use Rattle.timer_wheels.proofs.occupied.Bits.first.Given as goal
 
 abbrev pub invariant-loop-k : goal.invariant-loop-k

@@ -1,10 +1,8 @@
-use Rattle.std.proofs.Common.{◌≡◌, ◌-◌, ◌∙◌, ap, arith}
+use Rattle.std.proofs.Common.{◌≡◌, ◌-◌, ◌∙◌, arith}
 use Rattle.timer_base.proofs.TickLaws.{nothing_due}
 use Rattle.timer_base.specs.WheelState.{held_count}
-use Rattle.timer_wheels.specs.Paces.{tick_bound}
-use Rattle.timer_wheels.specs.SmoothWheel.{smooth_state}
-use Rattle.timer_wheels.specs.declared.table.Table.{Table}
-use Rattle.timer_wheels.proofs.SmoothLeaps.{leap_and_tick, held_ticked}
+use Rattle.timer_wheels.specs.smooth.SmoothWheel.{smooth_state}
+use Rattle.timer_wheels.proofs.smooth_lemmas.Leaps.{leap_and_tick, held_ticked}
 use Rattle.timer_wheels.proofs.smooth.SmoothWheel.pass.Goals as goal
 
 pub returns-clause-passes : goal.returns-clause-passes
@@ -19,12 +17,7 @@ returns-clause-held g c =
     ∙ c.leap.ensures.held
 
 pub returns-clause-bound : goal.returns-clause-bound
-returns-clause-bound g c = λ n f. omega (
-  arith,
-  c.per_tick.ensures.bound n (c.leap.ensures.paced n f),
-  c.leap.ensures.moves,
-  ap (λ (t : Table). tick_bound t n) c.leap.ensures.table,
-)
+returns-clause-bound g c = λ n f. omega (arith, c.per_tick.ensures.bound n (c.leap.ensures.paced n f), c.leap.ensures.moves)
 
 pub returns-clause-paced : goal.returns-clause-paced
 returns-clause-paced g c =

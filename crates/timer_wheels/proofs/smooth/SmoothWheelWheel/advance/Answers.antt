@@ -1,9 +1,9 @@
 use Rattle.std.proofs.Common.{◌-◌, ◌∙◌, ap, arith}
 use Rattle.timer_base.proofs.TickLaws.{after_ticks-last, not_due}
-use Rattle.timer_wheels.specs.Types.{WheelState, Table}
-use Rattle.timer_wheels.specs.Paces.{tick_bound}
-use Rattle.timer_wheels.specs.SmoothWheel.{smooth_state, smooth_table, moves_of}
-use Rattle.timer_wheels.proofs.SmoothLeaps.{passing_pass, advance_stops, moves_more}
+use Rattle.timer_wheels.specs.Types.{WheelState}
+use Rattle.timer_wheels.specs.smooth.Paces.{tick_bound}
+use Rattle.timer_wheels.specs.smooth.SmoothWheel.{smooth_state, moves_of}
+use Rattle.timer_wheels.proofs.smooth_lemmas.Leaps.{passing_pass, advance_stops, moves_more}
 use Rattle.timer_wheels.proofs.smooth.SmoothWheelWheel.advance.Goals as goal
 
 pub returns-then-has_due-clause-advances : goal.returns-then-has_due-clause-advances
@@ -17,9 +17,9 @@ returns-then-has_due-clause-bound g c =
     let w = c.loop-self.invariant in
     let old = c.args.self.now in
     let mid = c.loop-self.self in
-    λ n h f. moves_more old.bank.buckets.tick mid.bank.buckets.tick c.pass.new.self.bank.buckets.tick (moves_of old) (moves_of mid)
-    (moves_of c.pass.new.self) (tick_bound (smooth_table old) n) w.later c.pass.ensures.passes.later (w.bound n h f)
-    (omega (arith, c.pass.ensures.bound n (w.paced n h f), ap (λ (t : Table). tick_bound t n) w.table))
+    λ n h f. moves_more old.wheels.buckets.tick mid.wheels.buckets.tick c.pass.new.self.wheels.buckets.tick (moves_of old) (moves_of mid)
+    (moves_of c.pass.new.self) (tick_bound n) w.later c.pass.ensures.passes.later (w.bound n h f)
+    (c.pass.ensures.bound n (w.paced n h f))
 
 pub returns-then-has_due-clause-paced : goal.returns-then-has_due-clause-paced
 returns-then-has_due-clause-paced g c =
@@ -41,11 +41,10 @@ loop-self-preserved g c =
           (not_due (smooth_state new).due c.has_due.result c.has_due.ensures c.if-has_due.false);
       last_tick = (ap (λ (u : WheelState). u.last_tick) p.ticked
           ∙ after_ticks-last ((smooth_state new).now - (smooth_state mid).now) (smooth_state mid)) ∙ w.last_tick;
-      table = c.pass.ensures.table ∙ w.table;
       held = c.pass.ensures.held ∙ w.held;
-      bound = λ n h f. moves_more old.bank.buckets.tick mid.bank.buckets.tick new.bank.buckets.tick (moves_of old) (moves_of mid)
-          (moves_of new) (tick_bound (smooth_table old) n) w.later p.later (w.bound n h f)
-          (omega (arith, c.pass.ensures.bound n (w.paced n h f), ap (λ (t : Table). tick_bound t n) w.table));
+      bound = λ n h f. moves_more old.wheels.buckets.tick mid.wheels.buckets.tick new.wheels.buckets.tick (moves_of old) (moves_of mid)
+          (moves_of new) (tick_bound n) w.later p.later (w.bound n h f)
+          (c.pass.ensures.bound n (w.paced n h f));
       starts = c.pass.ensures.starts ∙ w.starts;
       counted = c.pass.ensures.counted ∙ w.counted;
       paced = λ n h f. c.pass.ensures.paced n (omega (arith, w.held, h)) (w.paced n h f);

@@ -1,5 +1,5 @@
 use Rattle.std.proofs.Common.{◌≤◌, ◌*◌, rules}
-use Rattle.timer_wheels.proofs.EqualDigits.{few_below, few_wheels}
+use Rattle.timer_wheels.proofs.table_lemmas.EqualDigits.{few_below, few_wheels}
 use Rattle.timer_wheels.proofs.table.equal.bits_below.Goals as goal
 
 pub overflow_cast-result : goal.overflow_cast-result

@@ -1,5 +1,5 @@
 use Rattle.std.proofs.Common.{arith, rules}
-use Rattle.timer_wheels.proofs.EqualDigits.{begun_bucket, next_bucket, bucket_is, bucket_in_slots, shrinks}
+use Rattle.timer_wheels.proofs.table_lemmas.EqualDigits.{begun_bucket, next_bucket, bucket_is, bucket_in_slots, shrinks}
 use Rattle.timer_wheels.proofs.table.equal.bucket_of.Goals as goal
 
 pub loop-from-init : goal.loop-from-init

@@ -1,4 +1,4 @@
-use Rattle.timer_wheels.proofs.EqualDigits.{IsBucketAbove}
+use Rattle.timer_wheels.proofs.table_lemmas.EqualDigits.{IsBucketAbove}
 use Rattle.timer_wheels.proofs.table.equal.bucket_of.Given as goal
 
 abbrev pub invariant-loop-from : goal.invariant-loop-from

@@ -1,5 +1,5 @@
 use Rattle.std.proofs.Common.{arith, rules}
-use Rattle.timer_wheels.proofs.EqualDigits.{begun_emptied, next_emptied, emptied_is, emptied_in_slots, shrinks}
+use Rattle.timer_wheels.proofs.table_lemmas.EqualDigits.{begun_emptied, next_emptied, emptied_is, emptied_in_slots, shrinks}
 use Rattle.timer_wheels.proofs.table.equal.emptied_at.Goals as goal
 
 pub loop-rest-init : goal.loop-rest-init

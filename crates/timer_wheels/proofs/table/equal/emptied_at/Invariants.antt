@@ -1,4 +1,4 @@
-use Rattle.timer_wheels.proofs.EqualDigits.{IsEmptiedAbove}
+use Rattle.timer_wheels.proofs.table_lemmas.EqualDigits.{IsEmptiedAbove}
 use Rattle.timer_wheels.proofs.table.equal.emptied_at.Given as goal
 
 abbrev pub invariant-loop-rest : goal.invariant-loop-rest

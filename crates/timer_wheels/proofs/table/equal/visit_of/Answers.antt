@@ -1,5 +1,5 @@
 use Rattle.std.proofs.Common.{◌≤◌, ◌+◌, ◌-◌, ◌/◌, ◌%◌, ◌^◌, rules}
-use Rattle.timer_wheels.proofs.EqualDigits.{wheel_in_range, visit_in_word, visit_by_bits}
+use Rattle.timer_wheels.proofs.table_lemmas.EqualDigits.{wheel_in_range, visit_in_word, visit_by_bits}
 use Rattle.timer_wheels.proofs.table.equal.visit_of.Goals as goal
 
 pub bits_below-shift-requires-clause-wheel : goal.bits_below-shift-requires-clause-wheel

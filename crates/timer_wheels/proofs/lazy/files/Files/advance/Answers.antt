@@ -2,7 +2,7 @@ use Rattle.std.proofs.Common.{◌≡◌, ◌+◌, ◌-◌, ℕ, ap, subst, arith
 use Rattle.timer_base.specs.WheelState.{IsPassing}
 use Rattle.timer_wheels.specs.Buckets.{state_of}
 use Rattle.timer_wheels.specs.declared.lazy.files.FilingCounts.{FilingCounts}
-use Rattle.timer_wheels.proofs.LazyLeaps.{passing_advances}
+use Rattle.timer_wheels.proofs.lazy_lemmas.Leaps.{passing_advances}
 use Rattle.timer_wheels.proofs.lazy.files.Files.advance.Goals as goal
 
 pub skip_to-requires-clause-ahead : goal.skip_to-requires-clause-ahead

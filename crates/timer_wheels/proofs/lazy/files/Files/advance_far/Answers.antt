@@ -2,7 +2,7 @@ use Rattle.std.proofs.Common.{◌-◌, ◌∙◌, ap, arith}
 use Rattle.timer_base.proofs.TickLaws.{after_ticks-last, not_due}
 use Rattle.timer_wheels.specs.Types.{WheelState}
 use Rattle.timer_wheels.specs.Buckets.{state_of}
-use Rattle.timer_wheels.proofs.SmoothLeaps.{passing_pass, advance_stops}
+use Rattle.timer_wheels.proofs.smooth_lemmas.Leaps.{passing_pass, advance_stops}
 use Rattle.timer_wheels.proofs.lazy.files.Files.advance_far.Goals as goal
 
 pub returns-then-has_due-clause-advances : goal.returns-then-has_due-clause-advances

@@ -1,7 +1,7 @@
 use Rattle.std.proofs.Common.{◌≡◌, ◌≤◌, ◌+◌, ◌-◌}
 use Rattle.timer_base.specs.WheelState.{IsPassing}
 use Rattle.timer_wheels.specs.Buckets.{state_of}
-use Rattle.timer_wheels.specs.Files.{filings_left}
+use Rattle.timer_wheels.specs.lazy.Files.{filings_left}
 use Rattle.timer_wheels.proofs.lazy.files.Files.advance_far.Given as goal
 
 abbrev pub invariant-loop-self : goal.invariant-loop-self

@@ -1,6 +1,6 @@
 use Rattle.std.proofs.Common.{ap, arith}
 use Rattle.timer_wheels.specs.Types.{WheelState}
-use Rattle.timer_wheels.proofs.FilingCounts.{same_left}
+use Rattle.timer_wheels.proofs.lazy_lemmas.FilingCounts.{same_left}
 use Rattle.timer_wheels.proofs.lazy.files.Files.expire.Goals as goal
 
 pub invariant_of-self-clause-few_starts : goal.invariant_of-self-clause-few_starts

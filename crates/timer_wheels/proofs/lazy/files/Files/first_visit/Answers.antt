@@ -1,9 +1,9 @@
 use Rattle.std.proofs.Common.{◌<◌, ℕ, sym, subst}
-use Rattle.timer_wheels.specs.Files.{AreVisitedFrom}
+use Rattle.timer_wheels.specs.lazy.Files.{AreVisitedFrom}
 use Rattle.timer_wheels.specs.Occupied.{IsFirstSet}
 use Rattle.timer_wheels.specs.Tables.{radices}
 use Rattle.timer_wheels.specs.declared.table.TheConstants.{MOST_BUCKETS}
-use Rattle.timer_wheels.proofs.FilesLemmas.{none_at_all, none_pending, first_in_table, first_later, first_of_all, some_pending}
+use Rattle.timer_wheels.proofs.lazy_lemmas.FilesLemmas.{none_at_all, none_pending, first_in_table, first_later, first_of_all, some_pending}
 use Rattle.timer_wheels.proofs.lazy.files.Files.first_visit.Goals as goal
 
 pub returns-in_err-list-clause-none : goal.returns-in_err-list-clause-none

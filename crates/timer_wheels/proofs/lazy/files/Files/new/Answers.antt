@@ -2,11 +2,11 @@ use Rattle.std.proofs.Common.{◌+◌, ◌<◌, ℕ, ap, ◌∙◌, arith}
 use Rattle.timer_links.proofs.NewLinks.{no_rows_at}
 use Rattle.timer_wheels.specs.Types.{WheelState, list_at}
 use Rattle.timer_wheels.specs.Digits.{slots}
-use Rattle.timer_wheels.specs.Filed.{IsFiled, filings_of}
+use Rattle.timer_wheels.specs.lazy.Filed.{IsFiled, filings_of}
 use Rattle.timer_wheels.specs.Tables.{radices}
-use Rattle.timer_wheels.proofs.BucketLemmas.{each-none}
-use Rattle.timer_wheels.proofs.RowSums.{sums-none}
-use Rattle.timer_wheels.proofs.OccupiedLemmas.{marked_none}
+use Rattle.timer_wheels.proofs.bucket_lemmas.Calls.{each-none}
+use Rattle.timer_wheels.proofs.lazy_lemmas.RowSums.{sums-none}
+use Rattle.timer_wheels.proofs.bucket_lemmas.OccupiedLemmas.{marked_none}
 use Rattle.timer_wheels.proofs.lazy.files.Files.new.Goals as goal
 
 pub invariant_of-result-clause-files : goal.invariant_of-result-clause-files

@@ -1,6 +1,6 @@
 use Rattle.std.proofs.Common.{◌≡◌, ◌+◌, ℕ, subst, arith, min}
-use Rattle.timer_wheels.specs.Files.{IsBy}
-use Rattle.timer_wheels.proofs.LazyDeadlines.{least_past, least_one_more, least_of_all, least_by_visit}
+use Rattle.timer_wheels.specs.lazy.Files.{IsBy}
+use Rattle.timer_wheels.proofs.lazy_lemmas.Deadlines.{least_past, least_one_more, least_of_all, least_by_visit}
 use Rattle.timer_wheels.proofs.lazy.files.Files.next_deadline.Goals as goal
 
 pub loop-list-preserved-then-clear-ne0 : goal.loop-list-preserved-then-clear-ne0

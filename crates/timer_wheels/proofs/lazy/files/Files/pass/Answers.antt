@@ -3,16 +3,16 @@ use Rattle.timer_base.specs.WheelState.{IsPassing}
 use Rattle.timer_wheels.specs.Types.{WheelState, Ghosts, Table}
 use Rattle.timer_wheels.specs.Buckets.{state_of}
 use Rattle.timer_wheels.specs.Digits.{slots, emptied}
-use Rattle.timer_wheels.specs.Files.{AreVisitedFrom}
-use Rattle.timer_wheels.specs.Leap.{list_visit}
+use Rattle.timer_wheels.specs.lazy.Files.{AreVisitedFrom}
+use Rattle.timer_wheels.specs.hier.Leap.{list_visit}
 use Rattle.timer_wheels.specs.Occupied.{IsFirstSet}
 use Rattle.timer_wheels.specs.Tables.{radices}
 use Rattle.timer_wheels.specs.declared.lazy.files.Files.{Files}
 use Rattle.timer_wheels.specs.declared.table.TheConstants.{MOST_BUCKETS}
 use Rattle.timer_wheels.specs.declared.lazy.files.FilingCounts.{FilingCounts}
-use Rattle.timer_wheels.proofs.FilesLemmas.{none_at_all, first_in_table, first_later, first_of_all, visited_none, visited_sooner}
-use Rattle.timer_wheels.proofs.LazyLeaps.{passing_passes, first_emptied}
-use Rattle.timer_wheels.proofs.SmoothLeaps.{leap_and_tick}
+use Rattle.timer_wheels.proofs.lazy_lemmas.FilesLemmas.{none_at_all, first_in_table, first_later, first_of_all, visited_none, visited_sooner}
+use Rattle.timer_wheels.proofs.lazy_lemmas.Leaps.{passing_passes, first_emptied}
+use Rattle.timer_wheels.proofs.smooth_lemmas.Leaps.{leap_and_tick}
 use Rattle.timer_wheels.proofs.lazy.files.Files.pass.Goals as goal
 
 -- No bucket has a timer.

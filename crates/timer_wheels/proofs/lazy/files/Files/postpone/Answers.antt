@@ -1,9 +1,9 @@
 use Rattle.std.proofs.Common.{arith}
 use Rattle.timer_base.specs.WheelState.{after_removal}
 use Rattle.timer_wheels.specs.Buckets.{state_of}
-use Rattle.timer_wheels.proofs.FilesLemmas.{pushed_back}
-use Rattle.timer_wheels.proofs.FilingCounts.{paid_push_back}
-use Rattle.timer_wheels.proofs.HierLemmas.{few_starts}
+use Rattle.timer_wheels.proofs.lazy_lemmas.FilesLemmas.{pushed_back}
+use Rattle.timer_wheels.proofs.lazy_lemmas.FilingCounts.{paid_push_back}
+use Rattle.timer_wheels.proofs.hier_lemmas.Invariant.{few_starts}
 use Rattle.timer_wheels.proofs.lazy.files.Files.postpone.Goals as goal
 
 pub invariant_of-self-2-clause-files : goal.invariant_of-self-2-clause-files

@@ -3,16 +3,16 @@ use Rattle.timer_base.specs.WheelState.{held_at, old_timer, after_removal}
 use Rattle.timer_links.specs.Lists.{without_key}
 use Rattle.timer_wheels.specs.Buckets.{state_of, row_at, replaced}
 use Rattle.timer_wheels.specs.Digits.{slots}
-use Rattle.timer_wheels.specs.Filed.{IsFiled}
+use Rattle.timer_wheels.specs.lazy.Filed.{IsFiled}
 use Rattle.timer_wheels.specs.Tables.{radices}
 use Rattle.timer_wheels.specs.declared.table.TheConstants.{MOST_BUCKETS}
-use Rattle.timer_wheels.proofs.BitLemmas.{of_emptied, left_marked, come_marked}
-use Rattle.timer_wheels.proofs.BucketLemmas.{each_come, each-without_key}
-use Rattle.timer_wheels.proofs.FilingCounts.{gone_left, paid_come}
-use Rattle.timer_wheels.proofs.HierLemmas.{few_starts}
-use Rattle.timer_wheels.proofs.FilesLemmas.{row_in_table, within, less_slots, newly_filed}
-use Rattle.timer_wheels.proofs.Updates.{removed}
-use Rattle.timer_wheels.proofs.WheelUpdates.{in_word}
+use Rattle.timer_wheels.proofs.bucket_lemmas.BitLemmas.{of_emptied, left_marked, come_marked}
+use Rattle.timer_wheels.proofs.bucket_lemmas.Calls.{each_come, each-without_key}
+use Rattle.timer_wheels.proofs.lazy_lemmas.FilingCounts.{gone_left, paid_come}
+use Rattle.timer_wheels.proofs.hier_lemmas.Invariant.{few_starts}
+use Rattle.timer_wheels.proofs.lazy_lemmas.FilesLemmas.{row_in_table, within, less_slots, newly_filed}
+use Rattle.timer_wheels.proofs.bucket_lemmas.Updates.{removed}
+use Rattle.timer_wheels.proofs.bucket_lemmas.WheelUpdates.{in_word}
 use Rattle.timer_wheels.proofs.lazy.files.Files.restart_apart.Goals as goal
 
 pub leave-requires : goal.leave-requires
@@ -24,8 +24,8 @@ leave-requires g c =
     rw c.replace.ensures.frame.slots (of_emptied b.sound c.args.handle c.lemma_keys_unique.ensures r.restarted.1 found r.emptied
     r.ensures.emptied (λ l. l < b.slots → l < MOST_BUCKETS) (row_in_table w.files))
 
-pub enter-requires : goal.enter-requires
-enter-requires g c = λ later. in_word c.args.self.now.table c.list_of-list.result (c.list_of-list.ensures.in_table later)
+pub enter_first-requires-clause-list : goal.enter_first-requires-clause-list
+enter_first-requires-clause-list g c = λ later. in_word c.args.self.now.table c.list_of-list.result (c.list_of-list.ensures.in_table later)
 
 pub invariant_of-self-2-clause-files : goal.invariant_of-self-2-clause-files
 invariant_of-self-2-clause-files g c =
@@ -52,7 +52,7 @@ invariant_of-self-2-clause-files g c =
           (newly_filed w.files list row c.requires.deadline c.requires.fresh refl to.ensures.bucket)
           (each-without_key (IsFiled (radices w.table) b.tick) b.slots handle.place b.links.lists w.files.filed));
       marked = rw e (come_marked (slots (radices w.table)) b.slots b.tick (map (without_key handle.place) b.links.lists) c.leave.new.occupied
-          c.enter.new.occupied row list timer.deadline (less_slots w.files) left long to.ensures.list to.ensures.in_table c.enter.ensures.pending c.enter.ensures.due);
+          c.enter_first.new.occupied row list timer.deadline (less_slots w.files) left long to.ensures.list to.ensures.in_table c.enter_first.ensures.pending c.enter_first.ensures.due);
     }
 
 pub invariant_of-self-2-clause-few_starts : goal.invariant_of-self-2-clause-few_starts

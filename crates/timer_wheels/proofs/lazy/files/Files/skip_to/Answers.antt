@@ -1,7 +1,7 @@
 use Rattle.std.proofs.Common.{refl, arith}
 use Rattle.timer_wheels.specs.Buckets.{state_of}
-use Rattle.timer_wheels.proofs.FilesLemmas.{skipped_sound, skipped_filed, skip_passes}
-use Rattle.timer_wheels.proofs.FilingCounts.{skipped_left}
+use Rattle.timer_wheels.proofs.lazy_lemmas.FilesLemmas.{skipped_sound, skipped_filed, skip_passes}
+use Rattle.timer_wheels.proofs.lazy_lemmas.FilingCounts.{skipped_left}
 use Rattle.timer_wheels.proofs.lazy.files.Files.skip_to.Goals as goal
 
 pub invariant_of-buckets : goal.invariant_of-buckets

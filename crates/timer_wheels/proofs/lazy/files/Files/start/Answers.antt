@@ -1,18 +1,18 @@
 use Rattle.std.proofs.Common.{◌∙◌, refl, arith}
 use Rattle.timer_wheels.specs.Buckets.{state_of, row_at}
 use Rattle.timer_wheels.specs.Digits.{slots}
-use Rattle.timer_wheels.specs.Filed.{IsFiled}
+use Rattle.timer_wheels.specs.lazy.Filed.{IsFiled}
 use Rattle.timer_wheels.specs.Tables.{radices}
-use Rattle.timer_wheels.proofs.BitLemmas.{come_marked}
-use Rattle.timer_wheels.proofs.BucketLemmas.{each_come}
-use Rattle.timer_wheels.proofs.FilingCounts.{paid_come}
-use Rattle.timer_wheels.proofs.HierLemmas.{few_starts}
-use Rattle.timer_wheels.proofs.FilesLemmas.{newly_filed, less_slots}
-use Rattle.timer_wheels.proofs.WheelUpdates.{in_word}
+use Rattle.timer_wheels.proofs.bucket_lemmas.BitLemmas.{come_marked}
+use Rattle.timer_wheels.proofs.bucket_lemmas.Calls.{each_come}
+use Rattle.timer_wheels.proofs.lazy_lemmas.FilingCounts.{paid_come}
+use Rattle.timer_wheels.proofs.hier_lemmas.Invariant.{few_starts}
+use Rattle.timer_wheels.proofs.lazy_lemmas.FilesLemmas.{newly_filed, less_slots}
+use Rattle.timer_wheels.proofs.bucket_lemmas.WheelUpdates.{in_word}
 use Rattle.timer_wheels.proofs.lazy.files.Files.start.Goals as goal
 
-pub enter-requires : goal.enter-requires
-enter-requires g c = λ later. in_word c.args.self.now.table c.list_of-list.result (c.list_of-list.ensures.in_table later)
+pub enter_first-requires-clause-list : goal.enter_first-requires-clause-list
+enter_first-requires-clause-list g c = λ later. in_word c.args.self.now.table c.list_of-list.result (c.list_of-list.ensures.in_table later)
 
 pub invariant_of-self-2-clause-files : goal.invariant_of-self-2-clause-files
 invariant_of-self-2-clause-files g c =
@@ -30,8 +30,8 @@ invariant_of-self-2-clause-files g c =
       filed = rw (f.tick, f.slots, e) (each_come (IsFiled (radices w.table) b.tick) b.slots b.tick timer.deadline list row b.links.lists
           b.sound.has_lists to.ensures.list
           (newly_filed w.files list row c.requires.deadline c.requires.fresh refl to.ensures.bucket) w.files.filed);
-      marked = rw e (come_marked (slots (radices w.table)) b.slots b.tick b.links.lists w.occupied c.enter.new.occupied row
-          list timer.deadline (less_slots w.files) w.files.marked b.sound.has_lists to.ensures.list to.ensures.in_table c.enter.ensures.pending c.enter.ensures.due);
+      marked = rw e (come_marked (slots (radices w.table)) b.slots b.tick b.links.lists w.occupied c.enter_first.new.occupied row
+          list timer.deadline (less_slots w.files) w.files.marked b.sound.has_lists to.ensures.list to.ensures.in_table c.enter_first.ensures.pending c.enter_first.ensures.due);
     }
 
 pub invariant_of-self-2-clause-few_starts : goal.invariant_of-self-2-clause-few_starts

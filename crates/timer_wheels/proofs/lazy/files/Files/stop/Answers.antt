@@ -2,13 +2,13 @@ use Rattle.std.proofs.Common.{◌≡◌, ◌<◌, sym, ◌∙◌, ap, arith, Som
 use Rattle.timer_base.specs.WheelState.{held_at}
 use Rattle.timer_wheels.specs.Buckets.{state_of, taken_timer}
 use Rattle.timer_wheels.specs.Digits.{slots}
-use Rattle.timer_wheels.specs.Filed.{IsFiled}
+use Rattle.timer_wheels.specs.lazy.Filed.{IsFiled}
 use Rattle.timer_wheels.specs.Tables.{radices}
 use Rattle.timer_wheels.specs.declared.table.TheConstants.{MOST_BUCKETS}
-use Rattle.timer_wheels.proofs.BitLemmas.{of_emptied, left_marked}
-use Rattle.timer_wheels.proofs.BucketLemmas.{each-without_key}
-use Rattle.timer_wheels.proofs.FilingCounts.{gone_from}
-use Rattle.timer_wheels.proofs.FilesLemmas.{row_in_table, within, less_slots}
+use Rattle.timer_wheels.proofs.bucket_lemmas.BitLemmas.{of_emptied, left_marked}
+use Rattle.timer_wheels.proofs.bucket_lemmas.Calls.{each-without_key}
+use Rattle.timer_wheels.proofs.lazy_lemmas.FilingCounts.{gone_from}
+use Rattle.timer_wheels.proofs.lazy_lemmas.FilesLemmas.{row_in_table, within, less_slots}
 use Rattle.timer_wheels.proofs.lazy.files.Files.stop.Goals as goal
 
 pub leave-requires : goal.leave-requires

@@ -2,11 +2,11 @@ use Rattle.std.proofs.Common.{◌+◌, ◌<◌, ℕ, sym, ap, subst, arith, rule
 use Rattle.std.specs.List.{AllByRecursion}
 use Rattle.timer_base.specs.WheelState.{with_room}
 use Rattle.timer_links.specs.Lists.{list_at}
-use Rattle.timer_wheels.specs.Migration.{MayMigrate}
+use Rattle.timer_wheels.specs.hier.Migration.{MayMigrate}
 use Rattle.timer_wheels.specs.Tables.{radices}
-use Rattle.timer_wheels.proofs.FilingCounts.{emptied_left, filings_fit}
-use Rattle.timer_wheels.proofs.FilesLemmas.{before, ticked}
-use Rattle.timer_wheels.proofs.LazyTicks.{all_may_migrate, none_from}
+use Rattle.timer_wheels.proofs.lazy_lemmas.FilingCounts.{emptied_left, filings_fit}
+use Rattle.timer_wheels.proofs.lazy_lemmas.FilesLemmas.{before, ticked}
+use Rattle.timer_wheels.proofs.lazy_lemmas.Ticks.{all_may_migrate, none_from}
 use Rattle.timer_wheels.proofs.lazy.files.Files.visit.Goals as goal
 
 pub empty_bucket-filed-requires-clause-lists : goal.empty_bucket-filed-requires-clause-lists

@@ -1,6 +1,0 @@
-use Rattle.timer_wheels.proofs.CountdownLemmas.{AreMeasuredRows}
-use Rattle.timer_wheels.proofs.WalkLemmas.{IsGathering}
-use Rattle.timer_wheels.proofs.revolutions.fewest_in_list.Given as goal
-
-abbrev pub invariant-loop-step : goal.invariant-loop-step
-invariant-loop-step l = IsGathering (AreMeasuredRows l.most l.fewest) l.list l.step l.links.lists l.at

@@ -1,5 +1,0 @@
-use Rattle.timer_wheels.proofs.CountdownLemmas.{AreMeasured}
-use Rattle.timer_wheels.proofs.revolutions.fewest_rounds.Given as goal
-
-abbrev pub invariant-loop-list : goal.invariant-loop-list
-invariant-loop-list l = AreMeasured l.list l.links.lists l.most l.fewest

@@ -1,8 +1,0 @@
-use Rattle.std.proofs.Common.{ap, ◌∙◌, refl}
-use Rattle.timer_wheels.specs.Bank.{next_len}
-use Rattle.timer_wheels.proofs.smooth.bank.Bank.move_some.Goals as goal
-
-pub returns-then-not-move_one-clause-others : goal.returns-then-not-move_one-clause-others
-returns-then-not-move_one-clause-others g c = λ early j z l n.
-    ap (λ b. next_len c.args.self.now.table b j) (c.if-not-move_one.ensures.same refl)
-    ∙ c.loop-moved.invariant.others early j z l n

@@ -1,9 +1,0 @@
-use Rattle.timer_wheels.proofs.SmoothAhead.{events_rest}
-use Rattle.timer_wheels.proofs.smooth.bank.Bank.next_event.Goals as goal
-
-pub returns-then-is_in_present-clause-events : goal.returns-then-is_in_present-clause-events
-returns-then-is_in_present-clause-events g c =
-    let w = c.args.self.now in
-    let i = c.loop-wheel.invariant in
-    events_rest w.table w.buckets w.filled w.bank c.loop-wheel.event c.loop-wheel.wheel c.requires.open i.above i.later
-    (c.is_in_present.ensures c.if-is_in_present.true) i.events

@@ -1,0 +1,25 @@
+-- Lemmas for the smooth wheel.
+pub mod Slots
+pub mod Laws
+pub mod Pace
+pub mod Lists
+pub mod Moves
+pub mod Places
+pub mod Steps
+pub mod Ticks
+pub mod Descent
+pub mod Skips
+pub mod Starts
+pub mod Weights
+pub mod Heights
+pub mod PaceSums
+pub mod Totals
+pub mod WakeUps
+pub mod Visits
+pub mod Firsts
+pub mod Leaps
+pub mod Wheels
+pub mod Removals
+pub mod NextBuckets
+pub mod Potentials
+pub mod Restarts
