@@ -1,7 +1,23 @@
-/* Linux's numbers, which generated/program.c wants. In a page no read and no write fails, so nothing sets it. */
+/* Linux's numbers, which generated/program.c wants. In a page no read and no write fails, and there are no files. */
+#define EPERM 1
+#define ENOENT 2
 #define EINTR 4
 #define EAGAIN 11
+#define EWOULDBLOCK EAGAIN
 #define ENOMEM 12
+#define EACCES 13
+#define EEXIST 17
+#define EXDEV 18
+#define ENOTDIR 20
+#define EISDIR 21
+#define EINVAL 22
+#define EFBIG 27
+#define ENOSPC 28
+#define EROFS 30
 #define EPIPE 32
+#define ENAMETOOLONG 36
+#define ENOSYS 38
+#define ELOOP 40
+#define EDQUOT 122
 static int page_errno;
 #define errno page_errno
