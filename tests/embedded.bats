@@ -1,5 +1,5 @@
 #!/usr/bin/env bats
-# What docs/embedded.md says of small machines, measured: without malloc, on a Cortex-M4 that qemu has (tests/platforms runs more
+# What docs/platforms.md says of small machines, measured: without malloc, on a Cortex-M4 that qemu has (tests/platforms runs more
 # there). The page's numbers are bounds for Debian 12's compilers, but for those of memory, which hold everywhere.
 # shellcheck disable=SC2034,SC2086
 load helpers
@@ -7,7 +7,7 @@ load small
 
 setup_file() {
     cd "$BATS_TEST_DIRNAME/.." || return
-    export work=$BATS_FILE_TMPDIR page=docs/embedded.md
+    export work=$BATS_FILE_TMPDIR page=docs/platforms.md
 }
 setup() { set -o pipefail; }
 # by COMPILER: names the library's object, which is made once
@@ -55,9 +55,9 @@ EOT
 }
 @test "and, by the page's commands, on a Cortex-M4" {
     needs_m4
-    sed -n '1,/^## /s/^    //p' "$page" | sed "s, static\>, $work/static," > "$work/commands"
+    sed -n '/^## Small machines/,/^## In/s/^    //p' "$page" | sed "s, static\>, $work/static," > "$work/commands"
     [ "$(wc -l < "$work/commands")" -eq 3 ]
-    timeout 60 sh -e "$work/commands" | diff examples/c/static_memory.stdout -
+    timeout 600 sh -e "$work/commands" | diff examples/c/static_memory.stdout -
 }
 
 @test "a project of CMake builds it so" {
@@ -140,7 +140,7 @@ no_more_code() {
         $3 ~ /reserve|make_r|grow|rattle_|give|alloc/ { sum["memory"] += $1; next }
         { sum["rest"] += $1 }
         END { for (part in sum) print part, sum[part] }' > "$work/parts"
-    sed -n '/^No option leaves/,/^$/p' "$page" | tr -d '\n,' | sed -nE 's/.* (9200) .*`timers_take` have ([0-9]+).*start has ([0-9]+).*`timers_reserve` ([0-9]+).*`timers_new` ([0-9]+).*stop ([0-9]+).*`__ctzdi2` ([0-9]+)\..*/all \1 ticks \2 start \3 memory \4 new \5 stop \6 division \7/p' |
+    sed -n '/^No option leaves/,/^$/p' "$page" | tr -d '\n,' | sed -nE 's/.* (9600) .*`timers_take` have ([0-9]+).*start has ([0-9]+).*`timers_reserve` ([0-9]+).*`timers_new` ([0-9]+).*stop ([0-9]+).*`__ctzdi2` ([0-9]+)\..*/all \1 ticks \2 start \3 memory \4 new \5 stop \6 division \7/p' |
         xargs -n 2 > "$work/said"
     [ "$(wc -l < "$work/said")" -eq 7 ]
     at_most "$(sed -n 's/^all //p' "$work/said")" "$bytes" all

@@ -19,13 +19,16 @@ prints_first() { "$@" | diff examples/c/first.stdout -; }
     (cd generated && sha256sum --check --strict "$work/sums")
 }
 
-# has_parts FILE PART..: the file has each part of tools/portable as it stands there
+# has_parts FILE PART..: the file has each part of tools/portable as it stands there, but for inline functions that nothing calls
 has_parts() {
     local text part
     text=$(cat "generated/$1")
     for part in "${@:2}"; do
         echo "$1: $part"
-        [[ $text == *"$(cat "tools/portable/$part")"* ]]
+        [[ $text == *"$(awk 'NR == FNR { has[$0]; next }
+            /^INLINE / && !($0 in has) { drops = !/}$/; next }
+            drops { drops = !/^}/; next }
+            1' "generated/$1" "tools/portable/$part" | cat -s)"* ]]
     done
 }
 @test "what is by hand in each file is what stands in tools/portable" {
@@ -89,6 +92,27 @@ by_hand() {
     needs tcc
     tcc -DTIMERS_NO_DESK -Iinclude -o "$work/heap" tests/c/heap.c
     "$work/heap"
+}
+# of_files COMPILER..: the test of the program's calls of files, in a folder of its own
+of_files() {
+    needs "$1"
+    "$@" -o "$work/files" tests/c/files.c
+    rm -rf "$work/of_files"
+    mkdir "$work/of_files"
+    "$work/files" "$(cd "$work/of_files" && pwd -P)"
+}
+@test "the program's calls of files are those of the system" {
+    of_files gcc -std=c99 -O2 -Wall -Wextra -Werror -pedantic
+    of_files gcc -O1 -g1 -fsanitize=address,undefined -fno-sanitize-recover=all
+}
+@test "and by clang, tcc and musl" {
+    of_files clang -std=c99 -Wall -Wextra -Werror -pedantic
+    of_files tcc
+    of_files musl-gcc -static -std=c99 -O1 -Wall -Wextra -Werror -pedantic
+}
+@test "and where pointers, or lengths of files too, have 32 bits" {
+    of_files i686-linux-gnu-gcc -static -std=c99 -O1 -Wall -Wextra -Werror -pedantic
+    of_files i686-linux-gnu-gcc -static -O1 -D_FILE_OFFSET_BITS=32
 }
 
 # exports CC FLAGS COUNT: the shared object needs its flag; without it none of its functions is exported
@@ -377,16 +401,6 @@ is_made_anew() {
         touch "${page#*:}"
         is_made_anew "tools/install/${page%:*}" make pages
     done
-}
-@test "CMake builds anew if its code or a header has changed" {
-    needs cmake
-    by_cmake() { { [ -e build/cmake ] || cmake -S . -B build/cmake; } && cmake --build build/cmake; }
-    builds_anew build/cmake/libtimers.a "$sources" by_cmake
-}
-@test "so does Meson" {
-    needs meson ninja
-    by_meson() { { [ -e build/meson ] || meson setup build/meson; } && ninja -C build/meson; }
-    builds_anew build/meson/libtimers.a "$sources" by_meson
 }
 @test "two builds, in folders of their own, have the same bytes" {
     for folder in one another/one; do

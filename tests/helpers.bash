@@ -43,7 +43,7 @@ copy_tree() {
 }
 
 # What follows builds with $CC or $CXX over $library, files or an archive, into the folder $work.
-of_c="-std=c11 -O2 -g -Wall -Wextra -Werror -pedantic -Iinclude"
+of_c="-std=c11 -O2 -g1 -Wall -Wextra -Werror -pedantic -Iinclude"
 of_cpp="-std=c++17 -O1 -Wall -Wextra -Werror -pedantic -Iinclude"
 wraps=-Wl,--wrap=malloc,--wrap=realloc
 wrap=$wraps,--wrap=free
@@ -163,7 +163,7 @@ notices() {
 }
 
 # Programs of examples/c that print what stands in their files.
-printing="first messages expired counts porting record desk_server desk_sockets"
+printing="first expired porting record desk_server desk_sockets"
 
 # The most clients of a desk.
 most_clients() { sed -nE 's/^#define TIMERS_DESK_CLIENTS ([0-9]+).*/\1/p' include/timers_desk.h; }

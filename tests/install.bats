@@ -47,7 +47,7 @@ link lib/libtimers.so libtimers.so.${version%%.*}
 644 share/timers/c/timers.h include/timers.h
 644 share/timers/c/timers_desk.h include/timers_desk.h
 EOT
-    for path in CHANGELOG.md LICENSE-APACHE LICENSE-MIT docs/{embedded,embedding,formats,platforms,porting,server,versions,walkthroughs,wheels}.md; do
+    for path in CHANGELOG.md LICENSE-APACHE LICENSE-MIT docs/{embedding,formats,journal,platforms,porting,server,versions,walkthroughs,wheels}.md; do
         echo "644 share/doc/timers/$path $path"
     done
     for path in include/*.h; do

@@ -206,6 +206,10 @@ clock_row() {
     refused serve --timers 1
     refused serve --keep-going --slots 0
     refused serve --keep-going=1
+    refused serve --state
+    refused serve --state saved --first-tick 0
+    refused play --state saved
+    refused show --state saved
     refused serve x
     refused play --keep-going
     refused show --keep-going
@@ -252,7 +256,7 @@ clock_row() {
     gives 0 "play --slots={MAX_SLOTS} --clients={MAX_CLIENTS} --capacity={MAX_PENDING} --first-tick={LAST}" \
         'start {MAX_CLIENTS-1} 1 1 0\n' 'refused {MAX_CLIENTS-1} 1 {TooLate}\nend {LAST} 0\n'
     gives 0 "serve --wakeups" 'start 0 1 11 7\ntick 11\n' \
-        'started 0 1 1 11\nwakeup 11\nexpired 11 0 1 7\nwakeup never\nend 11 0\n'
+        'started 0 1 1 11\nexpired 11 0 1 7\nwakeup never\nend 11 0\n'
     gives 0 "show --moves" 'start 0 1 65 7\ntick 65\n' "$(printf %s 'started 0 1 1 65\n  now 0\n  wheel 1 slot 1: 1\n' \
         '  moved at 64 from wheel 1 slot 1 to wheel 0 slot 1: 1\nexpired 65 0 1 7\n  now 65\nend 65 0\n')"
 }
@@ -260,8 +264,8 @@ clock_row() {
 @test "each option is used beside all others of its subcommand" {
     local script='start 2 1 9 4\nbad\nstart 3 1 9 4\nstart 0 1 2 5\nstart 1 1 3 6\ntick 9\n'
     gives "{SKIPPED}" "serve --keep-going --wakeups --scheme hashed --slots 8 --clients 3 --capacity 2 --first-tick 7" "$script" \
-        "$(printf %s 'started 2 1 1 16\nwakeup 8\nrefused 3 1 {NoClient}\nwakeup 8\nstarted 0 1 2 9\nwakeup 8\n' \
-        'refused 1 1 {Full}\nwakeup 8\nexpired 9 0 2 5\nexpired 16 2 1 4\nwakeup never\nend 16 0\n')" \
+        "$(printf %s 'started 2 1 1 16\nrefused 3 1 {NoClient}\nstarted 0 1 2 9\n' \
+        'refused 1 1 {Full}\nexpired 9 0 2 5\nexpired 16 2 1 4\nwakeup never\nend 16 0\n')" \
         "bad line 2, column 1: {UnknownWord}\n"
     # Bucket 1 of 8 comes round at tick 1, and bucket 9 of 16 only at the deadline.
     for slots in 8 16; do
@@ -493,7 +497,7 @@ shown() { gives 0 "show $1" "$2" "$(printf '%s\\n' "${@:3}")"; }
     gives "{SKIPPED}" "serve --keep-going" 'close\ntick 0\nclose\n' \
         'closed 0\nclose refused {Closed}\nend 0 0\n' "bad line 2, column 6: $reason\n"
     gives "{SKIPPED}" "serve --wakeups --keep-going" 'close\ntick 0\nclose\n' \
-        'closed 0\nwakeup never\nclose refused {Closed}\nwakeup never\nend 0 0\n' "bad line 2, column 6: $reason\n"
+        'closed 0\nclose refused {Closed}\nwakeup never\nend 0 0\n' "bad line 2, column 6: $reason\n"
     gives "{BAD}" "check" 'close\ntick 0\nclose\n' "line 2, column 6: $reason\n"
 }
 
@@ -503,7 +507,7 @@ shown() { gives 0 "show $1" "$2" "$(printf '%s\\n' "${@:3}")"; }
         gives 0 "serve --scheme $scheme" "$lines" 'started 0 1 1 65\nrestarted 0 2 1 2 66\nexpired 66 0 2 8\nend 66 0\n'
     done
     gives 0 "serve --wakeups" 'start-at 0 1 11 7\nat 11\nat 11\n' \
-        'started 0 1 1 11\nwakeup 11\nexpired 11 0 1 7\nwakeup never\nwakeup never\nend 11 0\n'
+        'started 0 1 1 11\nexpired 11 0 1 7\nwakeup never\nend 11 0\n'
     gives 0 "show --moves" 'start-at 0 1 65 7\nat 65\nat 65\n' "$(printf %s 'started 0 1 1 65\n  now 0\n  wheel 1 slot 1: 1\n' \
         '  moved at 64 from wheel 1 slot 1 to wheel 0 slot 1: 1\nexpired 65 0 1 7\n  now 65\n  now 65\nend 65 0\n')"
     gives "{FAILED}" "play" "$lines" '' 'bad line 1\n'
@@ -533,7 +537,7 @@ over() {
         "trace --slots=8" "-- trace" ./play "play play" "serve trace" "serve --keep-going trace" "show --from 4 trace"; do
         over 0 "$call" "$text"
     done
-    over 0 "serve --wakeups trace" 'started 0 1 1 3\nwakeup 3\nexpired 3 0 1 7\nwakeup never\nend 3 0\n'
+    over 0 "serve --wakeups trace" 'started 0 1 1 3\nexpired 3 0 1 7\nwakeup never\nend 3 0\n'
     over 0 "check trace" ''
     over 0 "--first-tick 2 trace" 'started 0 1 1 5\nexpired 5 0 1 7\nend 5 0\n'
     : > empty
@@ -616,6 +620,48 @@ over() {
     done
 }
 
+@test "a stream goes on from the state of another as one stream would, with each scheme" {
+    local script scheme lines
+    for script in "$EXAMPLES"/*.stdout; do
+        script=${script%.stdout}
+        lines=$(($(wc -l < "$script") / 2))
+        for scheme in $schemes "hashed --slots 1"; do
+            "$TIMERS" serve --scheme $scheme "$script" > wanted
+            { head -n "$lines" "$script" && echo state; } | "$TIMERS" serve --scheme $scheme > front
+            grep -E '^(state|number|timer) ' front > saved
+            tail -n +$((lines + 1)) "$script" | "$TIMERS" serve --scheme $scheme --state saved > back
+            grep -vE '^(state|number|timer|end) ' front | cat - back | cmp - wanted || { echo "$script $scheme" && return 1; }
+        done
+    done
+}
+
+@test "a state that is wrong or does not fit is refused by its line, before the input is read" {
+    local call
+    wrong() {
+        printf '%b' "$1" > saved
+        for call in "" "--keep-going " "--wakeups --scheme plain "; do
+            over "{REFUSED}" "serve $call--clients 2 --capacity 1 --state saved" '' "timers: saved$2\n"
+        done
+    }
+    wrong '' ': the last line is missing'
+    wrong 'state open 0 0\n' ': the last line is missing'
+    wrong 'state open 0 0\nstate end 0' ':2: no line of a state'
+    wrong 'state open 0 00\nstate end 0\n' ':1: no line of a state'
+    wrong 'close\n' ':1: no line of a state'
+    wrong 'state end 0\n' ':1: the line is out of place'
+    wrong 'state open 0 0\nstate end 0\nstate end 0\n' ':3: the line is out of place'
+    wrong 'state open 0 0\nnumber 0 0\nnumber 1 0\nnumber 2 0\nstate end 0\n' ':4: there are more clients than the facility has'
+    wrong 'state open 0 2\nnumber 0 2\ntimer 1 0 1 5 7\ntimer 2 0 2 5 7\nstate end 2\n' ':4: there are more timers than the facility may hold'
+    wrong 'state open 5 1\nnumber 0 1\ntimer 1 0 1 5 7\nstate end 1\n' ':3: the deadline is not after the present tick'
+    printf 'state open 8640000 0\nstate end 0\n' > saved
+    over "{REFUSED}" "serve --scheme clock --state saved" '' 'timers: saved:1: the tick is after the last one of the clock\n'
+    over "{REFUSED}" "serve --state nowhere" '' 'timers: nowhere: No such file or directory\n'
+    over "{REFUSED}" "serve --state ." '' 'timers: .: Is a directory\n'
+    printf 'state open 3 0\nstate end 0\n' > saved
+    over "{REFUSED}" "serve --state saved nowhere" '' 'timers: nowhere: No such file or directory\n'
+    gives 0 "serve --state=saved --clients 1" '' 'end 3 0\n'
+}
+
 @test "at a terminal the program says what it waits for, before it reads" {
     command -v python3 > /dev/null || skip "no python3"
     for call in "" play serve check; do
@@ -668,22 +714,6 @@ help_of() {
             help_of $verb --help $words && cmp output wanted
         done
     done
-}
-
-# The statuses of docs/formats.md, in the order of each help.
-@test "each help gives the exit statuses to what they are for" {
-    statuses() {
-        # shellcheck disable=SC2086  # words
-        help_of $1 --help
-        tr '\n' ' ' < output | grep -qE "exit status is $(put_names <<< "$2")" || { echo "timers $1 --help: not $2"; return 1; }
-    }
-    statuses "" '{DONE} if it was\. It is {FAILED} after an error, [^.]*, and {REFUSED} if the arguments are refused, or FILE'
-    statuses serve '{DONE} if the input came to its end [^.]*\. It is {FAILED} after an error, [^.]*\. It is {REFUSED} if the arguments'
-    statuses serve '{SKIPPED} at the end\.'
-    statuses threads '{DONE} if each client finished\. It is {FAILED} after an error, [^.]*\. It is {REFUSED} if the arguments'
-    statuses check "$(printf %s '{DONE} if no line is bad, [^.]*\. It is {BAD} if a line is bad\. ' \
-        'It is {FAILED} after an error before [^.]*, and {CHECK_FAILED} after any other error, [^.]*\. ' \
-        'It is {REFUSED} if the arguments are refused\.')"
 }
 
 @test "each help of a subcommand says how it is called" {

@@ -5,7 +5,7 @@ small="-std=c11 -Wall -Wextra -Werror -pedantic -DTIMERS_NO_MALLOC -DTIMERS_NO_D
 m4="arm-none-eabi-gcc -mcpu=cortex-m4 -mthumb --specs=rdimon.specs -T tests/c/mps2.ld"
 needs_m4() { needs arm-none-eabi-gcc qemu-system-arm; }
 # on_m4 PROGRAM WORD..: runs it
-on_m4() { timeout 60 qemu-system-arm -M mps2-an386 -cpu cortex-m4 -nographic -semihosting $counting -kernel "$1" -append "${*:2}"; }
+on_m4() { timeout 600 qemu-system-arm -M mps2-an386 -cpu cortex-m4 -nographic -semihosting $counting -kernel "$1" -append "${*:2}"; }
 
 # rows HEADING: those of the page's table below the heading, with a space between two cells, and without commas
 rows() { sed -n "/^## $1\$/,/^## /p" "$page" | sed -nE 's/^\| (.*) \|$/\1/p' | tr -d '`,' | sed 's/ | / /g'; }

@@ -11,6 +11,7 @@
 #include <vector>
 
 #include <timers.hpp>
+#include "check.h"
 
 using namespace std::chrono_literals;
 using Timers = timing::timers<std::chrono::milliseconds, const int *>;
@@ -19,14 +20,6 @@ using moment = Timers::time_point;
 
 /* The time point of a tick. */
 static constexpr moment at(std::uint64_t tick) { return moment(ticks(static_cast<std::int64_t>(tick))); }
-
-#define HOLDS(fact) \
-	do { \
-		if (!(fact)) { \
-			std::cerr << __FILE__ << ":" << __LINE__ << ": not so: " #fact "\n"; \
-			std::exit(1); \
-		} \
-	} while (false)
 
 static bool refusing;
 static long blocks;     /* that were allocated and not freed */
@@ -63,7 +56,7 @@ static enum timers_status refusal(Call call)
 	try {
 		call();
 	} catch (const timing::error &error) {
-		HOLDS(std::strcmp(error.what(), timers_message(error.status())) == 0);
+		CHECK(std::strcmp(error.what(), timers_message(error.status())) == 0);
 		return error.status();
 	}
 	return TIMERS_OK;
@@ -83,78 +76,78 @@ static std::optional<typename Of::time_point> first_of(const Of &timers)
 static void round_intervals()
 {
 	using frames = timing::timers<std::chrono::duration<int, std::ratio<1, 60>>>;
-	HOLDS(Timers::in_ticks(2s).count() == 2000);
-	HOLDS(Timers::in_ticks(1001us).count() == 2 && Timers::in_ticks(1000us).count() == 1);
-	HOLDS(frames::in_ticks(1s).count() == 60);
-	HOLDS(frames::in_ticks(17ms).count() == 2 && frames::in_ticks(16ms).count() == 1);
-	HOLDS(Timers::in_ticks(-1h).count() == 0 && Timers::in_ticks(0s).count() == 0);
-	HOLDS(Timers::in_ticks(1ns).count() == 1);
-	HOLDS(Timers::at_least(5ms).count() == 6 && Timers::at_least(4999us).count() == 6);
-	HOLDS(Timers::in_ticks(std::chrono::hours::max()) == ticks::max());
-	HOLDS(Timers::at_least(std::chrono::hours::max()) == ticks::max());
+	CHECK(Timers::in_ticks(2s).count() == 2000);
+	CHECK(Timers::in_ticks(1001us).count() == 2 && Timers::in_ticks(1000us).count() == 1);
+	CHECK(frames::in_ticks(1s).count() == 60);
+	CHECK(frames::in_ticks(17ms).count() == 2 && frames::in_ticks(16ms).count() == 1);
+	CHECK(Timers::in_ticks(-1h).count() == 0 && Timers::in_ticks(0s).count() == 0);
+	CHECK(Timers::in_ticks(1ns).count() == 1);
+	CHECK(Timers::at_least(5ms).count() == 6 && Timers::at_least(4999us).count() == 6);
+	CHECK(Timers::in_ticks(std::chrono::hours::max()) == ticks::max());
+	CHECK(Timers::at_least(std::chrono::hours::max()) == ticks::max());
 	/* 2^63 - 1 microseconds are 9223372036854775.807 milliseconds, or 553402322211286.5.. frames */
-	HOLDS(Timers::in_ticks(std::chrono::microseconds::max()).count() == 9223372036854776);
-	HOLDS(frames::in_ticks(std::chrono::microseconds::max()).count() == 553402322211287);
+	CHECK(Timers::in_ticks(std::chrono::microseconds::max()).count() == 9223372036854776);
+	CHECK(frames::in_ticks(std::chrono::microseconds::max()).count() == 553402322211287);
 	/* times of 1.5 milliseconds: one of 2^63 - 2 ticks, and three that need more than 2^63 - 1 */
 	using longer = std::chrono::duration<std::uint64_t, std::ratio<3, 2000>>;
-	HOLDS(Timers::in_ticks(longer(6148914691236517204u)).count() == 9223372036854775806);
-	HOLDS(Timers::in_ticks(longer(6148914691236517205u)) == ticks::max());
-	HOLDS(Timers::in_ticks(longer(6148914691236517206u)) == ticks::max());
-	HOLDS(Timers::in_ticks(longer(12297829382473034411u)) == ticks::max());
+	CHECK(Timers::in_ticks(longer(6148914691236517204u)).count() == 9223372036854775806);
+	CHECK(Timers::in_ticks(longer(6148914691236517205u)) == ticks::max());
+	CHECK(Timers::in_ticks(longer(6148914691236517206u)) == ticks::max());
+	CHECK(Timers::in_ticks(longer(12297829382473034411u)) == ticks::max());
 }
 
 static void meet_the_edges()
 {
 	const int number = 3;
 	Timers timers(TIMERS_SMALL, at(16777206));
-	HOLDS(refusal([&] { timers.start(0s, &number); }) == TIMERS_ZERO_INTERVAL);
-	HOLDS(refusal([&] { timers.start(-1s, &number); }) == TIMERS_ZERO_INTERVAL);
-	HOLDS(refusal([&] { timers.start(10ms, &number); }) == TIMERS_TOO_LATE);
-	HOLDS(refusal([&] { Timers(TIMERS_SMALL, at(16777216)); }) == TIMERS_TOO_LATE);
-	HOLDS(!timers.stop(timing::handle()) && !timers.look(timing::handle()) && !timers.wakeup());
+	CHECK(refusal([&] { timers.start(0s, &number); }) == TIMERS_ZERO_INTERVAL);
+	CHECK(refusal([&] { timers.start(-1s, &number); }) == TIMERS_ZERO_INTERVAL);
+	CHECK(refusal([&] { timers.start(10ms, &number); }) == TIMERS_TOO_LATE);
+	CHECK(refusal([&] { Timers(TIMERS_SMALL, at(16777216)); }) == TIMERS_TOO_LATE);
+	CHECK(!timers.stop(timing::handle()) && !timers.look(timing::handle()) && !timers.wakeup());
 
 	/* What is due at once goes to the back: the first is restarted, so that the second comes out before it. */
 	timing::handle once = timers.start_at(timers.now(), nullptr);
 	const timing::handle before = timers.start_at(at(3), &number);
-	HOLDS(timers.restart_at(once, at(0), nullptr));
-	HOLDS(timers.has_due() && timers.size() == 0 && timers.wakeup() == timers.now());
+	CHECK(timers.restart_at(once, at(0), nullptr));
+	CHECK(timers.has_due() && timers.size() == 0 && timers.wakeup() == timers.now());
 	Timers at_zero;
 	at_zero.start_at(at(0), nullptr);
-	HOLDS(at_zero.wakeup() == at(0));
-	HOLDS(timers.look(before)->deadline == timers.now() && timers.expire()->serial == before.serial());
-	HOLDS(timers.expire()->serial == once.serial() && !timers.has_due());
+	CHECK(at_zero.wakeup() == at(0));
+	CHECK(timers.look(before)->deadline == timers.now() && timers.expire()->serial == before.serial());
+	CHECK(timers.expire()->serial == once.serial() && !timers.has_due());
 
 	timing::handle first = timers.start(3ms, &number), second = timers.start(3ms, nullptr);
-	HOLDS(timers.advance(100ms) == 3ms && timers.has_due() && refusal([&] { timers.tick(); }) == TIMERS_DUE);
-	HOLDS(timers.stop(first) == &number && !timers.stop(first));          /* expired, and not yet taken */
-	HOLDS(refusal([&] { (void)timers.restart(second, 0ms, nullptr); }) == TIMERS_ZERO_INTERVAL);
-	HOLDS(refusal([&] { (void)timers.restart(second, 10ms, nullptr); }) == TIMERS_TOO_LATE);
-	HOLDS(refusal([&] { (void)timers.restart_at(second, at(16777216), nullptr); }) == TIMERS_TOO_LATE);
-	HOLDS(timers.look(second));
+	CHECK(timers.advance(100ms) == 3ms && timers.has_due() && refusal([&] { timers.tick(); }) == TIMERS_DUE);
+	CHECK(timers.stop(first) == &number && !timers.stop(first));          /* expired, and not yet taken */
+	CHECK(refusal([&] { (void)timers.restart(second, 0ms, nullptr); }) == TIMERS_ZERO_INTERVAL);
+	CHECK(refusal([&] { (void)timers.restart(second, 10ms, nullptr); }) == TIMERS_TOO_LATE);
+	CHECK(refusal([&] { (void)timers.restart_at(second, at(16777216), nullptr); }) == TIMERS_TOO_LATE);
+	CHECK(timers.look(second));
 	const auto taken = timers.expire();
-	HOLDS(taken && taken->serial == second.serial() && !taken->action && !timers.expire());
+	CHECK(taken && taken->serial == second.serial() && !taken->action && !timers.expire());
 
 	first = timers.start(2ms, &number);
 	Timers moved = std::move(timers);
-	HOLDS(moved.size() == 1 && timers.size() == 0 && !timers.stop(first));
-	HOLDS(refusal([&] { timers.start(1ms, &number); }) == TIMERS_NOT_OPEN);
-	HOLDS(refusal([&] { timers.counts(); }) == TIMERS_NOT_OPEN);
-	HOLDS(refusal([&] { timers.catch_up(at(9), [](const auto &) {}); }) == TIMERS_NOT_OPEN);
-	HOLDS(refusal([&] { timers.advance_to(at(9)); }) == TIMERS_NOT_OPEN && !timers.take(at(9)));
-	HOLDS(refusal([&] { timers.set_at(first, at(9), &number); }) == TIMERS_NOT_OPEN);
+	CHECK(moved.size() == 1 && timers.size() == 0 && !timers.stop(first));
+	CHECK(refusal([&] { timers.start(1ms, &number); }) == TIMERS_NOT_OPEN);
+	CHECK(refusal([&] { timers.counts(); }) == TIMERS_NOT_OPEN);
+	CHECK(refusal([&] { timers.catch_up(at(9), [](const auto &) {}); }) == TIMERS_NOT_OPEN);
+	CHECK(refusal([&] { timers.advance_to(at(9)); }) == TIMERS_NOT_OPEN && !timers.take(at(9)));
+	CHECK(refusal([&] { timers.set_at(first, at(9), &number); }) == TIMERS_NOT_OPEN);
 	timers.clear();
 	timers = std::move(moved);
 	Timers &same = timers;
 	timers = std::move(same);
-	HOLDS(timers.stop(first) == &number);
+	CHECK(timers.stop(first) == &number);
 	timers.catch_up(at(16777215), [](const auto &) {});
-	HOLDS(timers.now() == at(16777215) && refusal([&] { timers.tick(); }) == TIMERS_CLOCK_END);
-	HOLDS(timers.advance(ticks(0)) == ticks(0));
-	HOLDS(refusal([&] { timers.advance_to(at(16777216)); }) == TIMERS_CLOCK_END);
+	CHECK(timers.now() == at(16777215) && refusal([&] { timers.tick(); }) == TIMERS_CLOCK_END);
+	CHECK(timers.advance(ticks(0)) == ticks(0));
+	CHECK(refusal([&] { timers.advance_to(at(16777216)); }) == TIMERS_CLOCK_END);
 	timers.advance_to(timers.now());
-	HOLDS(!timers.take(moment::max()));
-	HOLDS(refusal([&] { timers.start_at(timers.now(), &number); }) == TIMERS_TOO_LATE);
-	HOLDS(refusal([&] { timers.start_at(at(0), &number); }) == TIMERS_TOO_LATE);
+	CHECK(!timers.take(moment::max()));
+	CHECK(refusal([&] { timers.start_at(timers.now(), &number); }) == TIMERS_TOO_LATE);
+	CHECK(refusal([&] { timers.start_at(at(0), &number); }) == TIMERS_TOO_LATE);
 
 	/* A lambda with one pointer is an action. */
 	int runs = 0;
@@ -163,7 +156,7 @@ static void meet_the_edges()
 	counters.start(1min, count);
 	counters.start(59s, count);
 	counters.catch_up(counters.at(1min), [](const auto &timer) { timer.action(); });
-	HOLDS(runs == 2);
+	CHECK(runs == 2);
 	std::cout << "the edges are as the header says\n";
 }
 
@@ -178,36 +171,36 @@ static void catch_up_with_other_times()
 	timers.catch_up(at(999), run);
 	timers.catch_up(at(0), run);
 	timers.advance_to(at(3));
-	HOLDS(timers.now() == at(1000) && timers.size() == 1);
+	CHECK(timers.now() == at(1000) && timers.size() == 1);
 	timers.start_at(at(0), nullptr);
 	timers.catch_up(at(999), run);
-	HOLDS(ran == 0 && timers.has_due());
-	HOLDS(refusal([&] { timers.catch_up(at(16777216), run); }) == TIMERS_TOO_LATE);
-	HOLDS(refusal([&] { timers.catch_up(moment::max(), run); }) == TIMERS_TOO_LATE);
-	HOLDS(ran == 0 && timers.has_due() && timers.now() == at(1000) && timers.size() == 1);
+	CHECK(ran == 0 && timers.has_due());
+	CHECK(refusal([&] { timers.catch_up(at(16777216), run); }) == TIMERS_TOO_LATE);
+	CHECK(refusal([&] { timers.catch_up(moment::max(), run); }) == TIMERS_TOO_LATE);
+	CHECK(ran == 0 && timers.has_due() && timers.now() == at(1000) && timers.size() == 1);
 	timers.catch_up(at(1000), run);
-	HOLDS(ran == 1 && !timers.has_due() && timers.now() == at(1000));
+	CHECK(ran == 1 && !timers.has_due() && timers.now() == at(1000));
 	timers.catch_up(at(16777215), run);
-	HOLDS(ran == 2 && timers.now() == at(16777215));
+	CHECK(ran == 2 && timers.now() == at(16777215));
 	Timers wide;
-	HOLDS(refusal([&] { wide.catch_up(at(TIMERS_LAST + 1), run); }) == TIMERS_TOO_LATE && wide.now() == at(0));
+	CHECK(refusal([&] { wide.catch_up(at(TIMERS_LAST + 1), run); }) == TIMERS_TOO_LATE && wide.now() == at(0));
 	Timers moved(TIMERS_SMALL);
 	moved = std::move(wide);
 	moved.catch_up(at(TIMERS_LAST), run);
-	HOLDS(moved.now() == at(TIMERS_LAST));
+	CHECK(moved.now() == at(TIMERS_LAST));
 	Timers clock(TIMERS_SMALL), by_move(std::move(clock));
-	HOLDS(refusal([&] { by_move.catch_up(at(16777216), run); }) == TIMERS_TOO_LATE && by_move.now() == at(0));
+	CHECK(refusal([&] { by_move.catch_up(at(16777216), run); }) == TIMERS_TOO_LATE && by_move.now() == at(0));
 }
 
 /* Handles are those of one timer if place and serial are. */
 static void compare_handles()
 {
 	const timing::handle one(timers_handle{ 1, 7 }), later(timers_handle{ 1, 8 }), beside(timers_handle{ 2, 7 });
-	HOLDS(one == timing::handle(one.raw()) && !(one != timing::handle(one.raw())));
-	HOLDS(one != later && one != beside && later != beside);
-	HOLDS(!(one == later) && !(one == beside) && !(later == beside));
+	CHECK(one == timing::handle(one.raw()) && !(one != timing::handle(one.raw())));
+	CHECK(one != later && one != beside && later != beside);
+	CHECK(!(one == later) && !(one == beside) && !(later == beside));
 	std::unordered_set<timing::handle> set{ one, later };
-	HOLDS(set.count(timing::handle(one.raw())) == 1 && set.count(beside) == 0 && set.insert(beside).second && set.size() == 3);
+	CHECK(set.count(timing::handle(one.raw())) == 1 && set.count(beside) == 0 && set.insert(beside).second && set.size() == 3);
 }
 
 /* A clock of nanoseconds, which may be before its epoch. */
@@ -225,34 +218,34 @@ static void follow_a_real_clock()
 	using timers_of = timing::timers<std::chrono::milliseconds, int, fine_clock>;
 	const auto time = [](std::int64_t ns) { return fine_clock::time_point(std::chrono::nanoseconds(ns)); };
 	timers_of timers(TIMERS_WIDE, time(5999999));
-	HOLDS(timers.now() == time(5000000));
+	CHECK(timers.now() == time(5000000));
 	timers.start_at(time(7000001), 1);
 	timers.start_at(time(7000000), 2);
-	HOLDS(*first_of(timers) == time(7000000));
-	HOLDS(!timers.take(time(6999999)) && timers.now() == time(6000000));
+	CHECK(*first_of(timers) == time(7000000));
+	CHECK(!timers.take(time(6999999)) && timers.now() == time(6000000));
 	const auto second = timers.take(time(7000000));
-	HOLDS(second && second->action == 2 && second->deadline == time(7000000));
-	HOLDS(!timers.take(time(7000001)) && !timers.take(time(7999999)));
+	CHECK(second && second->action == 2 && second->deadline == time(7000000));
+	CHECK(!timers.take(time(7000001)) && !timers.take(time(7999999)));
 	unsigned ran = 0;
 	timers.catch_up(time(8000000), [&](const auto &timer) { ran += timer.action == 1 && timer.deadline == time(8000000); });
-	HOLDS(ran == 1);
+	CHECK(ran == 1);
 	timing::handle passed = timers.start_at(time(-3), 3);            /* before the epoch: due at once */
-	HOLDS(timers.has_due() && timers.look(passed)->deadline == timers.now());
-	HOLDS(timers.restart_at(passed, time(9000001), 3) && *first_of(timers) == time(10000000));
+	CHECK(timers.has_due() && timers.look(passed)->deadline == timers.now());
+	CHECK(timers.restart_at(passed, time(9000001), 3) && *first_of(timers) == time(10000000));
 	timers.set_at(passed, time(8000001), 3);
-	HOLDS(*first_of(timers) == time(9000000));
+	CHECK(*first_of(timers) == time(9000000));
 	timers.advance_to(time(-1));
-	HOLDS(timers.now() == time(8000000));
-	HOLDS(*first_of(timers) - time(8999999) == std::chrono::nanoseconds(1));
-	HOLDS(*first_of(timers) - time(9000001) == std::chrono::nanoseconds(-1));
-	HOLDS(timers.advance(-1ms) == 0ms && timers.now() == time(8000000));
+	CHECK(timers.now() == time(8000000));
+	CHECK(*first_of(timers) - time(8999999) == std::chrono::nanoseconds(1));
+	CHECK(*first_of(timers) - time(9000001) == std::chrono::nanoseconds(-1));
+	CHECK(timers.advance(-1ms) == 0ms && timers.now() == time(8000000));
 
 	timing::timers<std::chrono::milliseconds, int, std::chrono::steady_clock> steady;
 	const auto begun = std::chrono::steady_clock::now();
 	steady.start_at(begun + 2ms, 1);
 	while (!steady.take(std::chrono::steady_clock::now()))
 		;
-	HOLDS(std::chrono::steady_clock::now() >= begun + 2ms);
+	CHECK(std::chrono::steady_clock::now() >= begun + 2ms);
 }
 
 /* A timer is stopped when its object goes, and by nothing before. */
@@ -265,47 +258,36 @@ static void stop_by_scope()
 	static_assert(std::is_nothrow_move_constructible_v<timer> && std::is_nothrow_move_assignable_v<timer>);
 	{
 		timer idle(timers), never(timers);
-		HOLDS(!idle.look() && !idle.stop());
+		CHECK(!idle.look() && !idle.stop());
 		idle.start(5ms, &number);
 		idle.start(7ms, nullptr);                             /* the same one, anew */
-		HOLDS(timers.size() == 1 && idle.look()->deadline == at(7) && !idle.look()->action);
+		CHECK(timers.size() == 1 && idle.look()->deadline == at(7) && !idle.look()->action);
 		idle.start_at(at(9), &number);
-		HOLDS(timers.size() == 1 && first_of(timers) == at(9));
+		CHECK(timers.size() == 1 && first_of(timers) == at(9));
 		timer moved(std::move(idle));
-		HOLDS(timers.size() == 1 && !idle.look() && moved.look() && idle.stop() == std::nullopt);
+		CHECK(timers.size() == 1 && !idle.look() && moved.look() && idle.stop() == std::nullopt);
 		idle.start(2ms, nullptr);
 		idle = std::move(moved);                              /* which stops what it had */
-		HOLDS(timers.size() == 1 && first_of(timers) == at(9) && !moved.look());
+		CHECK(timers.size() == 1 && first_of(timers) == at(9) && !moved.look());
 		timer &same = idle;
 		idle = std::move(same);
-		HOLDS(timers.size() == 1 && idle.look());
-		HOLDS(idle.stop() == &number && timers.size() == 0);
+		CHECK(timers.size() == 1 && idle.look());
+		CHECK(idle.stop() == &number && timers.size() == 0);
 		idle.start(1ms, &number);
 		never.start(2ms, nullptr);
-		HOLDS(timers.size() == 2);
-		HOLDS(timers.take(at(1))->action == &number && !idle.look());     /* taken, so there is nothing to stop */
+		CHECK(timers.size() == 2);
+		CHECK(timers.take(at(1))->action == &number && !idle.look());     /* taken, so there is nothing to stop */
 		timers.start(3ms, nullptr);                                     /* perhaps at its place */
 	}
-	HOLDS(timers.size() == 1 && first_of(timers) == at(4));
+	CHECK(timers.size() == 1 && first_of(timers) == at(4));
 
 	Timers others;                                            /* a move takes the owner along */
 	timer here(timers), there(others);
 	there.start(6ms, &number);
 	here = std::move(there);
-	HOLDS(here.look() && here.look()->deadline == at(6));
+	CHECK(here.look() && here.look()->deadline == at(6));
 	here.start(8ms, nullptr);
-	HOLDS(others.size() == 1 && first_of(others) == at(8) && timers.size() == 1 && here.stop() && others.size() == 0);
-}
-
-/* All timers of a tick are taken in one call, however many there are, in the order of their starts. */
-static void take_many()
-{
-	Timers timers;
-	for (int i = 0; i < 1000; i++)
-		timers.start(5ms, nullptr);
-	std::uint64_t last = 0;
-	timers.catch_up(at(5), [&last](const Timers::expired &timer) { HOLDS(timer.serial == ++last); });
-	HOLDS(last == 1000 && !timers.has_due() && timers.size() == 0);
+	CHECK(others.size() == 1 && first_of(others) == at(8) && timers.size() == 1 && here.stop() && others.size() == 0);
 }
 
 /* The work of one timer stops another of its tick, which is not handed out then, and starts one that is due at once. */
@@ -318,11 +300,11 @@ static void stop_what_expired()
 	timers.catch_up(at(9), [&](const Timers::expired &timer) {
 		ran.push_back(timer.serial);
 		if (ran.size() == 1) {
-			HOLDS(timers.stop(second));
+			CHECK(timers.stop(second));
 			timers.start_at(at(0), nullptr);
 		}
 	});
-	HOLDS((ran == std::vector<std::uint64_t>{ 1, 3 }) && timers.now() == at(9));
+	CHECK((ran == std::vector<std::uint64_t>{ 1, 3 }) && timers.now() == at(9));
 }
 
 /* What `run` throws leaves catch_up. The timer is taken, and the others of its tick are not. */
@@ -333,7 +315,7 @@ static void throw_from_a_run()
 		timers.start(5ms, nullptr);
 	unsigned ran = 0, thrown = 0;
 	const auto run = [&ran](const Timers::expired &timer) {
-		HOLDS(timer.serial == ++ran);
+		CHECK(timer.serial == ++ran);
 		if (ran % 3 == 0)
 			throw ran;
 	};
@@ -342,10 +324,10 @@ static void throw_from_a_run()
 			timers.catch_up(at(9), run);
 		} catch (unsigned last) {
 			thrown++;
-			HOLDS(last == 3 * thrown && timers.now() == at(5) && timers.has_due() == (last < 100));
+			CHECK(last == 3 * thrown && timers.now() == at(5) && timers.has_due() == (last < 100));
 		}
 	}
-	HOLDS(ran == 100 && thrown == 33 && timers.now() == at(9) && !timers.has_due());
+	CHECK(ran == 100 && thrown == 33 && timers.now() == at(9) && !timers.has_due());
 }
 
 /* Leaves ones on the stack, where a call puts its action next. */
@@ -366,21 +348,21 @@ static void keep(Action action)
 	timing::handle h;
 	const auto holds_word = [&] {
 		timers_expired seen;
-		HOLDS(timers_look(timers.raw(), h.raw(), &seen) == TIMERS_OK && std::memcmp(&seen.action, word, sizeof word) == 0);
+		CHECK(timers_look(timers.raw(), h.raw(), &seen) == TIMERS_OK && std::memcmp(&seen.action, word, sizeof word) == 0);
 		const auto looked = timers.look(h);
-		HOLDS(looked && std::memcmp(&looked->action, &action, sizeof action) == 0);
+		CHECK(looked && std::memcmp(&looked->action, &action, sizeof action) == 0);
 	};
 	fill_the_stack();
 	h = timers.start(1ms, action);
 	holds_word();
 	fill_the_stack();
-	HOLDS(timers.restart(h, 2ms, action));
+	CHECK(timers.restart(h, 2ms, action));
 	holds_word();
 	fill_the_stack();
 	timers.set_at(h, at(3), action);
 	holds_word();
 	const auto taken = timers.take(at(3));
-	HOLDS(taken && std::memcmp(&taken->action, &action, sizeof action) == 0);
+	CHECK(taken && std::memcmp(&taken->action, &action, sizeof action) == 0);
 }
 
 static void keep_small_actions()
@@ -404,40 +386,29 @@ static void own_one_at_a_time()
 		Timers first;
 		first.start(5ms, nullptr);
 		const long of_one = blocks - before;
-		HOLDS(of_one > 0);
+		CHECK(of_one > 0);
 		Timers second(std::move(first));
-		HOLDS(blocks == before + of_one && second.size() == 1);
+		CHECK(blocks == before + of_one && second.size() == 1);
 		Timers third;
 		third.start(6ms, nullptr);
-		HOLDS(blocks == before + 2 * of_one);
+		CHECK(blocks == before + 2 * of_one);
 		third = std::move(second);
-		HOLDS(blocks == before + of_one && third.size() == 1 && *first_of(third) == at(5));
+		CHECK(blocks == before + of_one && third.size() == 1 && *first_of(third) == at(5));
 		first = std::move(third);
-		HOLDS(blocks == before + of_one && first.size() == 1);
+		CHECK(blocks == before + of_one && first.size() == 1);
 		first.clear();
-		HOLDS(blocks == before + of_one && first.size() == 0);
+		CHECK(blocks == before + of_one && first.size() == 0);
 		first = Timers();
-		HOLDS(blocks < before + of_one);
+		CHECK(blocks < before + of_one);
 	}
-	HOLDS(blocks == before);
+	CHECK(blocks == before);
 	std::vector<Timers> several;
 	for (int i = 0; i < 20; i++)          /* the vector moves those that it has */
 		several.emplace_back().start(1ms, nullptr);
 	several.erase(several.begin(), several.begin() + 7);
-	HOLDS(several.size() == 13 && several.front().size() == 1);
+	CHECK(several.size() == 13 && several.front().size() == 1);
 	several.clear();
-	HOLDS(blocks == before);
-}
-
-/* 17 is 1 * 16 + 1, so that timer moves to the lowest of the wheels of 16 slots at second 16. */
-static void count_the_moves()
-{
-	timing::timers<std::chrono::seconds> timers(TIMERS_SMALL);
-	timers.start(17s, 1);
-	timers.start(15s, 2);
-	timers.catch_up(timers.at(17s), [](const auto &) {});
-	const timers_counters counts = timers.counts();
-	HOLDS(counts.starts == 2 && counts.moves == 1);
+	CHECK(blocks == before);
 }
 
 /* Whether this call is refused for memory, while none is given out. */
@@ -470,10 +441,10 @@ static void run_out_of_memory()
 {
 	Timers timers;
 	const unsigned refused = refused_starts(timers);
-	HOLDS(refused > 0 && timers.size() == 1000 - refused);
+	CHECK(refused > 0 && timers.size() == 1000 - refused);
 	timers.start(1s, nullptr);
-	HOLDS(timers.size() == 1001 - refused);
-	HOLDS(lacks_memory([] { Timers others; }));
+	CHECK(timers.size() == 1001 - refused);
+	CHECK(lacks_memory([] { Timers others; }));
 }
 
 /* While fewer timers are held than room was made for, no start is refused memory. */
@@ -481,12 +452,12 @@ static void make_room()
 {
 	Timers timers;
 	timers.reserve(1000);
-	HOLDS(refused_starts(timers) == 0 && timers.size() == 1000);
-	HOLDS(lacks_memory([&] { timers.reserve(1000000); }) && timers.size() == 1000);
+	CHECK(refused_starts(timers) == 0 && timers.size() == 1000);
+	CHECK(lacks_memory([&] { timers.reserve(1000000); }) && timers.size() == 1000);
 	while (!timers.has_due())
 		timers.advance(ticks::max());
-	HOLDS(timers.expire());
-	HOLDS(!lacks_memory([&] { timers.start_at(timers.now(), nullptr); }));
+	CHECK(timers.expire());
+	CHECK(!lacks_memory([&] { timers.start_at(timers.now(), nullptr); }));
 }
 
 int main()
@@ -497,12 +468,10 @@ int main()
 	compare_handles();
 	follow_a_real_clock();
 	stop_by_scope();
-	take_many();
 	stop_what_expired();
 	throw_from_a_run();
 	keep_small_actions();
 	own_one_at_a_time();
-	count_the_moves();
 	run_out_of_memory();
 	make_room();
 }

@@ -22,9 +22,6 @@ static long asked, of_libc;     /* allocations; those of malloc and realloc */
 void *__real_malloc(size_t size);
 void *__real_realloc(void *block, size_t size);
 void __real_free(void *block);
-void *__wrap_malloc(size_t size);
-void *__wrap_realloc(void *block, size_t size);
-void __wrap_free(void *block);
 
 void *__wrap_malloc(size_t size)
 {

@@ -18,7 +18,6 @@ static struct timers_bell bells[CLIENTS], owners;
 static unsigned long rings, writes, most;
 
 ssize_t __real_write(int file, const void *bytes, size_t size);
-ssize_t __wrap_write(int file, const void *bytes, size_t size);
 ssize_t __wrap_write(int file, const void *bytes, size_t size)
 {
 	__atomic_fetch_add(&writes, 1, __ATOMIC_RELAXED);

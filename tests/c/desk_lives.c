@@ -22,25 +22,19 @@ struct client {
 	atomic_bool is_done;
 };
 
-static uint64_t draw(uint64_t *seed)
-{
-	*seed = *seed * 6364136223846793005u + 1442695040888963407u;
-	return *seed >> 33;
-}
-
 static uint64_t action_of(const struct client *me, uint64_t request) { return me->life << 32 | request; }
 
 static void *work(void *at)
 {
 	struct client *me = at;
-	const uint64_t wanted = draw(&me->seed) % MOST, most = draw(&me->seed) % 2 ? UINT64_MAX : draw(&me->seed) % 400;
+	const uint64_t wanted = next_below(&me->seed, MOST), most = next_below(&me->seed, 2) ? UINT64_MAX : next_below(&me->seed, 400);
 	uint64_t serial[MOST] = { 0 }, answered = 0, pending = 0, sum = 0, number, old;
 	struct timers_handle again = { 0, 0 };          /* a timer to be restarted, if its serial is not 0 */
 	struct timers_word w;
 
 	for (uint64_t step = 0; step < most && (me->sent < wanted || answered < me->sent || pending); step++) {
 		if (me->sent < wanted && me->sent - answered < LINE && pending + me->sent - answered < TIMERS) {
-			const uint64_t interval = 1 + draw(&me->seed) % 30, action = action_of(me, me->sent);
+			const uint64_t interval = 1 + next_below(&me->seed, 30), action = action_of(me, me->sent);
 			CHECK((again.serial ? timers_line_restart(&me->line, again, interval, action, &number)
 				: timers_line_start(&me->line, interval, action, &number)) == TIMERS_DESK_OK);
 			me->first = me->sent ? me->first : number;
@@ -72,7 +66,7 @@ static void *work(void *at)
 				CHECK(old < request);
 			sum -= action_of(me, old), pending--;
 		}
-		if (draw(&me->seed) % 4 == 0)
+		if (next_below(&me->seed, 4) == 0)
 			again = w.handle;
 	}
 	me->has_all = me->sent == wanted && answered == me->sent && pending == 0;
@@ -89,7 +83,7 @@ static uint64_t seed = 1, words, stopped, had_all;
 /* The next client with a number, whose line was opened. */
 static void begin(size_t c, uint64_t life)
 {
-	all[c].life = life, all[c].seed = draw(&seed), all[c].words = all[c].sent = 0;
+	all[c].life = life, all[c].seed = 1 + next_below(&seed, UINT32_MAX), all[c].words = all[c].sent = 0;
 	atomic_store(&all[c].is_done, false);
 	CHECK(pthread_create(&threads[c], NULL, work, &all[c]) == 0);
 }

@@ -4,17 +4,14 @@
  *     desk_threads CLIENTS TIMERS [mixed | deaf]
  *
  * With `mixed` about an eighth of the timers is stopped, and an eighth restarted. With `deaf` client 0 sends as much as
- * it can but reads nothing until all others are done. It stops no other, and gets all its words then. Prints how many
- * words the clients received, how many of each kind, and how long it took. At the end each client's words are ended, and
- * it has read them all. With -DREFUSE five of six allocations of the owner are
- * refused while the threads work, and no call of a client allocates. */
+ * it can but reads nothing until all others are done. It stops no other, and gets all its words then. At the end each client's
+ * words are ended, and it has read them all. With -DREFUSE five of six allocations of the owner are refused while the threads
+ * work, and no call of a client allocates. */
 #define _POSIX_C_SOURCE 200809L
-#include <inttypes.h>
 #include <pthread.h>
 #include <sched.h>
 #include <stdatomic.h>
 #include <string.h>
-#include <time.h>
 #include "timers_desk.h"
 #include "check.h"
 
@@ -50,13 +47,10 @@ struct client {
 	uint64_t *deadline, *serial;    /* of the timer that request n started */
 	uint64_t *target;               /* the request whose timer request n stops or restarts */
 	unsigned char *state;           /* 0 not answered, 1 pending, 2 gone */
-	uint64_t words, started, expired, stopped, restarted, refused, sum;
+	uint64_t started, expired, stopped, refused, sum;
 	struct timers_line *line;
 	char apart[64];
 };
-
-/* a size from the environment */
-static inline size_t size(const char *name, size_t otherwise) { return getenv(name) ? strtoul(getenv(name), NULL, 10) : otherwise; }
 
 static uint64_t interval_of(size_t c, uint64_t n) { return 1 + (n * 7 + c) % 50; }
 static uint64_t action_of(size_t c, uint64_t n) { return (uint64_t)c << 32 | n; }
@@ -109,7 +103,6 @@ static void *work(void *at)
 		}
 		while (timers_line_receive(me->line, &w)) {
 			did = true;
-			me->words++;
 			CHECK(w.number >= 1 && w.number <= sent);
 			switch (w.kind) {
 			case TIMERS_WORD_STARTED:
@@ -122,10 +115,8 @@ static void *work(void *at)
 				me->serial[w.number] = w.handle.serial;
 				me->sum += action_of(me->c, w.number);
 				me->started++;
-				if (w.kind == TIMERS_WORD_RESTARTED) {
-					me->restarted++;
+				if (w.kind == TIMERS_WORD_RESTARTED)
 					note_stop(me, w.number, w.other);
-				}
 				if (mixed && w.kind == TIMERS_WORD_STARTED && !ask && w.number % 4 == 0) {
 					ask = w.number % 8 ? 1 : 2;
 					again = w.handle;
@@ -166,13 +157,11 @@ static void *work(void *at)
 	return NULL;
 }
 
-static uint64_t turns;
-
 static void own(struct client *all, pthread_t *threads)
 {
 	struct timers_desk d = TIMERS_DESK_INIT;
 	struct timers_line lines[TIMERS_DESK_CLIENTS] = { TIMERS_LINE_INIT };
-	struct timers_desk_config config = { .size = sizeof(struct timers_desk_config), .first_tick = 0, .capacity = 1 << 20, .room = size("ROOM", 1024), .line = size("LINE", 64) };
+	struct timers_desk_config config = { .size = sizeof config, .capacity = 1 << 20, .room = 1024, .line = 64 };
 	CHECK(timers_desk_new(&d, lines, clients, &config) == TIMERS_DESK_OK);
 	for (size_t c = 0; c < clients; c++) {
 		all[c].line = &lines[c];
@@ -183,7 +172,6 @@ static void own(struct client *all, pthread_t *threads)
 		bool busy = timers_desk_serve_all(&d, 64) == TIMERS_DESK_OK;
 		busy |= timers_desk_flush_all(&d);
 		CHECK(timers_desk_tick(&d) == TIMERS_DESK_OK);
-		turns++;
 		if (!busy)
 			sched_yield();
 	}
@@ -225,17 +213,8 @@ int main(int argc, char **argv)
 		all[c].state = calloc(2 * timers + 2, 1);
 	}
 	atomic_store(&at_work, clients);
-	struct timespec a, b;
-	clock_gettime(CLOCK_MONOTONIC, &a);
 	own(all, threads);
-	clock_gettime(CLOCK_MONOTONIC, &b);
-	double took = (double)(b.tv_sec - a.tv_sec) + 1e-9 * (double)(b.tv_nsec - a.tv_nsec);
-	struct timespec p;
-	clock_gettime(CLOCK_PROCESS_CPUTIME_ID, &p);
-	uint64_t words = 0, started = 0, expired = 0, stopped = 0, restarted = 0;
 	for (size_t c = 0; c < clients; c++) {
-		words += all[c].words, started += all[c].started, expired += all[c].expired;
-		stopped += all[c].stopped, restarted += all[c].restarted;
 		if (!mixed)
 			CHECK(all[c].expired == timers && all[c].started == timers);
 		CHECK(all[c].started == all[c].expired + all[c].stopped);
@@ -245,8 +224,6 @@ int main(int argc, char **argv)
 		free(all[c].state);
 	}
 	free(all);
-	printf("clients %zu started %" PRIu64 " expired %" PRIu64 " stopped %" PRIu64 " (by restart %" PRIu64 ") words %" PRIu64
-	       " turns %" PRIu64 " seconds %.3f cpu %.3f words/s %.0f\n",
-	       clients, started, expired, stopped, restarted, words, turns, took, (double)p.tv_sec + 1e-9 * (double)p.tv_nsec, (double)words / took);
+	printf("%zu clients received all their words\n", clients);
 	return 0;
 }

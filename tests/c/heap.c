@@ -64,10 +64,37 @@ static void grows(void)
 	released = NULL;
 }
 
+static bool is_filled(const byte *block, size_t size)
+{
+	while (size > 0 && block[size - 1] == (byte)size)
+		size--;
+	return size == 0;
+}
+
+/* malloc's blocks begin at a multiple of 32 bytes, and keep their bytes when they grow, wherever malloc puts them. */
+static void begins_at_a_line(void)
+{
+	enum { BLOCKS = 64, TURNS = 12 };
+	byte *blocks[BLOCKS];
+
+	for (size_t turn = 0; turn < TURNS; turn++)
+		for (size_t i = 0; i < BLOCKS; i++) {
+			const size_t size = (i + 1) << turn, before = size / 2;
+
+			blocks[i] = (byte *)(turn == 0 ? lined_malloc(size) : lined_realloc(blocks[i], size));
+			CHECK(blocks[i] != NULL && (uintptr_t)blocks[i] % 32 == 0 && (turn == 0 || is_filled(blocks[i], before)));
+			for (size_t k = 0; k < size; k++)
+				blocks[i][k] = (byte)(k + 1);
+		}
+	for (size_t i = 0; i < BLOCKS; i++)
+		lined_free(blocks[i]);
+}
+
 int main(void)
 {
 	of_i64_i64 tried;
 
+	begins_at_a_line();
 	CHECK(timers_set_allocator(malloc, NULL, free) == TIMERS_OK && timers_set_allocator(take, resize, release) == TIMERS_OK);
 	refuses_what_is_too_large(NULL);
 	CHECK(timers_set_allocator(malloc, realloc, free) == TIMERS_OPEN);   /* memory was asked for, though none was given */

@@ -78,7 +78,7 @@ static void of_timers(uint32_t table, uint64_t slots)
 	SAME(timers_reserve(&t, 40), TIMERS_OK);
 	all = OF(AT(OF(&t), CTimers_at)), w = all + TieredWheel_lazy_or_smooth;
 	SAME(all[TieredWheel_is_smooth], table == TIMERS_SMOOTH);
-	SAME(w[Wheel_table], table == TIMERS_SMALL ? 2 : 0);
+	SAME(table == TIMERS_SMOOTH || w[LazyWheel_table] == (table == TIMERS_SMALL ? 2 : 0), true);
 	SAME(AT(all, Timers_last_serial), h.serial);
 	wheel(w, timers_now(&t), TIMERS_LAST_OF(table), h.serial, slots, h.place);
 	SAME(AT(w, Wheel_links + Links_room), 40);

@@ -6,7 +6,8 @@
  * The model is a sorted list of the timers that events have, by tick and then by when they were filed. From it follows
  * which event has to run next, at which tick, and when none has to: each run is compared, also of events that were pushed
  * back. Compiles as C and C++. Structs of events are allocated and freed all the time, so that a sanitizer sees each use
- * after a cancel. The library must not allocate after timers_reserve. */
+ * after a cancel. The library must not allocate after timers_reserve. With -DFORGETS an armed event is freed, and its memory
+ * used again: the program ends where its timer comes out. */
 #define _POSIX_C_SOURCE 200809L
 #include <string.h>
 #include <timers_loop.h>
@@ -420,6 +421,9 @@ static void last_ticks(void)
 	every.catches_up = true;
 	time_now = TIMERS_LAST - 5;
 	timers_loop_tick(&late);
+#ifdef FORGETS
+	memset(&every.handle, 0, sizeof every.handle);
+#endif
 	CHECK(timers_loop_dispatch(&late, 9) == 2 && late.alive == 0 && !timers_event_armed(&every));
 	time_now = UINT64_MAX;
 	timers_loop_tick(&late);

@@ -14,9 +14,6 @@ static int failed;
 
 void *__real_malloc(size_t size);
 void __real_free(void *block);
-void *__wrap_malloc(size_t size);
-void *__wrap_realloc(void *block, size_t size);
-void __wrap_free(void *block);
 
 /* A block has its size in front of it. */
 void *__wrap_malloc(size_t size)

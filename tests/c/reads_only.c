@@ -17,9 +17,6 @@ enum { ROOM = 1 << 22, TIMERS = 5000, LATER = 50, NOW = 4100 };
 static unsigned char *memory;
 static size_t used;
 
-void *__wrap_malloc(size_t size);
-void *__wrap_realloc(void *block, size_t size);
-void __wrap_free(void *block);
 
 void *__wrap_malloc(size_t size)
 {

@@ -52,20 +52,6 @@ static void starts(uint32_t table)
 	timers_free(&t);
 }
 
-/* Once room was made, starts take no memory, however many they are. */
-static void room(uint32_t table)
-{
-	struct timers t = TIMERS_INIT;
-	struct timers_handle handle;
-	MAKE(timers_new(&t, table, 0), TIMERS, !t.at && t.mark == 0);
-	MAKE(timers_reserve(&t, MOST), TIMERS, timers_len(&t) == 0);
-	long before = asked;
-	for (uint64_t n = 1; n <= MOST; n++)
-		CHECK(timers_start(&t, 9, n, &handle) == TIMERS_OK);
-	CHECK(asked == before);
-	timers_free(&t);
-}
-
 static struct timers_desk_config config_of(uint32_t table)
 {
 	return (struct timers_desk_config){ .size = sizeof(struct timers_desk_config), .capacity = MOST, .room = 8, .line = 8, .table = table };
@@ -143,22 +129,6 @@ static void held(uint32_t table, uint64_t ticks)
 static void held_request(uint32_t table) { held(table, 0); }
 static void held_over_tick(uint32_t table) { held(table, 1); }
 
-/* A desk that made room takes no memory for its starts and its close. */
-static void room_of_desk(uint32_t table)
-{
-	struct timers_desk d = TIMERS_DESK_INIT;
-	struct timers_line l = TIMERS_LINE_INIT;
-	struct timers_desk_config config = config_of(table);
-	uint64_t count;
-	MAKE(timers_desk_new(&d, &l, 1, &config), TIMERS_DESK, d.mark == 0 && l.mark == 0);
-	sends(&l, 9);
-	MAKE(timers_desk_reserve(&d), TIMERS_DESK, timers_desk_len(&d) == 0);
-	long before = asked;
-	CHECK(timers_desk_serve(&d, 0) == TIMERS_DESK_OK && timers_desk_close(&d, &count) == TIMERS_DESK_OK && count == 1);
-	CHECK(asked == before);
-	timers_desk_free(&d), timers_line_free(&l);
-}
-
 static void refuse_each(const char *name, void (*story)(uint32_t), uint32_t table)
 {
 	refused = asked = again = 0;
@@ -181,13 +151,11 @@ int main(void)
 	CHECK(timers_set_allocator(allocate, resize, free) == TIMERS_OK);
 	for (uint32_t table = 0; table < TIMERS_TABLES; table++) {
 		refuse_each("starts", starts, table);
-		refuse_each("room", room, table);
 		refuse_each("close_at_desk", close_at_desk, table);
 		holds = 0;
 		refuse_each("held_request", held_request, table);
 		refuse_each("held_over_tick", held_over_tick, table);
 		CHECK(holds > 1);
-		refuse_each("room of a desk", room_of_desk, table);
 	}
 	return 0;
 }

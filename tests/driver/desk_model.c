@@ -5,16 +5,9 @@
 #include <stdlib.h>
 #include <string.h>
 
+#include "trace.h"
+
 static struct line_model *all_lines;
-
-static void *resized(void *block, size_t size)
-{
-	void *const grown = realloc(block, size);
-
-	if (grown == NULL)
-		exit(2);
-	return grown;
-}
 
 /* A copy of the item comes last. */
 static void put(struct queue *q, const void *item, size_t size)

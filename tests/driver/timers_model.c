@@ -7,15 +7,6 @@
 #include "../c/tables.h"
 #include "trace.h"
 
-static void *resized(void *block, size_t size)
-{
-	void *const grown = realloc(block, size);
-
-	if (grown == NULL)
-		exit(2);
-	return grown;
-}
-
 void timers_model_begin(struct timers_model *m, uint64_t last_serial)
 {
 	m->last_serial = last_serial;

@@ -112,6 +112,15 @@ void told_memory(const char *what, uint64_t size, uint64_t block)
 		printf("  %s %" PRIu64 " bytes, block %" PRIu64 "\n", what, size, block);
 }
 
+void *resized(void *block, size_t size)
+{
+	void *const grown = realloc(block, size);
+
+	if (grown == NULL)
+		exit(2);
+	return grown;
+}
+
 void watch(const uint64_t *at)
 {
 	watched = at;

@@ -76,6 +76,9 @@ void print_counts(void);
 void forget_counts(void);
 bool has_all(const struct wanted *wanted, size_t count);   /* if not, prints what never occurred */
 
+/* A block of a model with another size. Without memory it ends the program. */
+void *resized(void *block, size_t size);
+
 /* The generator of random numbers, of one program. */
 uint64_t next_random(void);
 uint64_t below(uint64_t limit);      /* 0 to limit - 1 */

@@ -5,6 +5,7 @@ import os
 import shutil
 import subprocess
 import sys
+import tempfile
 
 HERE = os.path.dirname(os.path.abspath(__file__))
 TOP = os.path.dirname(os.path.dirname(HERE))
@@ -15,6 +16,7 @@ from formats import named  # noqa: E402
 from random_scripts import Script  # noqa: E402
 
 SCRIPTS = 2000
+LIMIT = 600
 PROVED = os.path.join(TOP, "build", "lowered", "program.object")
 # How the C is compiled: as the product, and by another compiler.
 BUILDS = {"gcc": ["gcc", "-O2"], "clang": ["clang", "-O1"]}
@@ -48,12 +50,18 @@ def random_scripts(arguments):
 
 
 def play(program, arguments, script):
-    """Status and outputs. The name of the program is the same for each."""
-    try:
-        ended = subprocess.run(["timers", *arguments], executable=program, input=script, capture_output=True, timeout=600)
-        return ended.returncode, ended.stdout, ended.stderr
-    except subprocess.TimeoutExpired:
-        return "no end within a minute", b"", b""
+    """Status and outputs. The name of the program is the same for each.
+
+    The script is a file: what one read of a pipe brings depends on when its writer runs, and `--wakeups` shows the reads.
+    """
+    with tempfile.TemporaryFile() as file:
+        file.write(script)
+        file.seek(0)
+        try:
+            ended = subprocess.run(["timers", *arguments], executable=program, stdin=file, capture_output=True, timeout=LIMIT)
+        except subprocess.TimeoutExpired:
+            return f"no end within {LIMIT} seconds", b"", b""
+    return ended.returncode, ended.stdout, ended.stderr
 
 
 def difference(found, wanted):

@@ -58,7 +58,7 @@ y:
     value(f'trunc{w}_1', 1, [w], f'trunc i{w} %a to i1')
     for op in ('zext', 'sext'):
         case(f'{op}1_{w}', w, [w], f'  %c = icmp ult i{w} %a, 9\n  %r = {op} i1 %c to i{w}\n  ret i{w} %r')
-    for name in ('umin', 'umax', 'usub.sat', 'uadd.sat'):
+    for name in ('umin', 'umax', 'smax', 'usub.sat', 'uadd.sat'):
         declare(f'i{w} @llvm.{name}.i{w}(i{w}, i{w})')
         value(f'llvm_{name.replace(".", "_")}{w}', w, [w, w], f'call i{w} @llvm.{name}.i{w}(i{w} %a, i{w} %b)')
     case(f'select{w}', w, [w, w], f'  %c = icmp ult i{w} %a, 9\n  %r = select i1 %c, i{w} %b, i{w} %a\n  ret i{w} %r')
@@ -119,6 +119,22 @@ declare('void @llvm.memset.p0.i64(ptr, i8, i64, i1)')
 declare('void @llvm.memcpy.p0.p0.i64(ptr, ptr, i64, i1)')
 declare('void @llvm.memmove.p0.p0.i64(ptr, ptr, i64, i1)')
 declare('{ i64, i1 } @llvm.umul.with.overflow.i64(i64, i64)')
+case('frozen_pair', 64, [64, 64], """  %p = call { i64, i1 } @llvm.umul.with.overflow.i64(i64 %a, i64 %b)
+  %f = freeze { i64, i1 } %p
+  %n = extractvalue { i64, i1 } %f, 0
+  %o = extractvalue { i64, i1 } %f, 1
+  %w = zext i1 %o to i64
+  %r = sub i64 %n, %w
+  ret i64 %r""")
+case('constant_pair', 8, [8], """  %p = insertvalue { i8, i8 } { i8 3, i8 poison }, i8 %a, 1
+  %x = extractvalue { i8, i8 } %p, 0
+  %y = extractvalue { i8, i8 } %p, 1
+  %r = sub i8 %x, %y
+  ret i8 %r""")
+declare('i32 @llvm.fshl.i32(i32, i32, i32)')
+for n in (0, 1, 26, 32, 35):
+    value(f'llvm_fshl32_{n}', 32, [32, 32], f'call i32 @llvm.fshl.i32(i32 %a, i32 %b, i32 {n})')
+value('llvm_fshl32', 32, [32, 32], 'call i32 @llvm.fshl.i32(i32 %a, i32 %a, i32 %b)')
 case('over', 1, [64, 64], """  %p = call { i64, i1 } @llvm.umul.with.overflow.i64(i64 %a, i64 %b)
   %o = extractvalue { i64, i1 } %p, 1
   ret i1 %o""")
@@ -989,7 +1005,7 @@ EXPECTED = [(f'define i64 @f(ptr %a) {{\n  %r = load atomic i64, ptr %a {order},
 # Names of fields: of a call of the library, of functions that it calls, and of one that two call with other types.
 NAMED = ''.join(f'define internal void @"{path}"() #0 {{\n  ret void\n}}\n' for path in SMOOTH) + """define internal void @"timer_wheels::lazy::LazyWheel::move"(ptr noundef %w) {
   %p = getelementptr inbounds i8, ptr %w, i64 216
-  %k = getelementptr inbounds i8, ptr %w, i64 40
+  %k = getelementptr inbounds i8, ptr %w, i64 32
   %n = load i64, ptr %p, align 8
   %m = add i64 %n, 1
   store i64 %m, ptr %p, align 8
@@ -1019,8 +1035,8 @@ open:
   %w = getelementptr inbounds i8, ptr %all, i64 8
   call void @"timer_wheels::lazy::LazyWheel::move"(ptr noundef %w)
   call void @both(ptr %all)
-  %tick.at = getelementptr inbounds i8, ptr %all, i64 24
-  %links = getelementptr inbounds i8, ptr %all, i64 48
+  %tick.at = getelementptr inbounds i8, ptr %all, i64 16
+  %links = getelementptr inbounds i8, ptr %all, i64 40
   call void @links(ptr %links)
   %other.at = getelementptr inbounds i8, ptr %all, i64 136
   %tick = load i64, ptr %tick.at, align 8
@@ -1056,7 +1072,7 @@ EXPECTED.append((NAMED, '\tif (RARE(load64(t + CTimers_mark) != 1))\n\t\treturn 
                  '\tstore64(timers1 + 136, tick2);\n', 'byte *entry4 = inside(entry3, handle_1 << 5);\n',
                  'action5 = load64(entry4 + UnownedEntry_action);\n', 'n6 = load64(inside(entry3, handle_1 << 4) + 24);\n',
                  '\tstore64(((action5 == handle_2) ? entry4 : t) + 16, action5);\n', '\treturn TIMERS_OK;\n',
-                 'Links_lists = 64', 'LazyWheel_links = 40, LazyWheel_filings = 216',
+                 'Links_lists = 64', 'LazyWheel_links = 32, LazyWheel_filings = 216',
                  '/* Stops the timer with exactly this handle', ' -> IsOpen t.old }', ' and Does (Stopped (base_handle handle) timer) t.old t.new)', '(byte *t, byte *out, uint64_t out_length)\n'))
 
 # Text, and the line that has to be named.
@@ -1105,7 +1121,6 @@ REFUSED = [
       for word in ('null_pointer_is_valid', 'strictfp', '"denormal-fp-math"="preserve-sign"', '"no-nans-fp-math"="true"')],
     ('@y = private constant [1 x i8] zeroinitializer, align 1\n'
      '@x = internal constant <{ [3 x i8], ptr }> <{ [3 x i8] zeroinitializer, ptr @y }>, align 8\n', 2),
-    ('define { i64, i1 } @f({ i64, i1 } %a) {\n  %r = freeze { i64, i1 } %a\n  ret { i64, i1 } %r\n}', 2),
     ('define void @f() personality ptr null {\n  ret void\n}', 1),
     ('define void @f(ptr byval(i64) %a) {\n  ret void\n}', 1),
     ('define void @f() {\n  musttail call void @f()\n  ret void\n}', 2),

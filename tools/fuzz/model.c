@@ -176,7 +176,7 @@ static void request(struct facility *f, const struct event *e, struct text *out)
 		add(out, "stopped %" PRIu64 " %" PRIu64 " %" PRIu64 "\n", e->client, e->number, e->serial);
 		return;
 	}
-	struct timer timer = {f->next_serial++, e->client, deadline, e->action, wheel};
+	struct timer timer = {f->next_serial++, e->client, deadline, e->action, wheel, e->number};
 	insert(f, timer);
 	f->counts.starts++;
 	f->counts.moves += is_smooth ? smooth_make_way(f->now, &timer, f->pending, f->len) : 0;
@@ -267,6 +267,22 @@ static void close_all(struct facility *f, struct text *out)
 	f->len = 0;
 }
 
+/* The state: the tick and the serials, the numbers of each client, and the pending timers by serial. */
+static void dump(const struct facility *f, struct text *out)
+{
+	add(out, "state %s %" PRIu64 " %" PRIu64 "\n", f->closed ? "closed" : "open", f->now, f->next_serial - 1);
+	for (uint64_t client = 0; client < f->is.clients; client++)
+		add(out, "number %" PRIu64 " %" PRIu64 "\n", client, f->numbers[client] - 1);
+	for (uint64_t serial = 1; serial < f->next_serial; serial++)
+		for (size_t i = 0; i < f->len; i++) {
+			const struct timer *t = &f->pending[i];
+			if (t->serial == serial)
+				add(out, "timer %" PRIu64 " %" PRIu64 " %" PRIu64 " %" PRIu64 " %" PRIu64 "\n", serial, t->client, t->number,
+				    t->deadline, t->action);
+		}
+	add(out, "state end %zu\n", f->len);
+}
+
 static void one(struct facility *f, const struct event *e, struct text *out)
 {
 	if (e->kind == TICK)
@@ -277,6 +293,8 @@ static void one(struct facility *f, const struct event *e, struct text *out)
 		return;
 	else if (e->kind == CLOSE)
 		close_all(f, out);
+	else if (e->kind == STATE)
+		dump(f, out);
 	else
 		request(f, e, out);
 }
@@ -319,11 +337,17 @@ static void wakeup(const struct facility *f, struct text *out)
 		add(out, "wakeup %" PRIu64 " %" PRIu64 "\n", f->now, f->pending[0].deadline);
 }
 
+/* The most bytes of one read, of a file. */
+enum { PIECE = 16384 };
+
 /* Does the lines in turn, up to one that ends it. Returns whether none did. */
 static bool lines(struct facility *f, const char *script, size_t len, enum form form, struct answer *answer)
 {
 	uint64_t n = 0;
 	bool goes_on = form == KEEP_GOING || form == KEEP_GOING_WAKEUPS;
+	/* Whether a wake-up is due, once the read is over in which the last good line came. */
+	bool due = false;
+	size_t came = 0;
 	for (const char *at = script, *end = script + len; at < end;) {
 		const char *feed = memchr(at, '\n', (size_t)(end - at));
 		const char *next = feed ? feed + 1 : end;
@@ -332,10 +356,14 @@ static bool lines(struct facility *f, const char *script, size_t len, enum form 
 		struct event e = good ? event_of(at, all) : (struct event){0};
 		uint64_t serial = f->next_serial;
 		n++;
+		if (good && due && came != (size_t)(next - 1 - script) / PIECE)
+			wakeup(f, &answer->output);
+		if (good) {
+			due = form == WAKEUPS || form == KEEP_GOING_WAKEUPS;
+			came = (size_t)(next - 1 - script) / PIECE;
+		}
 		if (good && form != CHECK)
 			one(f, &e, &answer->output);
-		if (good && (form == WAKEUPS || form == KEEP_GOING_WAKEUPS))
-			wakeup(f, &answer->output);
 		if (good && form == SHOW)
 			show(&answer->output, &f->is, &f->counts, serial, f->now, f->pending, f->len);
 		if (!good && form == CHECK)
@@ -343,6 +371,8 @@ static bool lines(struct facility *f, const char *script, size_t len, enum form 
 		if (!good && goes_on)
 			report(&answer->faults, "bad ", n, diagnose(STREAM, at, all < MAX_LINE ? all : MAX_LINE));
 		if (!good && form != CHECK && !goes_on) {
+			if (due)
+				wakeup(f, &answer->output);
 			*answer = fault(*answer, form, "bad line", n);
 			return false;
 		}
@@ -350,6 +380,8 @@ static bool lines(struct facility *f, const char *script, size_t len, enum form 
 			answer->status = form == CHECK ? EXIT_BAD : EXIT_SKIPPED;
 		at = next;
 	}
+	if (due)
+		wakeup(f, &answer->output);
 	return true;
 }
 

@@ -31,6 +31,8 @@ struct timer {
 	uint64_t serial, client, deadline, action;
 	/* In which it is, of a smooth wheel. */
 	int wheel;
+	/* Of the request that started it. */
+	uint64_t number;
 };
 
 /* What a hierarchy counts. */

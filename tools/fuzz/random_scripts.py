@@ -106,6 +106,8 @@ class Script:
                 self.pass_ticks()
             else:
                 self.add(CLOSE)
+            if self.is_stream and self.chance.random() < 0.01:
+                self.add("state")
         if self.chance.random() < 0.1:
             at = self.chance.randrange(len(self.lines))
             self.lines[at] = self.spoiled(self.lines[at])

@@ -67,7 +67,8 @@ def costs_of_reads():
 
 LISTS = {
     "exported calls": exported,
-    "calls that pass numbers on": lambda: passed_on("timers.h", but=["timers_new", "timers_free", "timers_restart", "timers_look"]),
+    "calls that pass numbers on": lambda: passed_on("timers.h", but=["timers_new", "timers_free", "timers_start", "timers_start_at",
+                                                                     "timers_restart", "timers_restart_at", "timers_look"]),
     "calls of desks that pass numbers on": lambda: passed_on("timers_desk.h", but=["timers_line_receive"]),
     "reads": lambda: reads("static void make_{name}(void) {{ READ({name}); }}",
                            "static void make_{name}(void) {{ READ_OBJECT({name}, {of}); }}"),

@@ -31,6 +31,9 @@ IN_PLACE = [Line(word) for word in WORDS["reading"]["in_place"]]
 LINES = [Line(word) for word in WORDS["script"]]
 OWN = [Line(word, "stream") for word in WORDS["stream"]]
 
+# A search through more tests than three is too long for the prover.
+OWN_FIRST, OWN_OTHER = OWN[:3], OWN[3:]
+
 
 def code(byte):
     """The number of a byte that ends a field."""
@@ -105,8 +108,11 @@ def specifications():
 def own_specifications():
     for line in OWN:
         yield from specification(line)
+    yield from ("-- the event of another line of a stream alone", "unfoldable pub other_own_at : List ℕ → Read Event", "other_own_at bytes =")
+    yield from choice(OWN_OTHER, "None")
+    yield ""
     yield from ("-- the event of a line of a stream alone", "unfoldable pub own_line_at : List ℕ → Read Event", "own_line_at bytes =")
-    yield from choice(OWN, "None")
+    yield from choice(OWN_FIRST, "(other_own_at bytes)")
     yield ""
 
 
@@ -190,7 +196,7 @@ def own_lemmas():
     yield "-- the line of an event is read as that event"
     yield "pub stream_again : (event : Event) (rest : List ℕ) → IsIn Stream event"
     yield "    → stream_at (line event ++ rest) ≡ Some (event, rest)"
-    yield f"unfolding stream_at line_at other_at own_line_at {all_read} {own} line has_word"
+    yield f"unfolding stream_at line_at other_at own_line_at other_own_at {all_read} {own} line has_word"
     for line in OWN:
         yield from again(line, "stream_again")
     for line in LINES:
@@ -201,7 +207,7 @@ def own_lemmas():
     yield "-- what is read of a line of a stream alone is the line of that event"
     yield "own_sound : (bytes rest : List ℕ) (event : Event) → own_line_at bytes ≡ Some (event, rest)"
     yield "    → IsIn Stream event × (bytes ≡ line event ++ rest)"
-    yield "unfolding own_line_at"
+    yield "unfolding own_line_at other_own_at"
     yield "own_sound bytes rest event e ="
     for at, line in enumerate(OWN, start=1):
         yield by_word(at, line, "(IsIn Stream)")
@@ -224,7 +230,8 @@ def imports(use, end=""):
 LISTS = {
     "imports of readers": lambda: imports("ghost use", ";"),
     "readers of lines": lambda: (row for line in LINES + OWN for row in reader(line)),
-    "words of a stream": lambda: tests(OWN, "has_short_word"),
+    "words of a stream": lambda: tests(OWN_FIRST, "has_short_word"),
+    "other words of a stream": lambda: tests(OWN_OTHER, "has_short_word"),
     "words that are read in place": lambda: tests(IN_PLACE),
     "words that are read by calls": lambda: tests(CALLS),
     "what readers compute": specifications,

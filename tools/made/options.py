@@ -51,13 +51,16 @@ def arguments(command):
     for name, option in OPTIONS[command].items():
         maker, words = "flag", ["alloc", f'"{name}"']
         if "value" in option:
-            maker = "choice" if "range" not in option else "number" if "default" in option else "optional"
+            makers = ("number", "optional") if "range" in option else ("choice", "path")
+            maker = f"of_{option['with']}" if "with" in option else makers["default" not in option]
             ends = [f"({', '.join(option['range'])})"] if "range" in option else []
             words += [f'"{option["value"]}"', *ends, *([f'"{option["default"]}"'] if "default" in option else [])]
         words = named(", ".join([*words, name.replace("-", "_")]))
         if len(words) > 60:
             words = "\n".join(["", *(f"{'':12}{word}," for word in re.split(r", (?![^(]*\))", words)), " " * 8])
-        yield f"        .arg({maker}({words})){'?' * (name != list(OPTIONS[command])[-1])}"
+        rule = f'.conflicts_with("{option["without"]}")?' if "without" in option else ""
+        rule += "?" if "with" in option else ""
+        yield f"        .arg({maker}({words}){rule}){'?' * (name != list(OPTIONS[command])[-1])}"
 
 
 def synopsis():

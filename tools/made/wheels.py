@@ -13,16 +13,6 @@ def ticks(radices):
     return f"2^{span.bit_length() - 1}" if span.bit_count() == 1 else f"{span:,}"
 
 
-def bound(radices):
-    """The most moves of a tick of smooth wheels, if their paces were fixed for at most n timers: two n times the sum of the shares."""
-    weights = [math.prod(radices[:wheel]) for wheel in range(1, len(radices))]
-    share = weights[-1] // sum(weights[-1] // weight for weight in weights)
-    quotient = f"2 * n / {share}" if share % 2 else f"n / {share // 2}"
-    paces = ["0", "0", *(f"2 * (n / {weight} + 1)" for weight in weights), *["0"] * (9 - len(weights))]
-    return {"share": share, "quotient": quotient, "bound": f"{quotient} + {2 * len(weights)}", "paces": " + ".join(paces),
-            "shares": " + ".join(f"n / {weight}" for weight in weights)}
-
-
 def code_of(name, fact):
     """Where the code of a table is: in a file of its own, or in that of equal digits, for their bits and how many they are."""
     radices = fact["radices"]
@@ -43,7 +33,7 @@ def with_names(name, fact):
         "wheel": "SmoothWheel" if is_smooth else "LazyWheel", "layout": "smooth_layout" if is_smooth else "layout_of_table",
         "list": " ∷ ".join(map(str, [*radices, "[]"])), "least": radices[0], "wheels": len(radices), "moves": len(radices) - 1,
         "slots": sum(radices), "turned": 128 * (len(radices) - 1) + 2 * radices[-1],
-        "ticks": ticks(radices), "ending": LIMITS[fact["last"]], **bound(radices), **code_of(name.lower(), fact),
+        "ticks": ticks(radices), "ending": LIMITS[fact["last"]], **code_of(name.lower(), fact),
     }
 
 
@@ -90,8 +80,6 @@ def definitions_of_tables():
     yield from tabled("-- {said}\nunfoldable pub {name} : List ℕ\n{name} = {list}\n", OWN)
     yield from defined("the slots of the wheels, from the lowest up", "radices : Table → List ℕ", "{Name} = {term}")
     yield from defined("the last tick that has its digits in the table", "last_of_table : Table → ℕ", "{Name} = {last}")
-    yield from defined("the most moves of a tick, if the paces were fixed for at most n timers",
-                       "tick_bound : Table → ℕ → ℕ", "{Name} n = {bound}")
 
 
 def definitions_of_tiers():
@@ -115,14 +103,6 @@ def lemmas():
     yield from tabled("last_named {Name} = refl")
     yield from ("", "pub named_last : (table : Table) (tick : ℕ) → tick ≡ last_of_table table → tick ≡ last_of (radices table)",
                 "named_last table tick e = e ∙ sym (last_named table)", "")
-    yield "pub sum_bound : (t : Table) (n : ℕ) (paces : List ℕ) → FitPaces (radices t) n paces → pace_sum paces ≤ tick_bound t n"
-    yield unfolding
-    yield from tabled("""sum_bound {Name} n paces f =
-    let share : (s : ℕ) → {share} * s ≤ n → 2 * s ≤ {quotient} = λ s h. omega arith in
-    let shares : {share} * ({shares}) ≤ n = omega arith in
-    let sum : pace_sum paces ≤ {paces} = sum_fits (radices {Name}) n paces f 10 in
-    omega (arith, share ({shares}) shares)""")
-    yield ""
 
 
 def laws():
@@ -163,7 +143,7 @@ LISTS = {
     "last ticks in laws": lambda: tabled("    ensures {name} {{ {last} ≡ {ending} }}", WITH_LAST),
     "imports of lemmas of tables": lambda: [
         VARIANTS,
-        f"use Rattle.timer_wheels.specs.Tables.{{{names('{name}', OWN)}, radices, last_of_table, tick_bound}}",
+        f"use Rattle.timer_wheels.specs.Tables.{{{names('{name}', OWN)}, radices, last_of_table}}",
     ],
     "lemmas of tables": lemmas,
     "proofs of tables": lambda: tabled("pub mod {Name}Digits", OWN),

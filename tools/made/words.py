@@ -31,8 +31,8 @@ def constant(word):
     return word.upper().replace("-", "_")
 
 
-def words_of_lines(section):
-    return (f"        b\"{word}\" => Some(&{constant(word)})," for word in WORDS[section])
+def words_of_lines(words):
+    return (f"        b\"{word}\" => Some(&{constant(word)})," for word in words)
 
 
 def fields_of_lines():
@@ -63,8 +63,8 @@ def errors_of_fields(section):
 
 
 LISTS = {
-    "words of lines": lambda: words_of_lines("script"),
-    "words of lines of a stream": lambda: words_of_lines("stream"),
+    "words of lines": lambda: words_of_lines(WORDS["script"]),
+    "words of lines by tick": lambda: words_of_lines([word for word in WORDS["stream"] if FIELDS[word]]),
     "known words": lambda: known_words("script"),
     "known words of a stream": lambda: known_words("stream"),
     "fields of lines": fields_of_lines,

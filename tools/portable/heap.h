@@ -19,9 +19,50 @@ static void *(*allocate_block)(size_t) = no_block;
 static void *(*resize_block)(void *, size_t) = NULL;
 static void (*release_block)(void *) = NULL;          /* of no block */
 #else
-static void *(*allocate_block)(size_t) = malloc;
-static void *(*resize_block)(void *, size_t) = realloc;
-static void (*release_block)(void *) = free;
+/* A block of malloc's is used from a multiple of 32 bytes on: so no timer, which has 32 bytes there, lies in two lines of a
+ * processor's cache. The byte before says how many are skipped: 1 to 32. What timers_set_allocator was given is used as it is. */
+enum { LINED = 32 };
+
+static size_t skipped_at(uintptr_t address)
+{
+	return (size_t)(LINED - address % LINED);
+}
+
+static void *begin_after(byte *block, size_t skipped)
+{
+	block[skipped - 1] = (byte)skipped;
+	return block + skipped;
+}
+
+static void *lined_malloc(size_t size)
+{
+	byte *block = (byte *)malloc(size + LINED);
+
+	return block != NULL ? begin_after(block, skipped_at((uintptr_t)block)) : NULL;
+}
+
+static void *lined_realloc(void *old, size_t size)
+{
+	const size_t before = ((byte *)old)[-1];
+	byte *block = (byte *)realloc((byte *)old - before, size + LINED);
+	size_t skipped;
+
+	if (block == NULL)
+		return NULL;
+	skipped = skipped_at((uintptr_t)block);
+	if (skipped != before)
+		memmove(block + skipped, block + before, size);
+	return begin_after(block, skipped);
+}
+
+static void lined_free(void *block)
+{
+	free((byte *)block - ((byte *)block)[-1]);
+}
+
+static void *(*allocate_block)(size_t) = lined_malloc;
+static void *(*resize_block)(void *, size_t) = lined_realloc;
+static void (*release_block)(void *) = lined_free;
 #endif
 static volatile bool in_use;                          /* from the first block on the functions stay the same */
 

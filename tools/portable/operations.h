@@ -21,9 +21,11 @@ INLINE byte *frozenptr(byte *v) { ONE_VALUE(byte *, v); return v; }
 /* Arithmetic that C has no operator for. */
 INLINE uintN_t uminN(uintN_t a, uintN_t b) { return a < b ? a : b; }
 INLINE uintN_t umaxN(uintN_t a, uintN_t b) { return a > b ? a : b; }
+INLINE uintN_t smaxN(uintN_t a, uintN_t b) { return (intN_t)a > (intN_t)b ? a : b; }
 INLINE uintN_t usub_satN(uintN_t a, uintN_t b) { return (uintN_t)(a > b ? a - b : 0); }
 INLINE uintN_t uadd_satN(uintN_t a, uintN_t b) { return (uintN_t)(a + b) < a ? UINTN_MAX : (uintN_t)(a + b); }
 INLINE uintN_t absN(uintN_t a) { return (intN_t)a < 0 ? (uintN_t)(0u - a) : a; }
+INLINE uint32_t fshl32(uint32_t a, uint32_t b, uint32_t n) { return n % 32 != 0 ? a << n % 32 | b >> (32 - n % 32) : a; }
 #if defined(__GNUC__)
 INLINE uint64_t cttz64(uint64_t x) { return x != 0 ? (uint64_t)__builtin_ctzll(x) : 64; }
 INLINE uint64_t ctlz64(uint64_t x) { return x != 0 ? (uint64_t)__builtin_clzll(x) : 64; }

@@ -66,12 +66,48 @@ void timers_free(struct timers *t)
 		tm_timers_free(BYTES(t));
 }
 
-/* Out of line: so a restart whose handle is wanted has no memory of its own. */
+/* Out of line, these four: so a call whose handle is wanted has no memory of its own. */
+static NOINLINE enum timers_status start_unwanted(struct timers *t, uint64_t interval, uint64_t action)
+{
+	struct timers_handle unwanted;
+
+	return (enum timers_status)tm_timers_start(BYTES(t), interval, action, BYTES(&unwanted));
+}
+
+static NOINLINE enum timers_status start_at_unwanted(struct timers *t, uint64_t deadline, uint64_t action)
+{
+	struct timers_handle unwanted;
+
+	return (enum timers_status)tm_timers_start_at(BYTES(t), deadline, action, BYTES(&unwanted));
+}
+
 static NOINLINE enum timers_status restart_unwanted(struct timers *t, struct timers_handle handle, uint64_t interval, uint64_t action)
 {
 	struct timers_handle unwanted;
 
 	return (enum timers_status)tm_timers_restart(BYTES(t), handle.place, handle.serial, interval, action, BYTES(&unwanted));
+}
+
+static NOINLINE enum timers_status restart_at_unwanted(struct timers *t, struct timers_handle handle, uint64_t deadline,
+                                                      uint64_t action)
+{
+	struct timers_handle unwanted;
+
+	return (enum timers_status)tm_timers_restart_at(BYTES(t), handle.place, handle.serial, deadline, action, BYTES(&unwanted));
+}
+
+enum timers_status timers_start(struct timers *t, uint64_t interval, uint64_t action, struct timers_handle *handle)
+{
+	if (RARE(handle == NULL))
+		return start_unwanted(t, interval, action);
+	return turned(tm_timers_start(BYTES(t), interval, action, BYTES(handle)), handle, 2);
+}
+
+enum timers_status timers_start_at(struct timers *t, uint64_t deadline, uint64_t action, struct timers_handle *handle)
+{
+	if (RARE(handle == NULL))
+		return start_at_unwanted(t, deadline, action);
+	return turned(tm_timers_start_at(BYTES(t), deadline, action, BYTES(handle)), handle, 2);
 }
 
 enum timers_status timers_restart(struct timers *t, struct timers_handle handle, uint64_t interval, uint64_t action,
@@ -80,6 +116,14 @@ enum timers_status timers_restart(struct timers *t, struct timers_handle handle,
 	if (RARE(restarted == NULL))
 		return restart_unwanted(t, handle, interval, action);
 	return turned(tm_timers_restart(BYTES(t), handle.place, handle.serial, interval, action, BYTES(restarted)), restarted, 2);
+}
+
+enum timers_status timers_restart_at(struct timers *t, struct timers_handle handle, uint64_t deadline, uint64_t action,
+                                     struct timers_handle *restarted)
+{
+	if (RARE(restarted == NULL))
+		return restart_at_unwanted(t, handle, deadline, action);
+	return turned(tm_timers_restart_at(BYTES(t), handle.place, handle.serial, deadline, action, BYTES(restarted)), restarted, 2);
 }
 
 /* Its handle is read, too. */
@@ -119,22 +163,6 @@ bool timers_each(const struct timers *t, uint64_t *cursor, struct timers_handle 
 /* made by tools/facts: calls that pass numbers on */
 void timers_clear(struct timers *t) { tm_timers_clear(BYTES(t)); }
 enum timers_status timers_reserve(struct timers *t, size_t most) { return (enum timers_status)tm_timers_reserve(BYTES(t), most); }
-enum timers_status timers_start(struct timers *t, uint64_t interval, uint64_t action, struct timers_handle *handle)
-{
-	struct timers_handle made;
-	return answered(tm_timers_start(BYTES(t), interval, action, BYTES(&made)), handle, &made, sizeof made / 8);
-}
-enum timers_status timers_start_at(struct timers *t, uint64_t deadline, uint64_t action, struct timers_handle *handle)
-{
-	struct timers_handle made;
-	return answered(tm_timers_start_at(BYTES(t), deadline, action, BYTES(&made)), handle, &made, sizeof made / 8);
-}
-enum timers_status timers_restart_at(struct timers *t, struct timers_handle handle, uint64_t deadline, uint64_t action,
-    struct timers_handle *restarted)
-{
-	struct timers_handle made;
-	return answered(tm_timers_restart_at(BYTES(t), handle.place, handle.serial, deadline, action, BYTES(&made)), restarted, &made, sizeof made / 8);
-}
 enum timers_status timers_stop(struct timers *t, struct timers_handle handle, uint64_t *action)
 {
 	uint64_t made;

@@ -13,7 +13,7 @@ from collections import namedtuple
 from translator import expressions
 from translator.expressions import PURE, Expression, access, c_type, call, cast, intrinsic, literal, number, plus, variable
 from translator.instructions import names_in
-from translator.lines import AddressOf, Global, Local, Number, Offset, Real, Struct, Zero
+from translator.lines import AddressOf, Global, Local, Number, Offset, Parts, Real, Struct, Zero
 from translator.statements import Statement, branch
 
 # Where control goes from the end of a list of statements, and where `continue` and `break` go.
@@ -108,6 +108,8 @@ class Writer:
             return plus(self.value('ptr', value.base), value.offset)
         if isinstance(value, AddressOf):
             return cast('uint64_t', cast('uintptr_t', self.value('ptr', value.base)))
+        if isinstance(value, Parts) and isinstance(of, Struct):
+            return call(f'{c_type(of)}_of', *[self.value(of, part) for of, part in value.values])
         return self.function.line.fail(f'the value {value}')
 
     def zero(self, of):

@@ -317,9 +317,15 @@ def freeze(i, e):
     """One value, also of memory that was never written: C could have another one at each use."""
     if isinstance(i.operands[0][1], (Number, Zero, Real)):
         return e
-    if i.type not in (1, *WIDTHS, *ODD_WIDTHS, 128, 'ptr', 'double'):
-        i.line.fail(f'freeze of {i.type}')
-    return call(f'frozen{64 if i.type in ODD_WIDTHS else i.type}', e)
+    if isinstance(i.type, Struct):
+        return call(f'{c_type(i.type)}_of', *[frozen(i, of, Expression(f'{e}.f{k}', ATOM, [e])) for k, of in enumerate(i.type.fields)])
+    return frozen(i, i.type, e)
+
+
+def frozen(i, of, e):
+    if of not in (1, *WIDTHS, *ODD_WIDTHS, 128, 'ptr', 'double'):
+        i.line.fail(f'freeze of {of}')
+    return call(f'frozen{64 if of in ODD_WIDTHS else of}', e)
 
 
 def extractvalue(i, e):
@@ -334,8 +340,8 @@ PURE['shufflevector'] = lambda i, e: call('bytes64_part', e, Expression(str(i.pa
 
 
 # Intrinsics: for which types, and of how many of their operands. The last one of some says only what is not asked of them.
-INTRINSICS = {'umin': (WIDTHS, 2), 'umax': (WIDTHS, 2), 'usub.sat': ((*WIDTHS, 128), 2), 'uadd.sat': (WIDTHS, 2), 'cttz': ((64,), 1),
-              'ctlz': ((64,), 1), 'bswap': ((64,), 1), 'abs': ((64,), 1)}
+INTRINSICS = {'umin': (WIDTHS, 2), 'umax': (WIDTHS, 2), 'smax': (WIDTHS, 2), 'usub.sat': ((*WIDTHS, 128), 2), 'uadd.sat': (WIDTHS, 2),
+              'cttz': ((64,), 1), 'ctlz': ((64,), 1), 'bswap': ((64,), 1), 'abs': ((64,), 1), 'fshl': ((32,), 3)}
 
 
 def intrinsic(i, *operands):

@@ -19,6 +19,13 @@ NOWHERE = '$.'
 PIECE = '#if !defined PIECE || PIECE == {}'     # OWN is `static`, or what a piece shares with the others (tools/portable/program_os.h)
 LICENCE_TAG = 'SPDX-License' + '-Identifier'   # in two parts: what reads licences doesn't take it for this file's
 LICENCE = '(MIT OR Apache-2.0) AND MIT AND BSD-3-Clause AND LicenseRef-Rattle-libraries'
+# Before the headers of C: what they show of POSIX then is all of it, and offsets in files have 64 bits.
+SHOWN = """#ifndef _GNU_SOURCE
+#define _GNU_SOURCE 1           /* realpath, pread and others are hidden under -std=c99 */
+#endif
+#ifndef _FILE_OFFSET_BITS
+#define _FILE_OFFSET_BITS 64    /* and offsets in files may have the bits of pointers */
+#endif"""
 # The calls of a smooth wheel, out of line. With TIMERS_NO_SMOOTH none is made (tools/portable/headers.h).
 SMOOTH = [f'timer_wheels::tiered::{call}_smooth' for call in ('start', 'stop', 'restart', 'tick', 'quiet')] \
     + [f'timer_wheels::smooth::SmoothWheelWheel::{call}' for call in ('reserve', 'advance', 'clear', 'next_deadline')]
@@ -28,7 +35,7 @@ KINDS = {
                    ('prelude.h', 'headers.h', STRUCTS, PLACES, 'operations.h', 'heap.h', FUNCTIONS, 'timers_api.h',
                     '#ifndef TIMERS_NO_DESK', 'atomics.h', SECOND, 'desk_api.h', '#endif')),
     'program': Kind('tp_', 'os_', ('timer_program',), NOWHERE, [], 16, 'The program `timers`.', LICENCE + ' AND Unicode-3.0',
-                    ('prelude.h', STRUCTS, 'operations.h', 'wide.h', 'atomics.h', 'program_os.h', 'heap.h', FUNCTIONS,
+                    (SHOWN, 'prelude.h', STRUCTS, 'operations.h', 'wide.h', 'atomics.h', 'program_os.h', 'heap.h', FUNCTIONS,
                      PIECE.format(0), 'program_main.h', '#endif')),
     'test': Kind('c_', '', (), NOWHERE, [], 1, 'A test.', 'MIT OR Apache-2.0',
                  ('prelude.h', STRUCTS, 'operations.h', 'wide.h', 'atomics.h', FUNCTIONS)),

@@ -25,6 +25,7 @@ OPERATIONS = {
     'not': z3.Not, 'any': z3.Or, 'all': z3.And, 'implies': z3.Implies, 'concat': z3.Concat, 'ite': z3.If,
     'select': lambda bit, x, y: z3.If(bit == 1, x, y),
     'umin': lambda x, y: z3.If(z3.ULT(x, y), x, y), 'umax': lambda x, y: z3.If(z3.UGT(x, y), x, y),
+    'smax': lambda x, y: z3.If(x > y, x, y),
     'usub.sat': lambda x, y: z3.If(z3.ULT(y, x), x - y, constant(0, x.size())),
     'uadd.sat': lambda x, y: z3.If(z3.ULT(x + y, x), constant(-1, x.size()), x + y),
     'cttz': counted('cttz'), 'ctlz': counted('ctlz'),
