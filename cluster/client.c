@@ -1,296 +1,256 @@
 #include "client.h"
 
-#include <arpa/inet.h>
 #include <errno.h>
-#include <fcntl.h>
+#include <inttypes.h>
+#include <netdb.h>
 #include <poll.h>
+#include <stdarg.h>
+#include <stdbool.h>
+#include <stdio.h>
+#include <stdlib.h>
+#include <string.h>
 #include <sys/socket.h>
+#include <sys/time.h>
+#include <time.h>
+#include <unistd.h>
 
-#include "log.h"
-#include "record.h"
-
-#define PATIENCE 1000   /* ms without an answer, until all is sent again */
-#define SENT_MOST 500   /* lines at once */
+#define PATIENCE 2000   /* ms in which a worker that works says something */
+#define LINE 256        /* bytes: any line is shorter */
 
 struct request {
-	uint64_t name;
-	const char *word;
-	uint64_t values[3];
-	int count;
+	uint64_t name, interval;       /* 0: it starts no timer */
+	char word[8], rest[72];        /* its line, around the client and the number */
 };
 
 struct timers_client {
-	struct log *steps, *members;
-	uint64_t client, number, next;          /* the last number that was taken; the record to read */
-	struct request *waiting;                /* the first one has number + 1 */
-	size_t window, count, sent;             /* how many were sent on this connection */
-	uint64_t names;
+	char *workers, shard[64];
+	const char *worker;            /* the one to ask next */
 	int socket;
-	bool current;                           /* whether the end of the log was seen: before, its number isn't known */
-	int64_t progress, tried, left;          /* the last one: when the caller got its last line */
-	struct text record, output, line;
-	char chain[CHAIN + 1];
-	struct step step;                       /* of the record: what is left of it */
-	uint64_t at, skip;                      /* the next line; how many are known */
+	int64_t tried, heard;
+	bool current;                  /* whether it was shown all, on this connection: before, its number isn't known */
+	uint64_t client, names;
+	struct timers_place place;     /* of what it was shown last */
+	struct request *waiting;       /* a ring, whose first one has the number after that of the place */
+	size_t window, first, count, sent;   /* how many were sent on this connection */
+	size_t filled, taken;          /* bytes of input, and how many of those were read */
+	char input[1 << 16];
 };
 
-uint64_t timers_shard(const char *key, uint64_t shards) { return sum(NO_SUM, key, strlen(key)) % shards; }
+static int64_t elapsed_ms(void)
+{
+	struct timespec time;
+	clock_gettime(CLOCK_BOOTTIME, &time);
+	return time.tv_sec * INT64_C(1000) + time.tv_nsec / 1000000;
+}
+
+uint64_t timers_shard(const char *key, uint64_t shards)   /* FNV-1a */
+{
+	uint64_t sum = UINT64_C(0xcbf29ce484222325);
+	while (*key)
+		sum = (sum ^ (unsigned char)*key++) * UINT64_C(0x100000001b3);
+	return sum % shards;
+}
+
 size_t timers_client_waiting(const struct timers_client *client) { return client->count; }
+
+static uint64_t asks(struct timers_client *c, const char *word, uint64_t interval, const char *format, ...)
+{
+	if (c->count == c->window)
+		return 0;
+	struct request *request = &c->waiting[(c->first + c->count++) % c->window];
+	va_list values;
+	*request = (struct request){.name = ++c->names, .interval = interval};
+	strcpy(request->word, word);
+	va_start(values, format);
+	vsnprintf(request->rest, sizeof request->rest, format, values);
+	va_end(values);
+	return request->name;
+}
+
+uint64_t timers_client_start(struct timers_client *c, uint64_t interval, uint64_t action)
+{
+	return asks(c, "start", interval, " %" PRIu64 " %" PRIu64, interval, action);
+}
+
+uint64_t timers_client_stop(struct timers_client *c, uint64_t serial)
+{
+	return asks(c, "stop", 0, " %" PRIu64, serial);
+}
+
+uint64_t timers_client_restart(struct timers_client *c, uint64_t serial, uint64_t interval, uint64_t action)
+{
+	return asks(c, "restart", interval, " %" PRIu64 " %" PRIu64 " %" PRIu64, serial, interval, action);
+}
+
+/* The request that waits at `i`, with the number that it has now. */
+static size_t form(const struct timers_client *c, size_t i, char line[LINE])
+{
+	const struct request *request = &c->waiting[(c->first + i) % c->window];
+	const uint64_t number = c->place.number + 1 + i;
+	return (size_t)snprintf(line, LINE, "%s %" PRIu64 " %" PRIu64 "%s\n", request->word, c->client, number, request->rest);
+}
 
 static void disconnect(struct timers_client *c)
 {
 	if (c->socket >= 0)
 		close(c->socket);
 	c->socket = -1;
-	c->sent = c->output.length = 0;
+	c->sent = c->filled = c->taken = 0;
+	c->current = false;
 }
 
-/* Where the lease is held, by the last that said so. */
-static bool holder(struct timers_client *c, struct sockaddr_in *address)
+/* All of it within half a second. Otherwise all is sent again on another connection. */
+static void sends(struct timers_client *c, const char *text, size_t length)
 {
-	uint64_t last;
-	struct text record = {0};
-	char host[64];
-	unsigned port = 0;
-	bool found = false;
-	if (log_last(c->members, &last) == LOG_OK)
-		for (int i = 0; i < 64 && last > 0 && !found; i++, last--)
-			found = log_read(c->members, last, &record) == LOG_OK
-			        && sscanf(record.at, "%*s hold %63[^:]:%u", host, &port) == 2 && inet_pton(AF_INET, host, &address->sin_addr) == 1;
-	address->sin_family = AF_INET;
-	address->sin_port = htons((uint16_t)port);
-	free(record.at);
-	return found;
+	if (send(c->socket, text, length, MSG_NOSIGNAL) != (ssize_t)length)
+		disconnect(c);
 }
 
+/* Reads HOST:PORT, and returns what comes after it; NULL if it has another form. */
+static const char *address(const char *from, char host[256], char port[8])
+{
+	int length = 0;
+	return sscanf(from, "%255[^:,]:%7[0-9]%n,%n", host, port, &length, &length) == 2 ? from + length : NULL;
+}
+
+/* Connects to one of the workers, in turn: who doesn't work says nothing. */
 static void connects(struct timers_client *c)
 {
-	struct sockaddr_in address = {0};
-	int error = 0;
-	if (elapsed_ms() - c->tried < 200)
+	char host[256], port[8], line[LINE];
+	struct addrinfo *found = NULL, hints = {.ai_socktype = SOCK_STREAM};
+	c->tried = c->heard = elapsed_ms();
+	c->worker = address(*c->worker ? c->worker : c->workers, host, port);
+	if (getaddrinfo(host, port, &hints, &found) != 0)
 		return;
-	c->tried = c->progress = elapsed_ms();
-	if (!holder(c, &address))
-		return;
-	c->socket = socket(AF_INET, SOCK_STREAM | SOCK_NONBLOCK | SOCK_CLOEXEC, 0);
-	struct pollfd poll_out = {.fd = c->socket, .events = POLLOUT};
-	if ((connect(c->socket, (struct sockaddr *)&address, sizeof address) != 0 && errno != EINPROGRESS) || poll(&poll_out, 1, 500) != 1
-	    || getsockopt(c->socket, SOL_SOCKET, SO_ERROR, &error, &(socklen_t){sizeof error}) != 0 || error)
+	c->socket = socket(found->ai_family, SOCK_STREAM | SOCK_CLOEXEC, 0);
+	setsockopt(c->socket, SOL_SOCKET, SO_SNDTIMEO, &(struct timeval){.tv_usec = 500000}, sizeof(struct timeval));
+	const int length = snprintf(line, LINE, "%s %" PRIu64 " %" PRIu64 " %" PRIu64 " %016" PRIx64 "\n", c->shard, c->client,
+	                            c->place.record, c->place.line, c->place.chain);
+	if (connect(c->socket, found->ai_addr, found->ai_addrlen) != 0)
 		disconnect(c);
+	else
+		sends(c, line, (size_t)length);
+	freeaddrinfo(found);
 }
 
-static void add_request(const struct timers_client *c, size_t i, uint64_t number, struct text *text)
+/* Sends and receives, for at most so long. Requests go out once all that came before was shown. */
+static void exchanges(struct timers_client *c, int64_t ms)
 {
-	const struct request *request = &c->waiting[i];
-	text_format(text, "%s %" PRIu64 " %" PRIu64, request->word, c->client, number);
-	for (int k = 0; k < request->count; k++)
-		text_format(text, " %" PRIu64, request->values[k]);
-	text_add(text, "\n", 1);
-}
-
-static void sends(struct timers_client *c)
-{
-	char byte;
-	if (c->socket >= 0 && (elapsed_ms() - c->progress > PATIENCE || recv(c->socket, &byte, 1, MSG_DONTWAIT) == 0))
-		disconnect(c);
-	if (c->socket < 0)
+	char lines[1 << 14];
+	size_t length = 0;
+	if (c->socket < 0 && elapsed_ms() - c->tried >= 50)
 		connects(c);
+	while (c->current && c->sent < c->count && length < sizeof lines - LINE)
+		length += form(c, c->sent++, lines + length);
+	if (length)
+		sends(c, lines, length);
+	const bool more = c->current && c->sent < c->count;
+	poll(&(struct pollfd){.fd = c->socket, .events = POLLIN}, 1, (int)(more ? 0 : ms < 50 ? ms : 50));
 	if (c->socket < 0)
 		return;
-	for (int i = 0; i < SENT_MOST && !(c->output.length > 1 << 16) && c->sent < c->count; i++, c->sent++)
-		add_request(c, c->sent, c->number + 1 + c->sent, &c->output);
-	const ssize_t sent = send(c->socket, text_room(&c->output, 0) - c->output.length, c->output.length, MSG_DONTWAIT | MSG_NOSIGNAL);
-	if (sent < 0 && errno != EAGAIN && errno != EINTR)
+	const ssize_t got = recv(c->socket, c->input + c->filled, sizeof c->input - c->filled, MSG_DONTWAIT);
+	if (got > 0) {
+		c->filled += (size_t)got;
+		c->heard = elapsed_ms();
+	} else if (got == 0 || (errno != EAGAIN && errno != EINTR) || elapsed_ms() - c->heard > PATIENCE) {
 		disconnect(c);
-	else if (sent > 0)
-		text_drop(&c->output, (size_t)sent);
-}
-
-static uint64_t asks(struct timers_client *c, struct request request)
-{
-	if (c->count == c->window)
-		return 0;
-	if (c->count == 0)
-		c->progress = elapsed_ms();
-	request.name = ++c->names;
-	c->waiting[c->count++] = request;
-	return request.name;
-}
-
-uint64_t timers_client_start(struct timers_client *c, uint64_t interval, uint64_t action)
-{
-	return asks(c, (struct request){0, "start", {interval, action}, 2});
-}
-
-uint64_t timers_client_stop(struct timers_client *c, uint64_t serial) { return asks(c, (struct request){0, "stop", {serial}, 1}); }
-
-uint64_t timers_client_restart(struct timers_client *c, uint64_t serial, uint64_t interval, uint64_t action)
-{
-	return asks(c, (struct request){0, "restart", {serial, interval, action}, 3});
-}
-
-/* Whether a timer's deadline is what its request asked for at this tick. */
-static bool is_due(const struct timers_client *c, const char *asked)
-{
-	uint64_t interval, deadline;
-	const char *answer = c->line.at, *field = strrchr(answer, ' ');
-	if (strncmp(answer, "started", 7) != 0 && strncmp(answer, "restarted", 9) != 0)
-		return true;
-	const char *form = *asked == 's' ? "start %*u %*u %" SCNu64 : "restart %*u %*u %*u %" SCNu64;
-	return sscanf(asked, form, &interval) == 1 && sscanf(field, " %" SCNu64, &deadline) == 1 && deadline == c->step.tick + interval;
-}
-
-/* Which of those that wait is the request of the log, or `count`. It's the first, unless numbers changed while some were under
- * way: the machine took one under its old number then. */
-static size_t find(const struct timers_client *c, uint64_t number, const char *asked, size_t length)
-{
-	struct text own = {0};
-	size_t i = 0;
-	for (; i < c->count; i++) {
-		own.length = 0;
-		add_request(c, i, number, &own);
-		if (own.length == length && memcmp(own.at, asked, length) == 0)
-			break;
 	}
-	free(own.at);
-	return i;
 }
 
-/* An answer to a request of this client: NOTHING if the request wasn't taken. */
-static enum timers_said answered(struct timers_client *c, const char *asked, size_t length, uint64_t *name)
+/* An answer to the next request of this client: the log has one with each number. */
+static enum timers_said answered(struct timers_client *c, const char *asked, uint64_t tick, struct timers_line *line)
 {
 	uint64_t number = 0;
-	const char *why = strrchr(c->line.at, ' ');
-	if (*c->line.at == 'r' && c->line.at[2] == 'f' && (strcmp(why, " repeated\n") == 0 || strcmp(why, " ahead\n") == 0)) {
-		if (why[1] == 'a')
-			disconnect(c);   /* what was before it got lost with a worker: all is sent again */
-		return TIMERS_NOTHING;
-	}
-	if (sscanf(c->line.at, "%*s %*u %" SCNu64, &number) != 1 || number != c->number + 1 || !is_due(c, asked))
+	char own[LINE] = "";
+	if (sscanf(line->text, "%*s %*u %" SCNu64, &number) != 1 || number != c->place.number + 1)
 		return TIMERS_WRONG;
-	const size_t i = find(c, number, asked, length);
-	c->number++;
-	c->progress = elapsed_ms();
-	if (i > 0)
-		disconnect(c);   /* the numbers of some have changed */
-	else
-		c->sent -= c->sent > 0;
-	if (i == c->count)
+	if (c->count)
+		own[form(c, 0, own) - 1] = 0;
+	c->place.number++;
+	if (strcmp(own, asked) != 0) {
+		if (c->sent)
+			disconnect(c);   /* what was sent has other numbers now */
 		return TIMERS_FOREIGN;
-	*name = c->waiting[i].name;
-	memmove(c->waiting + i, c->waiting + i + 1, (--c->count - i) * sizeof *c->waiting);
-	return TIMERS_ANSWER;
-}
-
-/* The next line of the record: NOTHING if it doesn't concern this client. */
-static enum timers_said next_line(struct timers_client *c, uint64_t *name)
-{
-	struct step *step = &c->step;
-	const bool answer = c->at >= step->expired;
-	uint64_t client;
-	const char *end = line_end(step->answers, step->end), *asked = step->asked;
-	const char *asked_end = answer ? line_end(asked, step->end) : NULL;
-	if (!end || (answer && !asked_end))
-		return TIMERS_WRONG;
-	c->line.length = 0;
-	text_add(&c->line, step->answers, (size_t)(end - step->answers));
-	step->answers = end;
-	step->asked = answer ? asked_end : asked;
-	if (c->at++ < c->skip || sscanf(c->line.at, answer ? "%*s %" SCNu64 : "expired %*u %" SCNu64, &client) != 1 || client != c->client)
-		return TIMERS_NOTHING;
-	return answer ? answered(c, asked, (size_t)(asked_end - asked), name) : TIMERS_EXPIRED;
-}
-
-static enum timers_said next(struct timers_client *c, int64_t end, struct timers_line *line)
-{
-	for (;;) {
-		while (c->at < c->step.expired + c->step.requests) {
-			const enum timers_said said = next_line(c, &line->request);
-			line->text = c->line.at;
-			line->place = (struct timers_place){c->next - 1, c->at, c->number};
-			if (said != TIMERS_NOTHING)
-				return said;
-		}
-		if (c->count && c->current)
-			sends(c);
-		const enum log_status status = log_read(c->steps, c->next, &c->record);
-		if (status == LOG_CUT)
-			return TIMERS_CUT;
-		if (status == LOG_OK) {
-			if (!record_follows(&c->record, c->chain))
-				return TIMERS_WRONG;
-			c->step = (struct step){0};
-			if (!record_step(&c->record, &c->step) && c->next != 1)
-				return TIMERS_WRONG;
-			c->next++;
-			c->skip = c->at ? 0 : c->skip;
-			c->at = 0;
-			continue;
-		}
-		const int64_t left = end - elapsed_ms();
-		c->current = c->current || status == LOG_NONE;
-		if (left <= 0)
-			return TIMERS_NOTHING;
-		log_wait(c->steps, c->next - 1, left < 50 ? left : 50);
 	}
+	const struct request *request = &c->waiting[c->first];
+	const bool starts = request->interval && strncmp(line->text, "refused", 7) != 0;
+	line->request = request->name;
+	c->first = (c->first + 1) % c->window;
+	c->count--;
+	c->sent -= c->sent > 0;
+	return starts && strtoull(strrchr(line->text, ' '), NULL, 10) != tick + request->interval ? TIMERS_WRONG : TIMERS_ANSWER;
+}
+
+/* A line of the worker, without its end: NOTHING if the caller need not know it. */
+static enum timers_said takes(struct timers_client *c, char *said, struct timers_line *line)
+{
+	struct timers_place place = {.number = c->place.number};
+	uint64_t tick;
+	int begin = 0;
+	sscanf(said, "said %" SCNu64 " %" SCNx64 " %" SCNu64 " %" SCNu64 " %n", &place.record, &place.chain, &place.line, &tick, &begin);
+	char *asked = said + begin, *answer = strchr(asked, '>');
+	if (begin && answer) {
+		*answer++ = 0;
+		c->place = place;
+		line->text = answer;
+		const enum timers_said what = *asked ? answered(c, asked, tick, line) : TIMERS_EXPIRED;
+		line->place = c->place;
+		return what;
+	}
+	if (sscanf(said, "here %" SCNu64 " %" SCNx64, &place.record, &place.chain) == 2)
+		c->current = true;
+	else if (sscanf(said, "from %" SCNu64 " %" SCNx64 " %" SCNu64, &place.record, &place.chain, &place.number) != 3)
+		return strcmp(said, "cut") == 0 ? TIMERS_CUT : TIMERS_WRONG;
+	place.line = UINT64_MAX;
+	c->place = place;
+	return TIMERS_NOTHING;
 }
 
 enum timers_said timers_client_next(struct timers_client *c, int64_t ms, struct timers_line *line)
 {
-	const int64_t now = elapsed_ms(), progress = c->progress + now - c->left;   /* a slow caller is no reason to send again */
-	c->progress = progress < now ? progress : now;
+	enum timers_said what = TIMERS_NOTHING;
 	*line = (struct timers_line){0};
-	const enum timers_said said = next(c, now + ms, line);
-	c->left = elapsed_ms();
-	if (said == TIMERS_NOTHING || said == TIMERS_CUT)
-		*line = (struct timers_line){0};   /* of others */
-	return said;
-}
-
-/* A client that knows no place begins after the snapshot, with the number that stands there. */
-static void begin(struct timers_client *c, struct log *snapshots)
-{
-	enum log_status status;
-	uint64_t record = 0;
-	struct text snapshot = {0}, text = {0};
-	while ((status = log_snapshot(snapshots, &record, &snapshot)) != LOG_OK && status != LOG_NONE)
-		sleep_ms(50);
-	memset(c->chain, '0', CHAIN);
-	c->next = record + 1;
-	text_format(&text, "\nnumber %" PRIu64 " ", c->client);
-	const char *number = status == LOG_OK ? strstr(snapshot.at, text.at) : NULL;
-	if (status == LOG_OK)
-		sscanf(snapshot.at, "after %*u %16s", c->chain);
-	if (number)
-		c->number = strtoull(number + text.length, NULL, 10);
-	free(snapshot.at), free(text.at);
-}
-
-struct timers_client *timers_client_open(const char *place, const char *shard, uint64_t client, const struct timers_place *from,
-                                         size_t window, char *why, size_t room)
-{
-	struct timers_client *c = calloc(1, sizeof *c);
-	const char *kinds[3] = {"steps", "members", "snapshots"};
-	struct log *logs[3];
-	char name[128];
-	if (!c || !(c->waiting = calloc(window, sizeof *c->waiting)))
-		abort();
-	for (int i = 0; i < 3; i++) {
-		snprintf(name, sizeof name, "%s-%s", kinds[i], shard);
-		if (!(logs[i] = log_open(place, name, why, room)))
-			return NULL;
+	for (int64_t end = elapsed_ms() + ms, left = 1; what == TIMERS_NOTHING;) {
+		char *said = c->input + c->taken, *said_end = memchr(said, '\n', c->filled - c->taken);
+		if (said_end) {
+			*said_end = 0;
+			c->taken += (size_t)(said_end + 1 - said);
+			what = takes(c, said, line);
+			continue;
+		}
+		memmove(c->input, said, c->filled -= c->taken);
+		c->taken = 0;
+		if (left <= 0)
+			break;
+		left = end - elapsed_ms();
+		exchanges(c, left > 0 ? left : 0);
 	}
-	c->steps = logs[0], c->members = logs[1];
+	return what;
+}
+
+struct timers_client *timers_client_open(const char *workers, const char *shard, uint64_t client, const struct timers_place *from,
+                                         size_t window)
+{
+	char host[256], port[8];
+	struct timers_client *c = calloc(1, sizeof *c);
+	const char *at = workers;
+	if (!c)
+		return NULL;
+	c->waiting = calloc(window, sizeof *c->waiting);
+	c->worker = c->workers = strdup(workers);
 	c->client = client, c->window = window, c->socket = -1;
-	if (!from || !from->record)
-		begin(c, logs[2]);
-	else
-		c->next = from->record, c->skip = from->line, c->number = from->number;
-	return c;
+	c->place = from ? *from : c->place;
+	snprintf(c->shard, sizeof c->shard, "%s", shard);
+	while (at && *at)
+		at = address(at, host, port);
+	if (at && at > workers && c->waiting && c->workers)
+		return c;
+	timers_client_close(c);
+	return NULL;
 }
 
 void timers_client_close(struct timers_client *c)
 {
 	disconnect(c);
-	free(c->waiting), free(c->record.at), free(c->output.at), free(c->line.at), free(c);
+	free(c->workers), free(c->waiting), free(c);
 }

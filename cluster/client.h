@@ -1,11 +1,10 @@
 /* timers_cluster.h: a client of one shard. It is one of 64 of the shard, and used by one thread at a time.
  *
- * A request is sent until its answer stands in the log, to whichever worker holds the lease. The machine takes number n of a
- * client once, and only after n - 1, so repeats do no harm. All that is true is read from the log. */
+ * It sends requests to the worker that works, until it reads the answers. The machine takes number n of a client once, and only
+ * after n - 1, so repeats do no harm. What it is shown stands in the log, and the worker says so if its log has another past. */
 #ifndef TIMERS_CLUSTER_H
 #define TIMERS_CLUSTER_H
 
-#include <stdbool.h>
 #include <stddef.h>
 #include <stdint.h>
 
@@ -14,13 +13,14 @@ struct timers_client;
 /* After which line of the log a client goes on. Whoever acts on a line keeps its place in one transaction with the act, and
  * so acts once. All 0: the beginning. */
 struct timers_place {
-	uint64_t record, line, number;   /* the last one: of the client's last request that was taken before */
+	uint64_t record, line, number, chain;   /* of the client's last request that was taken before; the CHAIN of the record */
 };
 
-/* Goes on after `from`; with NULL it learns its last number from the snapshot and the log after it. Of its requests at most
- * `window` are without an answer at a time. Returns NULL, and says why. */
-struct timers_client *timers_client_open(const char *place, const char *shard, uint64_t client, const struct timers_place *from,
-                                         size_t window, char *why, size_t room);
+/* `workers` are the addresses of the shard's workers, as "10.0.0.1:7000,10.0.0.2:7000". Goes on after `from`; with NULL it learns
+ * its last number from the snapshot and the log after it. Of its requests at most `window` are without an answer at a time.
+ * Returns NULL if `workers` has another form. */
+struct timers_client *timers_client_open(const char *workers, const char *shard, uint64_t client, const struct timers_place *from,
+                                         size_t window);
 void timers_client_close(struct timers_client *client);
 
 /* Each returns a name for the request, or 0 if the window is full: then call timers_client_next first. */
@@ -35,16 +35,17 @@ enum timers_said {
 	TIMERS_FOREIGN,    /* to one that it didn't send: of an earlier life, or of another process that has its number */
 	TIMERS_EXPIRED,
 	TIMERS_CUT,        /* the log was cut after this place: what came there is known from a snapshot alone */
-	TIMERS_WRONG       /* a record doesn't follow from those before it, or an answer not from its request */
+	TIMERS_WRONG       /* an answer that doesn't follow from its request, a log with another past, or another shard */
 };
 
 struct timers_line {
-	const char *text;            /* as in docs/formats.md, with its end and a byte 0, until the next call; NULL if it is no line's */
+	const char *text;            /* as in docs/formats.md, without its end, until the next call; NULL if it is no line's */
 	uint64_t request;            /* the name of the request that it answers, or 0 */
 	struct timers_place place;
 };
 
-/* Sends what waits, and reads the next line that concerns this client. After a TIMERS_FOREIGN what waits has other numbers. */
+/* Sends what waits, and reads the next line that concerns this client. A worker that doesn't read may take half a second more.
+ * After a TIMERS_FOREIGN what waits has other numbers. */
 enum timers_said timers_client_next(struct timers_client *client, int64_t ms, struct timers_line *line);
 
 /* Which of `shards` shards gets new timers of this key. A timer that was started stays where it is. */

@@ -1,0 +1,237 @@
+#!/usr/bin/env python3
+"""worker.py PLACE SHARD NAME ADDRESSES PROGRAM [OPTION=NUMBER ..]    a worker of a shard; ../docs/scale.md says more
+
+It plays the records of the shard's log in its child, and compares the answers: so it can take over at once. If it gets the lease
+it works: it plays what clients send and what the clock says, and appends that as the next record, which the log accepts if it is
+the next. If not, its child has played what is not in the log, and it ends. To clients it shows what stands in the log."""
+import asyncio
+import collections
+import contextlib
+import os
+import re
+import sys
+import time
+
+from logs import Again, Cut, Refused, open_log
+from shard import EXPIRED_MOST, NO_CHAIN, Differs, Shard, parsed, said_by, sealed, snapshot
+
+OPTIONS = {"lease": 3000, "bound": 100, "tick": 10, "capacity": 1 << 20, "clock": 0, "fence": 1, "duel": 0}
+ASKED_MOST, UNREAD_MOST = 100000, 1 << 20  # bytes: of requests for which a record has room, and of what a client doesn't read
+LINE_MOST, RECENT = 108, 64
+NUMBER = rb"(?: (?:0|[1-9]\d{0,18}))"
+REQUESTS = re.compile(rb"(?:start%b{4}\n|stop%b{3}\n|restart%b{5}\n)*" % (NUMBER, NUMBER, NUMBER))
+
+
+class Ends(Exception):
+    """A client is told this, and no more."""
+
+
+class GivesUp(Exception):
+    """Another worker's record stands where ours was to stand, or our clock jumped."""
+
+
+def elapsed():
+    return time.clock_gettime(time.CLOCK_BOOTTIME)
+
+
+def are_requests(lines):
+    """As the child reads them. A client may send nothing else: no tick and no close."""
+    return REQUESTS.fullmatch(lines) and not any(int(number) >> 60 for number in re.findall(rb"\d{19}", lines))
+
+
+def told(record, text):
+    """The CHAIN of a record, and what each client is told of it: lines with their numbers, but for requests not taken."""
+    step, said = parsed(text), collections.defaultdict(list)
+    for i, (asked, line) in enumerate(zip([b""] * len(step.expired) + step.requests, step.expired + step.answers), 1):
+        if not line.endswith((b" repeated\n", b" ahead\n", b" no-client\n")):
+            client = int(line.split(b" ", 3)[1 if asked else 2])
+            said[client].append((i, b"said %d %s %d %d %s>%s" % (record, step.chain, i, step.tick, asked.rstrip(), line)))
+    return step.chain, said
+
+
+class Worker(Shard):
+    def __init__(self, place, shard, name, addresses, program, options):
+        self.options, self.lease, self.shard, self.written = options, options["lease"] / 1000, shard, 0
+        self.name, (self.address, *self.others) = f"{name}-{os.urandom(4).hex()}", addresses.split(",")
+        super().__init__(place, shard, program)
+        self.reader, self.heard, self.working = open_log(place, f"steps-{shard}"), elapsed(), False
+        self.shown, self.recent, self.asked = {}, {}, []  # who knows all up to the last record, by clients; what they asked since
+        self.came, self.stepping, self.reading = asyncio.Event(), asyncio.Lock(), asyncio.Lock()
+
+    def wall(self):
+        return int(time.time() * 1000) + self.options["clock"]
+
+    def is_off(self):
+        """Whether our clock is, by more than the bound, from more than half of those that answer."""
+        apart = [abs(said[3] - self.options["clock"]) for said in map(said_by, self.others) if said]
+        return 2 * sum(ms > self.options["bound"] for ms in apart) > len(apart)
+
+    async def follow_until_it_is_free(self):
+        """The lease is held by who appends, four times in it or oftener. It decides who works, and never what is true: two that hold it at
+        once are slow, not wrong. Nothing is known of those that were there before us, so we wait for as long."""
+        host, port = self.address.rsplit(":", 1)
+        await asyncio.start_server(self.serve, host, int(port))
+        while True:
+            with contextlib.suppress(Again):
+                while record := await asyncio.to_thread(self.log.wait, self.last + 1, 0.03):
+                    self.follow(record)
+                    self.heard = elapsed()
+                if self.options["duel"]:
+                    return
+            if elapsed() - self.heard >= self.lease:
+                if not await asyncio.to_thread(self.is_off):
+                    return
+                self.heard = elapsed()
+
+    async def work(self):
+        await self.follow_until_it_is_free()
+        apart = self.wall() - 1000 * elapsed()
+        if not self.last:
+            genesis = self.wall(), self.options["tick"], self.options["capacity"]
+            await self.append(b"genesis %d %d %d\n" % genesis)
+            self.begins(*genesis)
+        await self.step(always=True)  # so whoever worked before is fenced from now on
+        print(f"{self.name}: works after record {self.last}", file=sys.stderr, flush=True)
+        self.working = True
+        while True:
+            wait = 0.05 if self.wakeup is None else (self.epoch + self.wakeup * self.tick_ms - self.wall()) / 1000
+            with contextlib.suppress(asyncio.TimeoutError):
+                await asyncio.wait_for(self.came.wait(), min(max(wait, 0), 0.05))
+            if abs(self.wall() - 1000 * elapsed() - apart) > self.options["bound"]:
+                raise GivesUp("our clock jumped")
+            renews = elapsed() - self.heard >= self.lease / 4
+            if self.asked or renews or (self.wakeup is not None and self.tick() >= self.wakeup):
+                async with self.stepping:
+                    asked, self.asked = self.asked, []
+                    self.came.clear()
+                    await self.step(b"".join(lines for client, writer, lines in asked if self.shown.get(client) is writer), renews)
+
+    def tick(self):
+        return max((self.wall() - self.epoch) // self.tick_ms, self.now)
+
+    async def step(self, asked=b"", always=False):
+        """Passes to the present tick, and plays these requests then. A step at which nothing happens needs no record."""
+        self.advance(self.tick())
+        while True:
+            answers, self.owed = self.owed[:EXPIRED_MOST], self.owed[EXPIRED_MOST:]
+            expired, requests = len(answers), b"" if self.owed else asked
+            answers += self.answers_to(requests.splitlines(keepends=True))
+            if answers or always:
+                head = b"step %d %d %d %s.%d\n" % (self.now, expired, requests.count(b"\n"), self.name.encode(), self.written)
+                await self.append(head + requests + b"".join(answers))
+            if not self.owed:
+                return
+
+    async def append(self, body):
+        record = sealed(self.chain, body)
+        await asyncio.to_thread(self.insist, record)
+        self.written, self.heard, self.last, self.chain = self.written + 1, elapsed(), self.last + 1, record[:16]
+        _, said = self.recent[self.last] = told(self.last, record)
+        self.recent.pop(self.last - RECENT, None)
+        for client, writer in [*self.shown.items()]:
+            self.tell(writer, said[client])
+
+    def insist(self, record):
+        """If it isn't known whether the log has accepted a record, what stands in its place says so."""
+        accepted = None
+        while not accepted:
+            try:
+                accepted = self.log.append(self.last, record)
+            except Again:
+                with contextlib.suppress(Again):
+                    there = self.log.wait(self.last + 1, 0.02)
+                    accepted = there and there == record
+            if accepted is False and not self.options["fence"]:
+                self.last, accepted = self.log.last(), None  # a test: what comes of it
+            if accepted is False:
+                raise GivesUp(f"fenced after record {self.last}")
+
+    def tell(self, writer, lines=()):
+        """Who knows all before: these, and that this was all. Who doesn't read it is left, and comes again."""
+        writer.write(b"".join(line for _, line in lines) + b"here %d %s\n" % (self.last, self.chain))
+        if writer.transport.get_write_buffer_size() > UNREAD_MOST:
+            writer.transport.abort()
+
+    async def show(self, writer, client, record, line, chain):
+        """What a client that goes on after this line is told. All of it stands in the log. After it comes what `append` tells, and whoever
+        was this client before is told no more."""
+        at = record
+        if not record:
+            record, chain, number = await self.read(self.latest, client)
+            at, line = record + 1, 0
+            writer.write(b"from %d %s %d\n" % (record, chain, number))
+        if record > self.last:  # we were asleep, unless the log itself has no such record
+            raise Ends("another past") if await self.read(self.reader.last) < record else OSError
+        while self.shown.get(client) is not writer:
+            while at <= self.last:
+                own, said = self.recent.get(at) or told(at, await self.read(self.reader.read, at))
+                if at == record and own != chain:
+                    raise Ends("another past")
+                writer.write(b"".join(text for i, text in said[client] if i > line))
+                await writer.drain()
+                at, line = at + 1, 0
+            async with self.stepping:
+                if at > self.last:
+                    if client in self.shown:
+                        self.shown[client].transport.abort()
+                    self.shown[client] = writer
+                    self.tell(writer)
+
+    async def read(self, call, *given):
+        """Of logs that all connections share."""
+        async with self.reading:
+            return await asyncio.to_thread(call, *given)
+
+    def latest(self, client):
+        """Where a client begins that knows no place: the record of a snapshot, the chain, and its own last number."""
+        text = snapshot(self.snapshots, 1) or b"after 0 " + NO_CHAIN
+        number = re.search(rb"\nnumber %d (\d+)\n" % client, text)
+        return int(text.split(None, 2)[1]), text.split(None, 3)[2], int(number[1]) if number else 0
+
+    async def serve(self, reader, writer):
+        """A client says which shard it means, which client it is, and after which line of which record it goes on: 0 is after the latest
+        snapshot. It sends no request before it is told that that was all. Others ask for our clock."""
+        with contextlib.suppress(OSError, ValueError, Again):
+            said = (await reader.readline()).split()
+            if said == [b"clock"]:
+                writer.write(f"{'works' if self.working else 'follows'} {self.name} {self.last} {self.wall()}\n".encode())
+            elif self.working:
+                await self.hear(reader, writer, *said)
+        writer.close()
+
+    async def hear(self, reader, writer, shard, client, record, line, chain):
+        client = int(client)
+        try:
+            if shard.decode() != self.shard:
+                raise Ends("another shard")
+            await self.show(writer, client, int(record), int(line), chain)
+        except (Ends, Cut) as why:
+            writer.write(b"%s\n" % (str(why) or "cut").encode())
+            return
+        rest = b""
+        while self.shown.get(client) is writer and (got := await reader.read(1 << 14)):
+            lines, end, rest = (rest + got).rpartition(b"\n")
+            if not are_requests(lines + end) or len(rest) > LINE_MOST:
+                break
+            self.asked.append((client, writer, lines + end))
+            self.came.set()
+            while sum(len(lines) for *_, lines in self.asked) > ASKED_MOST:
+                await asyncio.sleep(0.001)
+        if self.shown.get(client) is writer:
+            del self.shown[client]
+
+
+async def work(*given, options):
+    await Worker(*given, OPTIONS | {key: int(value) for key, value in (option.split("=") for option in options)}).work()
+
+
+def main():
+    place, shard, name, addresses, program, *options = sys.argv[1:]
+    try:
+        asyncio.run(work(place, shard, name, addresses, program, options=options))
+    except (Refused, GivesUp, Cut, Again, OSError, Differs) as why:
+        print(f"{name}: {type(why).__name__} {why}", file=sys.stderr, flush=True)
+        os._exit({Refused: 2, Differs: 9}.get(type(why), 1))
+
+
+main()
