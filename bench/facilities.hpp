@@ -1,10 +1,8 @@
-// The facilities that scale.cpp, tail.cpp and next.cpp measure, each behind the same calls. Owner i has one timer at
+// The facilities that tail.cpp and next.cpp measure, each behind the same calls. Owner i has one timer at
 // most.
 //   start(i, interval); stop(i); restart(i, interval); tick(); drain(): how many have expired; pass(k): k
 //   ticks, with all that expires, and how many these are
-// Those with HAS_LOOK also have look(i): when it expires. Those with HAS_ALL also have
-// start_at(i, interval), by the tick of its deadline; wakeup(): a tick to sleep until; each(): the sum of all
-// deadlines; reserve(most), which makes room.
+// Those with HAS_ROOM also have reserve(most), which makes room.
 #pragma once
 #include "random.hpp"
 #include "wheels.hpp"
@@ -12,6 +10,8 @@
 #include <cstdlib>
 #include <cstring>
 #include <string>
+#include <type_traits>
+#include <vector>
 #ifdef WITH_TIMERS_C
 #include <timers.h>
 #endif
@@ -36,7 +36,7 @@ namespace {
 #ifdef WITH_TIMERS_C
 // The product, through its library for C.
 struct LibTimers {
-  static constexpr bool HAS_LOOK = true, HAS_ALL = true;
+  static constexpr bool HAS_ROOM = true;
   struct timers held = TIMERS_INIT;
   std::vector<timers_handle> handles;
   explicit LibTimers(size_t owners, uint32_t table = TIMERS_WIDE) : handles(owners) {
@@ -74,22 +74,7 @@ struct LibTimers {
     }
     return count;
   }
-  void start_at(size_t i, uint64_t interval) {
-    if (timers_start_at(&held, timers_now(&held) + interval, i, &handles[i])) give_up("timers_start_at");
-  }
-  uint64_t look(size_t i) {
-    timers_expired one;
-    if (timers_look(&held, handles[i], &one)) give_up("timers_look");
-    return one.deadline;
-  }
   uint64_t wakeup() { return timers_wakeup(&held); }
-  uint64_t each() {
-    uint64_t sum = 0, cursor = 0;
-    timers_handle handle;
-    timers_expired one;
-    while (timers_each(&held, &cursor, &handle, &one)) sum += one.deadline;
-    return sum;
-  }
 };
 
 struct SmoothTimers : LibTimers {
@@ -97,9 +82,13 @@ struct SmoothTimers : LibTimers {
 };
 #endif
 
+// Whether a wheel pushes a timer back by one call.
+template <class W, class = void> struct HasRestart : std::false_type {};
+template <class W> struct HasRestart<W, std::void_t<decltype(&W::restart)>> : std::true_type {};
+
 // A wheel of this folder, or of its part in Rust.
 template <class W> struct Reference {
-  static constexpr bool HAS_LOOK = false, HAS_ALL = false;
+  static constexpr bool HAS_ROOM = false;
   W wheel;
   uint64_t serial = 0;
   std::vector<Handle> handles;
@@ -172,7 +161,7 @@ struct Tokio {
 // An object has its index in the heap and a cache line, as it would with what else it holds. The array has its room
 // from the beginning.
 struct ArrayHeap {
-  static constexpr bool HAS_LOOK = false, HAS_ALL = false;
+  static constexpr bool HAS_ROOM = false;
   struct alignas(64) Object { array_heap::node node; };
   std::vector<Object> objects;
   uint64_t now = 0;
@@ -198,7 +187,7 @@ extern "C" int uv__next_timeout(const uv_loop_t *loop);
 
 // libuv's timers, with its loop's clock set by hand.
 struct Libuv {
-  static constexpr bool HAS_LOOK = true, HAS_ALL = false;
+  static constexpr bool HAS_ROOM = false;
   uv_loop_t loop;
   std::vector<uv_timer_t> timers;
   static inline size_t fired = 0;
@@ -225,7 +214,6 @@ struct Libuv {
     uv__run_timers(&loop);
     return drain();
   }
-  uint64_t look(size_t i) { return loop.time + uv_timer_get_due_in(&timers[i]); }
   // Its timeout is an int, and -1 if there is no timer.
   uint64_t next() {
     const int ticks = uv__next_timeout(&loop);
@@ -238,8 +226,6 @@ struct Libuv {
 template <class Run> bool with_facility(const std::string &name, Run run) {
   if (name == "ref-hier")
     run.template of<Reference<Hier>>();
-  else if (name == "ref-apart")
-    run.template of<Reference<HierApart>>();
   else if (name == "ref-hash-64k")
     run.template of<Reference<Hash<65536>>>();
   else if (name == "array-heap")

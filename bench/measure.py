@@ -1,13 +1,11 @@
 #!/usr/bin/env python3
-"""Measures the tables of results/, on a machine that does nothing else: some 25 minutes in all.
+"""Measures the tables of results/, on a machine that does nothing else: some 15 minutes in all.
 
-    bench/build_all && python3 bench/measure.py [PART..]      all parts, or some of them
-    python3 bench/plots.py                                    then draws the plots
+    make timers lib && make -C bench && python3 bench/measure.py [PART..]      all parts, or some of them
 
 results/settings.csv gets the machine, the date, and how many cores other processes and the host's neighbours took.
-Status 1: a part failed. Status 2: wrong arguments, or bench/build lacks a program.
+Status 1: a part failed. Status 2: wrong arguments, or nothing is built.
 """
-import csv
 import datetime
 import os
 import resource
@@ -19,19 +17,11 @@ import figures
 
 TOP = os.path.join(figures.HERE, "..")
 TIMERS = os.path.join(TOP, "timers")
-SHORT = (
-    "churn-1k,churn-10k,churn-100k,churn-1M,push-back-1k,push-back-10k,push-back-100k,push-back-1M,"
-    "expire-1000,expire-log20,expire-log30,expire-log40,steady-1M,burst-1000,burst-5000"
-)
-# The runs of build/bench: its length and repeats, and the workloads. A quiet tick takes nanoseconds, so it needs many.
-DRIVEN = [("0.3", "5", SHORT), ("8", "5", "quiet-1k,quiet-100k,quiet-1M"), ("0.3", "3", "steady-10M")]
-COLUMNS = ["timers-hier", "timers-c", "ref-calls", "ref-apart", "tokio-wheel", "libuv", "timers-hash-64k", "ref-hash-64k"]
 SCRIPTS = {
-    "instructions": ["instructions.py"],
     "programs": ["programs.py", TIMERS, "--runs", "120"],
+    "counts": ["programs.py", TIMERS, "--only", "counts"],
     "lines": ["lines.py"],
     "tail": ["runs.py", "tail", "--repeats", "3"],
-    "scale": ["runs.py", "scale", "--repeats", "3", "--count", "500000"],
     "next": ["runs.py", "next", "--repeats", "3"],
     "desk": ["desk.py", "--repeats", "7"],
     "desk_busy": ["desk.py", "--busy", "1", "--repeats", "5", "--timers", "32000", "--limit", "600"],
@@ -39,33 +29,7 @@ SCRIPTS = {
 }
 
 
-def wheels():
-    """Runs build/bench, and writes ratios to ref-hier and bytes a timer, a row a workload. Returns whether all went well."""
-    rows, is_well = [], True
-    for scale, repeats, workloads in DRIVEN:
-        path = os.path.join(figures.HERE, "build", "wheels.csv")
-        options = ["--csv", path, "--scale", scale, "--repeats", repeats, "--workloads", workloads]
-        done = subprocess.run([os.path.join(figures.HERE, "build", "bench"), *options], check=False)
-        is_well = is_well and done.returncode == 0
-        with open(path, encoding="utf-8") as file:
-            rows += csv.DictReader(file)
-    at = {(row["workload"], row["candidate"]): row for row in rows}
-    works = list(dict.fromkeys(row["workload"] for row in rows))
-
-    def ratio(work, name):
-        row = at.get((work, name))
-        return "{} ({}-{})".format(*(f"{float(row[key]):.2f}" for key in ("ratio", "ratio_low", "ratio_high"))) if row and row["ratio"] else ""
-
-    figures.write("wheels", ["workload", *COLUMNS], [[work, *(ratio(work, name) for name in COLUMNS)] for work in works])
-    names = ["ref-hier", *COLUMNS]
-    sizes = [[work, *(at.get((work, name), {}).get("bytes_per_timer", "") for name in names)] for work in works]
-    figures.write("bytes", ["workload", *names], [row for row in sizes if any(row[1:]) and row[0].startswith("steady")])
-    return is_well
-
-
 def run(part):
-    if part == "wheels":
-        return wheels()
     script, *options = SCRIPTS[part]
     return subprocess.run([sys.executable, os.path.join(figures.HERE, script), *options], check=False).returncode == 0
 
@@ -80,11 +44,11 @@ def times():
 
 
 def main():
-    if set(sys.argv[1:]) - {"wheels", *SCRIPTS}:
+    if set(sys.argv[1:]) - set(SCRIPTS):
         figures.fail(__doc__, 2)
-    parts = sys.argv[1:] or ["wheels", *SCRIPTS]
-    if "wheels" in parts and not os.path.exists(os.path.join(figures.HERE, "build", "bench")):
-        figures.fail("measure.py: no build/bench: run bench/build_all", 2)
+    parts = sys.argv[1:] or list(SCRIPTS)
+    if not os.path.isdir(os.path.join(figures.HERE, "build")):
+        figures.fail("measure.py: nothing is built: make -C bench", 2)
     os.environ["RESULTS"] = figures.FOLDER = figures.KEPT
     settings = {row["part"]: row for row in figures.read("settings")}
     is_well = True

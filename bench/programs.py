@@ -1,17 +1,19 @@
 #!/usr/bin/env python3
 """Times `timers` as a process beside C++ programs that do the same: hyperfine, elapsed time in ms.
 
-    programs.py PROGRAM [--runs N] [--only play,jumps,serve,threads]
+    programs.py PROGRAM [--runs N] [--only play,jumps,serve,threads,counts]
 
 The peers are build/play_tuned, threads_ref and threads_seq (ring_ref.hpp says how these two differ); of `serve`, but
 for its last row, `timers play`. A script comes from a file, and the output has to be the same bytes as the peer's. The
-last row of `serve` is 20,000 requests down a pipe, each after the answer to the one before.
+last row of `serve` is 20,000 requests down a pipe, each after the answer to the one before. `counts` times nothing: it
+has the instructions of the whole process for each line, by callgrind.
 
-Status 1: an output differs, or a program failed; 2: hyperfine or a program is not there.
+Status 1: an output differs, or a program failed; 2: hyperfine, valgrind or a program is not there.
 """
 import argparse
 import json
 import os
+import re
 import shlex
 import shutil
 import statistics
@@ -167,6 +169,24 @@ def serve(program, runs):
     yield [f"{REQUESTS:,} starts and stops down a pipe, one by one", *map(spread, times), "play_tuned --line", *ratios(times)]
 
 
+def instructions(command, script):
+    """Of the whole process, from its start to its end."""
+    callgrind = ["valgrind", "--tool=callgrind", "--callgrind-out-file=/dev/null"]
+    done = subprocess.run([*callgrind, *command], input=script, capture_output=True, check=False)
+    collected = re.search(rb"Collected : (\d+)", done.stderr)
+    if done.returncode or not collected:
+        fail(f"{shlex.join(command)}: status {done.returncode}, {done.stderr[:200]!r}", 2)
+    return int(collected[1])
+
+
+def counts(program):
+    for title, script in SCRIPTS.items():
+        lines = script.count(b"\n")
+        ways = (["play"], ["serve"], ["serve", "--wakeups"])
+        play, *served = (instructions([program, *words, *OPTIONS], script) / lines for words in ways)
+        yield [title, lines, number(play), *(cell for one in served for cell in (number(one), number(one / play)))]
+
+
 def threads(program, runs):
     available = sorted(os.sched_getaffinity(0))
     for count in (1, 2, 4):
@@ -185,7 +205,7 @@ def main():
     parser.add_argument("--only", default="play,jumps,serve,threads")
     options = parser.parse_args()
     program, parts = os.path.abspath(options.program), options.only.split(",")
-    for needed in ("hyperfine", program, TUNED, *THREADS):
+    for needed in (program, *(["valgrind"] if parts == ["counts"] else ["hyperfine", TUNED, *THREADS])):
         if not shutil.which(needed):
             fail(f"{needed} is not there", 2)
     rows = []
@@ -197,6 +217,8 @@ def main():
         figures.write("programs", ["script", "command", "timers", "play_tuned", "to play_tuned"], rows)
     if "serve" in parts:
         figures.write("serve", ["stream", "serve", "peer", "which peer", "ratio"], serve(program, options.runs))
+    if "counts" in parts:
+        figures.write("counts", ["script", "lines", "play", "serve", "to play", "serve --wakeups", "to play"], counts(program))
     if "threads" in parts:
         head = ["cores", "timers", "threads_ref", "to threads_ref", "threads_seq", "to threads_seq"]
         figures.write("threads", head, threads(program, options.runs))

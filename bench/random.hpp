@@ -11,10 +11,4 @@ struct Random {  // splitmix64
     return z ^ z >> 31;
   }
   uint64_t below(uint64_t n) { return (uint64_t)((unsigned __int128)next() * n >> 64); }
-  uint64_t in(uint64_t lo, uint64_t hi) { return lo + below(hi - lo + 1); }
-  // 1 to 2^bits - 1, every power of two equally likely. Integer only, so that all machines agree.
-  uint64_t log_uniform(unsigned bits) {
-    unsigned b = (unsigned)below(bits);
-    return (1ull << b) + below(1ull << b);
-  }
 };

@@ -1,13 +1,10 @@
 #!/usr/bin/env python3
-"""Runs build/scale, build/tail or build/next over facilities, in turns: ns, medians of the repeats with the least and
-the greatest.
+"""Runs build/tail or build/next over facilities, in turns: ns, medians of the repeats with the least and the greatest.
 
-    runs.py scale [--repeats N] [--facilities A,B] [--sizes 1000,10000] [--count N]
     runs.py tail [--repeats N] [--facilities A,B] [--sizes 100000,1000000] [--count N]
     runs.py next [--repeats N] [--facilities A,B] [--sizes 10000,100000]
 
---sizes are numbers of pending timers. --count is how many operations are timed, or at most how many ticks of each load
-of tail. Facilities that the program doesn't have are left out, and so are loads that a facility can't do. Status 1: a
+--sizes are numbers of pending timers. --count is at most how many ticks of each load of tail are timed. Facilities that the program doesn't have are left out, and so are loads that a facility can't do. Status 1: a
 run failed, or there is nothing to run. Status 2: wrong arguments, or no program.
 """
 import argparse
@@ -17,11 +14,9 @@ import subprocess
 import figures
 from figures import fail, spread
 
-WHEELS = "timers-c,ref-hier,ref-apart,ref-hash-64k,libuv"
 TAIL = "timers-c,timers-c-smooth,array-heap,ref-hash-64k,ref-hier,libuv,tokio-wheel"
-FACILITIES = {"scale": WHEELS, "tail": TAIL, "next": "timers_wakeup,libuv"}
-SIZES = {"scale": "1000,10000,100000,1000000,10000000", "tail": "100000,1000000", "next": "10000,100000,1000000"}
-OPERATIONS = ["stop", "start", "restart", "tick", "expiry", "start_at", "look", "wakeup", "each"]
+FACILITIES = {"tail": TAIL, "next": "timers_wakeup,libuv"}
+SIZES = {"tail": "100000,1000000", "next": "10000,100000,1000000"}
 TURNS = ["same", "minute", "minutes", "kept", "expiry", "short", "first", "oldest"]
 RANKS = ["p50", "p99.9", "p99.99", "longest"]
 # The loads of tail. Of some a number of ticks is timed, of `moves` all ticks, and of the others starts.
@@ -49,17 +44,6 @@ def turns(options, whats):
                     for name, value in measures(options.program, facility, size, what).items():
                         found.setdefault((facility, size, what, name), []).append(value)
     return {key: spread(values) for key, values in found.items()} or fail("no facility to run")
-
-
-def scale(options, facilities):
-    count = options.count or 1_000_000
-    found = turns(options, [count])
-    rows = [
-        [operation, facility, *(found.get((facility, size, count, operation), "") for size in options.sizes)]
-        for operation in OPERATIONS
-        for facility in facilities
-    ]
-    figures.write("scale", ["operation", "facility", *options.sizes], [row for row in rows if any(row[2:])])
 
 
 def tail(options, facilities):
@@ -93,10 +77,10 @@ def main():
     parser.add_argument("--count", type=int)
     options = parser.parse_args()
     if not os.path.exists(os.path.join(figures.HERE, "build", options.program)):
-        fail(f"runs.py: no build/{options.program}: run bench/build_all", 2)
+        fail(f"runs.py: no build/{options.program}: make -C bench", 2)
     options.sizes = [int(size) for size in (options.sizes or SIZES[options.program]).split(",")]
     options.facilities = options.facilities or FACILITIES[options.program]
-    table = {"scale": scale, "tail": tail, "next": next_deadlines}[options.program]
+    table = {"tail": tail, "next": next_deadlines}[options.program]
     table(options, options.facilities.split(","))
 
 

@@ -120,7 +120,7 @@ template <class F> struct Load {
     pass_the_rest();
   }
   void reserved() {
-    if constexpr (F::HAS_ALL) {
+    if constexpr (F::HAS_ROOM) {
       facility.reserve(pending);
       starts();
     }

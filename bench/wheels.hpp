@@ -1,6 +1,11 @@
-// Hand-tuned wheels: the practical limit on this machine. A hierarchy over lists of two layouts, and a hashed wheel.
+// Hand-tuned wheels: the practical limit on this machine. A hierarchy, and a hashed wheel.
 #pragma once
-#include "replay.hpp"
+#include <cstddef>
+#include <cstdint>
+#include <vector>
+
+struct Timer { uint64_t serial, client, number, deadline, action; };
+struct Handle { uint64_t place, serial; };
 
 namespace {
 constexpr uint32_t NONE = ~0u;
@@ -59,72 +64,12 @@ struct Nodes {
   void release(uint32_t at) { Node &n = nodes[at]; n.timer.serial = 0; n.after = vacant; vacant = at; --count; }
 };
 
-// As the product, links in one array of 8 bytes a place, which begins with the roots of the lists, and timers in an
-// array of their own, of 40 bytes (the product's: 48). Free places are linked through the first. 48 bytes a timer.
-template <uint32_t LISTS> struct Apart {
-  struct Side { uint32_t before, after; };
-  std::vector<Side> sides;
-  std::vector<Timer> timers;
-  uint32_t vacant = NONE;
-  uint64_t count = 0;
-  explicit Apart(size_t) {
-    for (uint32_t list = 0; list < LISTS; ++list) sides.push_back({list, list});
-  }
-
-  Timer &timer(uint32_t at) { return timers[at - LISTS]; }
-  uint32_t first(uint32_t list) const { return sides[list].after; }
-  uint32_t next(uint32_t at) const { return sides[at].after; }
-  bool is_end(uint32_t list, uint32_t at) const { return at == list; }
-  uint32_t at(Handle h) const { return LISTS + (uint32_t)h.place; }
-  uint64_t place_of(uint32_t at) const { return at - LISTS; }
-  bool holds(Handle h) const { return h.place < timers.size() && timers[h.place].serial == h.serial && h.serial; }
-
-  uint32_t make(const Timer &timer) {
-    uint32_t at = vacant;
-    if (at != NONE) {
-      vacant = sides[at].after;
-      timers[at - LISTS] = timer;
-    } else {
-      at = (uint32_t)sides.size();
-      timers.push_back(timer);
-      sides.push_back({0, 0});
-    }
-    ++count;
-    return at;
-  }
-  void join(uint32_t before, uint32_t after) { sides[before].after = after; sides[after].before = before; }
-  void push_back(uint32_t list, uint32_t at) {
-    uint32_t back = sides[list].before;
-    sides[at] = {back, list};
-    sides[back].after = at;
-    sides[list].before = at;
-  }
-  uint32_t remove(uint32_t at) {
-    Side side = sides[at];
-    join(side.before, side.after);
-    return side.before == side.after ? side.before : NONE;
-  }
-  void clear(uint32_t list) { sides[list] = {list, list}; }
-  void hand_over(uint32_t from, uint32_t to) {
-    Side all = sides[from];
-    join(sides[to].before, all.after);
-    join(all.before, to);
-    clear(from);
-  }
-  void pop_front(uint32_t list, uint32_t at) {
-    uint32_t next = sides[at].after;
-    sides[list].after = next;
-    sides[next].before = list;
-  }
-  void release(uint32_t at) { timers[at - LISTS].serial = 0; sides[at].after = vacant; vacant = at; --count; }
-};
-
 // Ten wheels of 64 slots, with an occupancy word for each. Buckets of wheel 0 are handed over whole.
-template <class Lists> struct Hierarchy {
+struct Hier {
   static constexpr uint32_t DUE = 640;
-  Lists lists{DUE + 1};
+  Nodes lists{DUE + 1};
   uint64_t clock = 0, occupied[10] = {};
-  explicit Hierarchy(size_t) {}
+  explicit Hier(size_t) {}
   uint64_t now() const { return clock; }
   uint64_t len() const { return lists.count; }
 
@@ -189,31 +134,6 @@ template <class Lists> struct Hierarchy {
     lists.pop_front(DUE, at);
     lists.release(at);
     return true;
-  }
-};
-
-using Hier = Hierarchy<Nodes>;
-
-// With the product's layout, and its two shorter ways: a restart in one call, and a tick that looks at its slot first.
-struct HierApart : Hierarchy<Apart<641>> {
-  using Hierarchy::Hierarchy;
-  bool restart(Handle &h, const Timer &timer, Timer &out) {
-    if (!lists.holds(h)) {
-      h = start(timer);
-      return false;
-    }
-    uint32_t at = lists.at(h);
-    out = lists.timer(at);
-    remove(at);
-    lists.timer(at) = timer;
-    place(at);
-    h = {lists.place_of(at), timer.serial};
-    return true;
-  }
-  void tick() {
-    ++clock;
-    uint32_t list = clock & 63;
-    if (list == 0 || lists.first(list) != list) visit();
   }
 };
 

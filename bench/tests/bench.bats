@@ -1,5 +1,5 @@
 #!/usr/bin/env bats
-# That the benchmarks measure work that was done, and what docs/embedded.md says of other timers on a small machine. The
+# That the benchmarks measure work that was done, and what docs/platforms.md says of other timers on a small machine. The
 # library is that which `make` has built.
 # shellcheck disable=SC2034,SC2086,SC2154
 load ../../tests/helpers
@@ -7,7 +7,7 @@ load ../../tests/small
 
 setup_file() {
     cd "$BATS_TEST_DIRNAME/../.." || return
-    export work=$BATS_FILE_TMPDIR page=docs/embedded.md
+    export work=$BATS_FILE_TMPDIR page=docs/platforms.md
     needs_built build/lib/libtimers.a
 }
 setup() { set -o pipefail; }
@@ -32,32 +32,24 @@ refuses() {
 }
 
 @test "each benchmark refuses a facility that skips work" {
-    local calls='start|stop|restart|tick|advance|expire' facility='start|stop|restart|tick|drain|pass' reads='start_at|look|wakeup|each'
     local wheel='timers_start|timers_tick|timers_expire_batch' line='timers_line_start|timers_line_receive'
     local desk="$line|timers_desk_serve_all|timers_desk_tick|timers_desk_flush_all"
     needs g++ make python3
     tree=$BATS_TEST_TMPDIR/tree
     mkdir -p "$tree/tools" && cp tools/hardening "$tree/tools/"
     cp -r bench include "$tree/" && cd "$tree/bench" && rm -rf build
-    for file in bench.h peers.h desk_clients.h; do
+    for file in wheels.hpp peers.h desk_clients.h; do
         sed -i '1i #include <stdlib.h>\n#include <string.h>\nstatic inline int skips(const char *call) {\n  static const char *named;\n  if (!named \&\& !(named = getenv("SKIPS"))) named = "";\n  return !strcmp(named, call);\n}' "$file"
     done
-    # Expiries are timed, and so compared, whatever a tick takes on this machine.
-    sed -i '/MOST_A_TICK = /s/= 1000;/= 1e9;/' scale.cpp
-    grep -q 'MOST_A_TICK = 1e9;' scale.cpp
-    skippable cand_timers.cpp 'struct Timers' "$calls"
-    sed -i '/Handle start/s/return 0/return {}/' cand_timers.cpp
-    skippable facilities.hpp 'struct LibTimers' "$facility|$reads"
+    skippable facilities.hpp 'struct LibTimers' 'start|stop|restart|tick|drain|pass'
     skippable next.cpp 'struct Asked' 'set|ask|pass_to'
     skippable peers.h '#if defined.SET_AT' 'set|next'
     skippable desk_calls.cpp 'struct LibDesk' 'send|serve|flush|tick|read'
     for call in ${wheel//|/ } ${desk//|/ }; do
         sed -i "/^#include \"timers_desk.h\"/a #define $call(...) (skips(\"$call\") ? 0 : $call(__VA_ARGS__))" desk_threads.c
     done
-    make -s -j4 build/bench build/scale build/tail build/next build/desk_calls build/desk_threads build/peers_SET_AT build/peers_HEAP CXXFLAGS="-std=c++17 -DWITH_TIMERS_C -I../include" REGISTRY= UV_LIB= \
+    make -s -j4 build/tail build/next build/desk_calls build/desk_threads build/peers_SET_AT build/peers_HEAP CXXFLAGS="-std=c++17 -DWITH_TIMERS_C -I../include" REGISTRY= UV_LIB= \
         TIMERS_C="$OLDPWD/build/lib/libtimers.a"
-    refuses "$calls" build/bench --limit 5 --repeats 1 --scale 0.001 --candidates timers-c --workloads push-back-1k,churn-1k,expire-log30
-    refuses "$facility|$reads" build/scale timers-c 1000 500
     refuses 'start|tick|drain' build/tail timers-c 1000 spread 2000
     refuses 'restart|tick' build/tail timers-c 1000 shuffled 2000
     refuses "start|restart|tick|drain|pass" build/tail timers-c 1000 keep-alive 1000

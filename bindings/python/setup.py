@@ -11,7 +11,7 @@ from setuptools import Extension, setup
 
 OF_LIBRARY = [
     "generated/timers.c", "generated/NOTICE", "include/timers.h", "include/timers_desk.h", "tools/install/version",
-    "LICENSE-MIT", "LICENSE-APACHE",
+    "LICENSES/MIT.txt", "LICENSES/Apache-2.0.txt",
 ]
 COPIES = ["c/" + os.path.basename(name) for name in OF_LIBRARY]
 

@@ -1,5 +1,5 @@
 /* Timers for the tasks of FreeRTOS: each task may start and stop them, and one task runs what is due. It has no main: call
- * jobs_new before vTaskStartScheduler, and then job_start. docs/embedded.md has what it takes. */
+ * jobs_new before vTaskStartScheduler, and then job_start. docs/platforms.md has what it takes. */
 #include "FreeRTOS.h"
 #include "semphr.h"
 #include "task.h"

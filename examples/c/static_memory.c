@@ -2,7 +2,7 @@
  *
  *     cc -DTIMERS_NO_MALLOC -DTIMERS_NO_DESK static_memory.c timers.c
  *
- * docs/embedded.md has what each table takes for other numbers of timers. */
+ * docs/platforms.md has what each table takes for other numbers of timers. */
 #include <stddef.h>
 #include <stdio.h>
 

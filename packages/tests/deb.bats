@@ -1,7 +1,7 @@
 #!/usr/bin/env bats
 # Makes the Debian packages, and installs, uses and removes them in a clean root. No command here sees the toolchain. The
 # clean root is a Debian of the machine's release with compilers, pkg-config and CMake, and comes from the machine's mirrors,
-# within 900 seconds.
+# within an hour.
 load ../../tests/helpers
 
 setup_file() {
@@ -10,8 +10,9 @@ setup_file() {
     version=$(cat tools/install/version)
     architecture=$(dpkg --print-architecture) || architecture= # then all is skipped
     export version architecture work=$BATS_FILE_TMPDIR root=$BATS_FILE_TMPDIR/root
-    # Builds with -O2 take twice as long. Without optimization nothing would be fortified, which lintian tells.
-    export DEB_CFLAGS_APPEND=-O1
+    # Builds with -O2, and with variables for debuggers, take twice as long each. Without optimization nothing would be fortified,
+    # which lintian tells.
+    export DEB_CFLAGS_APPEND="-O1 -g1"
 }
 
 needs_debian() { needs dpkg-buildpackage dh; }
@@ -119,7 +120,7 @@ field() { dpkg-deb -f build/deb/"$1"_*.deb "$2"; }
 
 @test "packages for arm64 are made" {
     needs_cross
-    DEB_CFLAGS_APPEND=-O0 packages/deb arm64
+    DEB_CFLAGS_APPEND="-O0 -g1" packages/deb arm64
     has_its_packages build/deb-arm64 arm64
 }
 
@@ -142,7 +143,7 @@ field() { dpkg-deb -f build/deb/"$1"_*.deb "$2"; }
     qemu-aarch64-static -L /usr/aarch64-linux-gnu "$work/arm64/usr/bin/timers" < examples/one_timer | diff examples/one_timer.stdout -
 }
 
-inside() { timeout 120 chroot "$root" /usr/bin/env -i PATH=/usr/sbin:/usr/bin:/sbin:/bin DEBIAN_FRONTEND=noninteractive "$@"; }
+inside() { timeout 900 chroot "$root" /usr/bin/env -i PATH=/usr/sbin:/usr/bin:/sbin:/bin DEBIAN_FRONTEND=noninteractive "$@"; }
 # The root's files, but for the package manager's own and the loader's cache.
 files() {
     (cd "$root" && find . -path ./var/lib/dpkg -prune -o -path ./var/log -prune -o -path ./var/cache -prune -o -path ./tmp -prune -o \
@@ -155,7 +156,7 @@ files() {
     [ "$(id -u)" -eq 0 ] || skip "not root"
     # shellcheck source=/dev/null
     release=$(. /etc/os-release && echo "$VERSION_CODENAME")
-    if ! timeout 900 mmdebstrap --quiet --variant=apt --include=apt-utils,gcc,g++,libc6-dev,make,pkgconf,cmake,dpkg-dev "$release" "$root" 2> "$work/log"; then
+    if ! timeout 3600 mmdebstrap --quiet --variant=apt --include=apt-utils,gcc,g++,libc6-dev,make,pkgconf,cmake,dpkg-dev "$release" "$root" 2> "$work/log"; then
         rm -rf --one-file-system "$root"
         skip "no clean root: $(tail -n 1 "$work/log")"
     fi
@@ -197,7 +198,7 @@ files() {
     needs autopkgtest
     # It makes its folder in the root where this machine's TMPDIR says.
     mkdir -p "$root${TMPDIR:-/tmp}"
-    run timeout 900 autopkgtest --no-built-binaries build/deb/{libtimers1,libtimers-dev,timers}_*.deb build/deb/timers_*.dsc -- chroot "$root"
+    run timeout 3600 autopkgtest --no-built-binaries build/deb/{libtimers1,libtimers-dev,timers}_*.deb build/deb/timers_*.dsc -- chroot "$root"
     echo "$output"
     [ "$status" -eq 0 ]
     [ "$(sed '1,/ summary$/d' <<< "$output" | grep -c ' PASS$')" -eq "$(find packages/debian/tests -type f -executable | wc -l)" ]

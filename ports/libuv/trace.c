@@ -77,7 +77,7 @@ int epoll_wait(int fd, struct epoll_event *events, int most, int timeout)
 	(void)fd, (void)most;
 	if (timeout < 0)
 		abort();
-	if (ends_early && end_at < end) {
+	if (ends_early && end_at < end && end_at < input_at) {
 		ends_early = false;
 		clock_ns = end_at + late_by;
 		errno = EINTR;

@@ -1,4 +1,4 @@
-"""Desks: clients that come and go, clients in threads, and memory. Random calls are in replay_test.py."""
+"""Desks: their ends, clients in threads, and memory. Random calls are in replay_test.py."""
 import copy
 import gc
 import pickle
@@ -32,36 +32,17 @@ def turn(desk):
         pass
 
 
-def come_and_go():
+def end_with_the_block():
+    """What is refused in words of Python's, and what is left of a desk whose block has ended."""
     with Desk(2, 100, 4, 4) as desk:
         line, other = desk.lines
-        sent = 0
         assert (line.client, other.client) == (0, 1)
-        for life in range(60):
-            refused(td.NOT_FREED, desk.open, 0, 4)
-            for _ in range(life % 4):
-                sent += 1
-                assert line.start(5, life) == sent
-            line.free()
-            assert desk.line_freed(0) and not desk.line_freed(1)
-            if life % 4:
-                refused(td.LEFT, desk.open, 0, 4)
-                turn(desk)
-                assert (desk.pending(0), desk.pending(1)) == (life % 4, 0)
-                if life % 8 > 4:
-                    assert desk.stop_pending(0) == life % 4 and desk.pending(0) == desk.stop_pending(0) == 0
-                    sent += life % 4            # the stops have their numbers
-                else:
-                    while desk.pending(0):
-                        desk.advance(5)
-                    assert desk.outbox(0) > 0 and desk.outbox(1) == desk.flush(1) == 0 and desk.flush(0) > 0 and desk.outbox(0) == 0
-            line = desk.open(0, 4)
-            assert not desk.line_freed(0) and line.receive() is None
-        refused(td.OUT_OF_RANGE, desk.open, 0, 0)
-        refused(td.NOT_FREED, desk.stop_pending, 0)
+        refused(td.NOT_FREED, desk.open, 0, 4)
         refused(td.NO_CLIENT, desk.stop_pending, 2)
         assert (desk.serve(0), desk.serve(2)) == (td.IDLE, td.NO_CLIENT)
-        desk.reserve()
+        line.free()
+        line = desk.open(0, 4)
+        refused(td.OUT_OF_RANGE, desk.open, 0, 0)
         with Desk(2, 1, 1, 1) as stranger:
             stranger.lines[1].finish()
             refused(td.OTHER_LINE, desk.end, 1, stranger.lines[1])
@@ -254,7 +235,7 @@ def whole_numbers():
 assert Handle(1, 7) == Handle(1, 7) and hash(Handle(1, 7)) == hash(Handle(1, 7))
 assert Handle(1, 7) not in (Handle(1, 8), Handle(2, 7), (1, 7))
 assert (str(DeskError(td.NO_ROOM)), str(DeskError(99))) == ("the outbox has no room", "no status")
-come_and_go()
+end_with_the_block()
 threads(4)
 numbers_out_of_range()
 owns_what_it_holds()

@@ -60,7 +60,7 @@ built() { (cd "$2" && "$builder" -c "from setuptools import build_meta; build_me
     needs_python_package
     in_package "$python" -W error -X dev "$PWD/bindings/python/tests/edges_test.py"
 }
-@test "clients of a desk come and go, and threads get all their words" {
+@test "clients of a desk get all their words in threads, and its end" {
     needs_python_package
     in_package "$python" -W error -X dev "$PWD/bindings/python/tests/desk_test.py"
 }
@@ -101,13 +101,16 @@ for line in sys.stdin:
     [ "$status" -eq 1 ]
 }
 
-# Built by one Python, used by the others: those of the path and Debian's, each under one of its names.
+# Built by one Python, which has passed these tests, and used by the others: those of the path and Debian's, each under one of
+# its names.
 @test "one extension module works in each Python from 3.11 on" {
     needs_python_package
-    local other executable tried=" "
+    local other executable tried
+    named() { "$1" -c 'import os, sys; print(os.path.realpath(sys.executable))'; }
+    tried=" $(named "$python") "
     for other in python3 /usr/bin/python3 python3.{11..15}; do
         "$other" -c 'import sys; sys.exit(sys.version_info < (3, 11))' 2> /dev/null || continue
-        executable=$("$other" -c 'import os, sys; print(os.path.realpath(sys.executable))')
+        executable=$(named "$other")
         [[ $tried != *" $executable "* ]] || continue
         tried+="$executable "
         in_package "$other" -c 'import sys, timers; print(sys.version.split()[0], timers.Timers())'
@@ -167,7 +170,7 @@ for line in sys.stdin:
 @test "the wheel names what it is for and what it is, and is removed again" {
     [ -e "$work/installed" ] || skip "nothing was installed"
     package=$(cd / && "$work/installed/bin/python" -c 'import os, timers; print(os.path.dirname(timers.__file__))')
-    for name in generated/NOTICE LICENSE-MIT LICENSE-APACHE; do
+    for name in generated/NOTICE LICENSES/MIT.txt LICENSES/Apache-2.0.txt; do
         cmp "$name" "$(find "$package"/../timers-*.dist-info -name "${name##*/}")"
     done
     pip_in installed show --files timers > "$work/shown"

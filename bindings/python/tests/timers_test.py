@@ -525,19 +525,6 @@ def stop_what_expired():
         assert ran == [(5, 0), (5, 2)] and timers.now() == 9 and timers.expire() is None
 
 
-def count_what_waits():
-    """While some are held, the length says so: none is lost if all expired at one tick."""
-    with Timers() as timers:
-        for action in range(5):
-            timers.start(3, action)
-        taken = []
-        while len(timers):
-            taken.append(timers.take(9)[2])
-            assert len(timers) == len(list(timers)) == 4 - taken[-1] and timers.pending() == 0
-            assert repr(timers) == f"<timers, {len(timers)} held, tick 3>"
-        assert taken == [0, 1, 2, 3, 4]
-
-
 def come_to_the_last_tick():
     """Nothing that expired is lost at the end of the clock, and what is refused there has taken nothing."""
     last = 16777215
@@ -560,26 +547,10 @@ def come_to_the_last_tick():
         assert refused(timers.advance, 1) == CLOCK_END
 
 
-def count_the_moves():
-    """A timer for tick 0x123, in wheels of 16 slots, moves at 0x100 and at 0x120."""
-    with Timers(SMALL) as timers:
-        handle = timers.start_at(0x123, 7)
-        assert timers.counts() == (1, 0)
-        timers.advance(0xff)
-        assert timers.counts() == (1, 0)
-        timers.advance(0x11f - 0xff)
-        assert timers.counts() == (1, 1)
-        assert timers.advance(4) == [(0x123, handle.serial, 7)]
-        assert timers.counts() == (1, 2)
-        timers.stop(timers.restart(timers.start(1, 8), 2, 9))
-        assert timers.counts() == (3, 2)
-    assert refused(timers.counts) == NOT_OPEN
-
-
 if __name__ == "__main__":
     for test in (meet_the_edges, close_if_the_block_raises, stop_what_expired,
-                 count_what_waits, come_to_the_last_tick, count_the_moves, take_nothing_if_refused,
-                 catch_up_with_other_times, take_many, keep_what_an_iteration_gave, raise_from_a_run, make_room, free_what_is_closed, take_whole_numbers, hold_the_lock,
+                 come_to_the_last_tick, take_nothing_if_refused, catch_up_with_other_times, take_many,
+                 keep_what_an_iteration_gave, raise_from_a_run, make_room, free_what_is_closed, take_whole_numbers, hold_the_lock,
                  keep_what_is_refused, release_what_calls_back, refer_in_circles, derive, call_the_actions, name_what_is_refused,
                  keep_handles, refuse_memory):
         test()

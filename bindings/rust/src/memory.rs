@@ -44,8 +44,7 @@ unsafe extern "C" fn timers_rust_allocate(size: usize) -> *mut c_void {
 unsafe extern "C" fn timers_rust_resize(block: *mut c_void, size: usize) -> *mut c_void {
     let head = unsafe { block.cast::<Head>().sub(1) };
     let old = unsafe { head.read() }.layout;
-    layout_of(size)
-        .map_or(ptr::null_mut(), |layout| unsafe { block_of(realloc(head.cast(), old, layout.size()), layout) })
+    layout_of(size).map_or(ptr::null_mut(), |layout| unsafe { block_of(realloc(head.cast(), old, layout.size()), layout) })
 }
 
 #[no_mangle]

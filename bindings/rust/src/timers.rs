@@ -197,11 +197,7 @@ impl<T> Timers<T> {
     }
 
     /// Starts a timer whose action is the slot of its value.
-    fn start_by(
-        &mut self,
-        value: T,
-        call: impl FnOnce(*mut Held, u64, *mut Handle) -> c_uint,
-    ) -> Result<Handle, Refused<T>> {
+    fn start_by(&mut self, value: T, call: impl FnOnce(*mut Held, u64, *mut Handle) -> c_uint) -> Result<Handle, Refused<T>> {
         let (held, values) = (&mut self.held, &mut self.values);
         let started = values.vacancy().and_then(|slot| written(|handle| call(held, slot as u64, handle)));
         match started {

@@ -56,11 +56,7 @@ fn what_has_begun_is_not_waited_for() {
 fn a_clock_that_starts_later_is_at_its_tick_0() {
     let clock = Clock::since(Instant::now() + 3600 * SECOND, SECOND);
     assert_eq!([clock.now(), clock.after(Duration::ZERO), clock.at(Instant::now())], [Tick(0); 3]);
-    assert!(
-        clock.until(Tick(0)) > SECOND
-            && clock.after(10 * SECOND) == Tick(0)
-            && clock.after(7200 * SECOND) >= Tick(3600)
-    );
+    assert!(clock.until(Tick(0)) > SECOND && clock.after(10 * SECOND) == Tick(0) && clock.after(7200 * SECOND) >= Tick(3600));
 }
 
 #[test]

@@ -1,4 +1,4 @@
-//! Runs of a desk: clients that come and go, and clients in threads whose words are counted. Random calls are replayed by
+//! What is dropped of a desk, and clients in threads whose words are counted. Random calls are replayed by
 //! replay.rs.
 // SPDX-License-Identifier: MIT OR Apache-2.0
 #![cfg(feature = "std")]
@@ -10,45 +10,17 @@ fn turn(desk: &mut Desk) {
     while desk.serve_all(64).unwrap() | desk.flush_all() {}
 }
 
-/// A client that is dropped makes room for another, whose numbers go on.
+/// A line that is dropped is opened again, and a desk that is dropped abandons its lines.
 #[test]
-fn clients_come_and_go() {
+fn what_is_dropped_is_gone() {
     let (mut desk, mut lines) = Desk::new(2, Config::new(100, 4, 4)).unwrap();
     let mut other = lines.pop().unwrap();
-    let mut line = lines.pop().unwrap();
-    let mut number = 0;
+    let line = lines.pop().unwrap();
     assert_eq!((line.client(), other.client(), desk.clients()), (0, 1, 2));
-    for life in 0..100 {
-        assert_eq!(desk.open(0, 4).err(), Some(Error::NotFreed));
-        for _ in 0..life % 4 {
-            number += 1;
-            assert_eq!(line.start(Ticks(5), life), Ok(number));
-        }
-        drop(line);
-        assert!(desk.line_freed(0) && !desk.line_freed(1));
-        if life % 4 > 0 {
-            assert_eq!(desk.open(0, 4).err(), Some(Error::Left));
-            turn(&mut desk);
-            assert_eq!(
-                (desk.pending_of(0), desk.pending_of(1), desk.pending()),
-                (life as usize % 4, 0, life as usize % 4)
-            );
-            if life % 8 > 4 {
-                let pending = desk.pending_of(0) as u64;
-                assert_eq!((desk.stop_pending(0), desk.stop_pending(0)), (Ok(pending), Ok(0)));
-                assert!(pending == life % 4 && desk.pending_of(0) == 0);
-                number += pending; // the stops have their numbers
-            } else {
-                desk.advance_to(desk.now() + Ticks(5)).unwrap();
-                assert_eq!(desk.open(0, 4).err(), Some(Error::Left));
-                assert!(desk.outbox(0) > 0 && desk.outbox(1) == 0 && desk.flush(1) == 0);
-                assert!(desk.flush(0) > 0 && desk.outbox(0) == 0);
-            }
-        }
-        line = desk.open(0, 4).unwrap();
-        assert!(!desk.line_freed(0) && line.receive().is_none());
-    }
     assert_eq!((desk.stop_pending(0), desk.stop_pending(2)), (Err(Error::NotFreed), Err(Error::NoClient)));
+    drop(line);
+    assert!(desk.line_freed(0) && !desk.line_freed(1));
+    let mut line = desk.open(0, 4).unwrap();
     let (_stranger, mut strangers) = Desk::new(2, Config::new(1, 1, 1)).unwrap();
     strangers[1].finish().unwrap();
     assert_eq!(desk.end(1, &mut strangers[1]), Err(Error::OtherLine));
@@ -111,14 +83,8 @@ fn passes_the_last_tick() {
     let (mut desk, mut lines) = Desk::new(1, config).unwrap();
     lines[0].start(Ticks(5), 7).unwrap();
     turn(&mut desk);
-    assert_eq!(
-        (desk.advance_to(Tick(u64::MAX)), desk.now(), desk.pending()),
-        (Err(Error::ClockEnd), timers::LAST_OF_SMALL, 0)
-    );
-    assert_eq!(
-        format!("{desk:?} {:?}", lines[0]),
-        "Desk { now: Tick(16777215), pending: 0, .. } Line { client: 0, .. }"
-    );
+    assert_eq!((desk.advance_to(Tick(u64::MAX)), desk.now(), desk.pending()), (Err(Error::ClockEnd), timers::LAST_OF_SMALL, 0));
+    assert_eq!(format!("{desk:?} {:?}", lines[0]), "Desk { now: Tick(16777215), pending: 0, .. } Line { client: 0, .. }");
     assert_eq!(format!("{}, {}", Error::Closed, Error::Other(99)), "the desk was closed, status 99");
 }
 

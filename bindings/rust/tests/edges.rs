@@ -5,7 +5,7 @@ use std::error;
 use std::rc::Rc;
 use std::thread;
 use std::time::Duration;
-use timers::{at_least, Counts, Error, Handle, Refused, Table, Tick, Ticks, Timers, LAST_OF_SMALL};
+use timers::{at_least, Error, Handle, Refused, Table, Tick, Ticks, Timers, LAST_OF_SMALL};
 
 /// The tables, each with its last tick.
 const TABLES: &[(Table, Tick)] = &[
@@ -61,14 +61,8 @@ fn no_tick_passes_while_an_expired_timer_waits() {
     let mut timers = Timers::new().unwrap();
     let handles: Vec<Handle> = (0..4).map(|value| timers.start(Ticks(3), value).unwrap()).collect();
     assert_eq!(timers.advance(Ticks(100)), Ok(Ticks(3)));
-    assert_eq!(
-        (timers.has_due(), timers.advance(Ticks(0)), timers.advance(Ticks(1))),
-        (true, Ok(Ticks(0)), Err(Error::Due))
-    );
-    assert_eq!(
-        (timers.advance_to(Tick(3)), timers.advance_to(Tick(4)), timers.now()),
-        (Ok(()), Err(Error::Due), Tick(3))
-    );
+    assert_eq!((timers.has_due(), timers.advance(Ticks(0)), timers.advance(Ticks(1))), (true, Ok(Ticks(0)), Err(Error::Due)));
+    assert_eq!((timers.advance_to(Tick(3)), timers.advance_to(Tick(4)), timers.now()), (Ok(()), Err(Error::Due), Tick(3)));
     assert_eq!((timers.stop(handles[1]), timers.stop(handles[1])), (Some(1), None)); // expired, not yet taken
     assert!(timers.take_due(Tick(3)).map(|timer| timer.value).eq([0, 2, 3]));
     assert_eq!((timers.advance(Ticks(1)), timers.now()), (Ok(Ticks(1)), Tick(4)));
@@ -111,10 +105,7 @@ fn the_clock_does_not_go_back() {
     timers.start(Ticks(500), 1).unwrap();
     assert_eq!((timers.take(Tick(999)), timers.now()), (None, Tick(1000)));
     timers.start_at(Tick(0), 2).unwrap();
-    assert_eq!(
-        (timers.take(Tick(0)).map(|timer| timer.value), timers.take(Tick(0)), timers.now()),
-        (Some(2), None, Tick(1000))
-    );
+    assert_eq!((timers.take(Tick(0)).map(|timer| timer.value), timers.take(Tick(0)), timers.now()), (Some(2), None, Tick(1000)));
 }
 
 /// An iterator that is dropped early has taken what it gave out, and no more.
@@ -131,10 +122,7 @@ fn an_iterator_that_is_dropped_leaves_the_rest() {
 #[test]
 fn intervals_are_rounded_up() {
     let (ms, us) = (Duration::from_millis, Duration::from_micros);
-    assert_eq!(
-        (at_least(ms(5), ms(1)), at_least(us(4999), ms(1)), at_least(us(5001), ms(1))),
-        (Ticks(6), Ticks(6), Ticks(7))
-    );
+    assert_eq!((at_least(ms(5), ms(1)), at_least(us(4999), ms(1)), at_least(us(5001), ms(1))), (Ticks(6), Ticks(6), Ticks(7)));
     assert_eq!((at_least(ms(0), ms(1)), at_least(Duration::MAX, Duration::from_nanos(1))), (Ticks(1), Ticks(u64::MAX)));
     assert_eq!(Timers::new().unwrap().start(Ticks(u64::MAX), 1).map_err(Error::from), Err(Error::TooLate));
 }
@@ -168,21 +156,6 @@ fn a_period_keeps_its_grid_after_a_stall() {
     assert_eq!(came[6..], [(50, 50, "last"), (50, 50, "all")]);
 }
 
-/// At tick 0 a timer for tick 65 is in wheel 1. It moves to wheel 0 at tick 64, and expires at 65. One for
-/// tick 64 expires as its bucket of wheel 1 is visited.
-#[test]
-fn moves_are_counted() {
-    let mut timers = Timers::new().unwrap();
-    let counts = |starts, moves| Counts { starts, moves };
-    assert_eq!(timers.counts(), counts(0, 0));
-    timers.start(Ticks(65), 1).unwrap();
-    timers.start(Ticks(64), 2).unwrap();
-    assert_eq!((timers.advance(Ticks(63)), timers.counts()), (Ok(Ticks(63)), counts(2, 0)));
-    assert_eq!((timers.advance(Ticks(1)), timers.counts()), (Ok(Ticks(1)), counts(2, 1)));
-    assert_eq!((timers.expire().map(|timer| timer.value), timers.expire()), (Some(2), None));
-    assert_eq!((timers.advance(Ticks(9)), timers.counts()), (Ok(Ticks(1)), counts(2, 1)));
-}
-
 #[test]
 fn errors_and_handles_are_as_std_expects() {
     fn boxed() -> Result<Handle, Box<dyn error::Error + Send + Sync>> {
@@ -194,17 +167,11 @@ fn errors_and_handles_are_as_std_expects() {
     let refused = boxed().unwrap_err();
     assert_eq!((refused.to_string(), plain()), ("the timer was not started".to_string(), Err(Error::ZeroInterval)));
     let reason = refused.source().unwrap();
-    assert_eq!(
-        (reason.to_string(), reason.downcast_ref()),
-        ("the interval is 0".to_string(), Some(&Error::ZeroInterval))
-    );
+    assert_eq!((reason.to_string(), reason.downcast_ref()), ("the interval is 0".to_string(), Some(&Error::ZeroInterval)));
     assert_eq!(format!("{:?}, {}", Error::Due, Error::Other(99)), "Due, status 99");
     let mut timers = Timers::new().unwrap();
     let refused = timers.start(Ticks(0), thread::current()).unwrap_err();
-    assert_eq!(
-        format!("{refused:?} {timers:?}"),
-        "Refused { error: ZeroInterval, .. } Timers { now: Tick(0), len: 0, .. }"
-    );
+    assert_eq!(format!("{refused:?} {timers:?}"), "Refused { error: ZeroInterval, .. } Timers { now: Tick(0), len: 0, .. }");
     let handle = timers.start(Ticks(1), thread::current()).unwrap();
     assert!(HashSet::from([handle, Handle::default()]).contains(&handle) && handle != Handle::default());
     assert_eq!((handle.serial(), Handle::default().serial()), (1, 0));

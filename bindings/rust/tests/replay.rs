@@ -110,9 +110,7 @@ impl Replay {
         Ok(match (name, given) {
             ("clear", []) => self.clear(),
             ("reserve", &[most]) => self.timers.reserve(most as usize).map(|_| vec![0])?,
-            ("start", &[interval, value]) => {
-                self.timers.start(Ticks(interval), value).map(|made| self.started(made))?
-            }
+            ("start", &[interval, value]) => self.timers.start(Ticks(interval), value).map(|made| self.started(made))?,
             ("start_at", &[tick, value]) => self.timers.start_at(Tick(tick), value).map(|made| self.started(made))?,
             ("restart", &[_, interval, value]) => {
                 self.timers.restart(handle, Ticks(interval)).map(|made| self.restarted(old, made, value))?
@@ -210,15 +208,10 @@ mod desk {
 
     /// Of a word: its kind, reason, number, serial, deadline, action and old serial.
     fn shown(word: Word) -> [u64; 7] {
-        let of_timer =
-            |kind, Timer { number, serial, deadline, action }| [kind, 0, number, serial, deadline.0, action, 0];
+        let of_timer = |kind, Timer { number, serial, deadline, action }| [kind, 0, number, serial, deadline.0, action, 0];
         match word {
-            Word::Started { number, handle, deadline, action } => {
-                [1, 0, number, handle.serial(), deadline.0, action, 0]
-            }
-            Word::Restarted { number, handle, deadline, action, old } => {
-                [2, 0, number, handle.serial(), deadline.0, action, old]
-            }
+            Word::Started { number, handle, deadline, action } => [1, 0, number, handle.serial(), deadline.0, action, 0],
+            Word::Restarted { number, handle, deadline, action, old } => [2, 0, number, handle.serial(), deadline.0, action, old],
             Word::Stopped { number, serial } => [3, 0, number, serial, 0, 0, 0],
             Word::Refused { number, action, reason } => [4, status_of(reason)[0], number, 0, 0, action, 0],
             Word::NotTaken { number, action, reason } => [5, status_of(reason)[0], number, 0, 0, action, 0],
@@ -267,12 +260,8 @@ mod desk {
                 ("line_start", &[interval, action]) => line.start(Ticks(interval), action),
                 ("line_start_at", &[tick, action]) => line.start_at(Tick(tick), action),
                 ("line_stop", [_, serial]) => line.stop(self.handles[serial]),
-                ("line_restart", &[_, serial, interval, action]) => {
-                    line.restart(self.handles[&serial], Ticks(interval), action)
-                }
-                ("line_restart_at", &[_, serial, tick, action]) => {
-                    line.restart_at(self.handles[&serial], Tick(tick), action)
-                }
+                ("line_restart", &[_, serial, interval, action]) => line.restart(self.handles[&serial], Ticks(interval), action),
+                ("line_restart_at", &[_, serial, tick, action]) => line.restart_at(self.handles[&serial], Tick(tick), action),
                 ("desk_end", []) => self.desk.end(client, line),
                 ("line_finish", []) => return line.finish().map(|_| vec![0]),
                 ("line_ended", []) => return Ok(vec![line.ended().into()]),

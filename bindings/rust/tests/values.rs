@@ -31,8 +31,7 @@ impl Drop for Counted {
 fn ten() -> (Rc<Cell<usize>>, Timers<Counted>, Vec<Handle>) {
     let living = Rc::new(Cell::new(0));
     let mut timers = Timers::new().unwrap();
-    let handles =
-        (0..10).map(|number| timers.start(Ticks(number + 1), Counted::new(&living, number)).unwrap()).collect();
+    let handles = (0..10).map(|number| timers.start(Ticks(number + 1), Counted::new(&living, number)).unwrap()).collect();
     assert_eq!(living.get(), 10);
     (living, timers, handles)
 }
