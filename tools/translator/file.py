@@ -27,7 +27,7 @@ SHOWN = """#ifndef _GNU_SOURCE
 #define _FILE_OFFSET_BITS 64    /* and offsets in files may have the bits of pointers */
 #endif"""
 # The calls of a smooth wheel, out of line. With TIMERS_NO_SMOOTH none is made (tools/portable/headers.h).
-SMOOTH = [f'timer_wheels::tiered::{call}_smooth' for call in ('start', 'stop', 'restart', 'tick', 'quiet')] \
+SMOOTH = [f'timer_wheels::tiered::smooth_calls::{call}_smooth' for call in ('start', 'stop', 'restart', 'tick', 'quiet')] \
     + [f'timer_wheels::smooth::SmoothWheelWheel::{call}' for call in ('reserve', 'advance', 'clear', 'next_deadline')]
 KINDS = {
     'timers': Kind('tm_', '', ('timer_c', 'timer_desk_c'), 'timers_(desk|line)_', SMOOTH, 1,

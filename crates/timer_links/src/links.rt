@@ -134,6 +134,15 @@ impl<N: Kept> Links<N> {
         }
     }
 
+    /// The node under a key that is in use: no test whether it is. Does not allocate.
+    #[inline(always)]
+    pub fn node(&self, key: usize) -> Node
+        requires { IsSome (node_at key self.now.lists) }
+        ensures { Some result ≡ node_at key self.now.lists }
+    {
+        self.nodes[key].node()
+    }
+
     /// The key of the first node of a list, or None if the list is empty. Does not allocate.
     #[inline]
     pub fn front(&self, list: usize) -> Option<usize>

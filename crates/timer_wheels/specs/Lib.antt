@@ -11,6 +11,7 @@ pub mod FirstDeadline
 pub mod HeldPlaces
 pub mod WakeUps
 pub mod Tiers
+pub mod RestartWays
 pub mod TieredWheel
 pub mod hashed
 pub mod hier

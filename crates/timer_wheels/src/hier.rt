@@ -69,7 +69,6 @@ ghost use Rattle.timer_wheels.specs.hier.Placement.{ShowsWheels, IsPaid, most_mo
 ghost use Rattle.timer_wheels.specs.WakeUps.{next_visit};
 
 use crate::hier::counts::Counts;
-use crate::hier::leap::visits_between;
 use crate::hier::wheels::Wheels;
 use crate::iteration::held_from;
 use crate::table::{Table, emptied_at, last_tick_of};
@@ -244,33 +243,6 @@ impl<N: Kept> HierWheel<N> {
         ensures in_range { IfSome result (λ handle. handle.place < 4294967296) }
     {
         held_from(&self.wheels.buckets, place)
-    }
-}
-
-impl<N: Kept> HierWheel<N> {
-    ghost use Rattle.timer_wheels.specs.hier.HierWheel.{hier_state, counts_of, counts_of_advance};
-
-    /// Passes ticks as `advance` does, wherever it leads.
-    // Kept out of line, so that an advance over a few quiet ticks is short.
-    #[inline(never)]
-    fn advance_far(&mut self, most: u64) -> u64
-        requires nothing_due { (hier_state self.old).due ≡ [] }
-        requires some { 0 < most }
-        requires before_last { most ≤ (hier_state self.old).last_tick - (hier_state self.old).now }
-        ensures advances { Advances most result (hier_state self.old) (hier_state self.new) }
-        ensures counts { counts_of self.new
-            ≡ counts_of_advance (hier_state self.old) (hier_state self.new) (counts_of self.old) }
-    {
-        let table = self.wheels.table;
-        let first = self.wheels.buckets.tick;
-        let moves = self.wheels.advance_until_due(most);
-        let last = self.wheels.buckets.tick;
-        let passed = last - first;
-        let visits = visits_between(table, first, last, self.wheels.buckets.has_due());
-        let counts = &mut self.counts;
-        counts.moves += moves;
-        counts.skipped += passed - visits;
-        passed
     }
 }
 

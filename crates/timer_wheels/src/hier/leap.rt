@@ -18,12 +18,40 @@ ghost use Rattle.timer_wheels.specs.hier.Hier.{potential};
 ghost use Rattle.timer_wheels.specs.hier.Leap.{AreNotVisitedBefore, IsNextVisit, Leaps};
 ghost use Rattle.timer_wheels.specs.WakeUps.{next_visit};
 
+use crate::hier::HierWheel;
 use crate::hier::wheels::Wheels;
 use crate::occupied::Occupied;
 use crate::table::{
     Table, is_rollover, lowest_slots, revolutions, visit_of, with_constant_table, with_wide_table,
 };
 use timer_links::Kept;
+
+impl<N: Kept> HierWheel<N> {
+    ghost use Rattle.timer_wheels.specs.hier.HierWheel.{hier_state, counts_of, counts_of_advance};
+
+    /// Passes ticks as `advance` does, wherever it leads.
+    // Kept out of line, so that an advance over a few quiet ticks is short.
+    #[inline(never)]
+    pub fn advance_far(&mut self, most: u64) -> u64
+        requires nothing_due { (hier_state self.old).due ≡ [] }
+        requires some { 0 < most }
+        requires before_last { most ≤ (hier_state self.old).last_tick - (hier_state self.old).now }
+        ensures advances { Advances most result (hier_state self.old) (hier_state self.new) }
+        ensures counts { counts_of self.new
+            ≡ counts_of_advance (hier_state self.old) (hier_state self.new) (counts_of self.old) }
+    {
+        let table = self.wheels.table;
+        let first = self.wheels.buckets.tick;
+        let moves = self.wheels.advance_until_due(most);
+        let last = self.wheels.buckets.tick;
+        let passed = last - first;
+        let visits = visits_between(table, first, last, self.wheels.buckets.has_due());
+        let counts = &mut self.counts;
+        counts.moves += moves;
+        counts.skipped += passed - visits;
+        passed
+    }
+}
 
 impl<N: Kept> Wheels<N> {
     /// Advances to the first tick at which something is due, by at most `most` ticks.

@@ -1,5 +1,5 @@
 use Rattle.std.proofs.Common.{sym, ◌∙◌}
-use Rattle.timer_wheels.proofs.hier_lemmas.MigrationLoop.{front_of, second_of, no_second_timer, never_none, second_timer_is, is_in_use}
+use Rattle.timer_wheels.proofs.hier_lemmas.MigrationLoop.{front_of, second_of, no_second_timer, second_timer_is, is_in_use}
 use Rattle.timer_wheels.proofs.walks.second_timer.Goals as goal
 
 pub next-requires : goal.next-requires
@@ -10,12 +10,11 @@ pub returns-in_err-key : goal.returns-in_err-key
 returns-in_err-key g c = c.from_residual-in_err-key.ensures ∙ no_second_timer c.args.list c.in_ok-first.first c.args.links.now.lists
     c.requires (sym c.in_ok-first.was ∙ c.front.ensures) c.next.result c.next.ensures c.in_err-key.was
 
-pub returns-in_err-node : goal.returns-in_err-node
-returns-in_err-node g c = absurd (never_none (second_of c.args.list c.in_ok-first.first c.args.links.now.lists c.requires
+pub node-requires : goal.node-requires
+node-requires g c = is_in_use (second_of c.args.list c.in_ok-first.first c.args.links.now.lists c.requires
     (sym c.in_ok-first.was ∙ c.front.ensures) c.next.result c.next.ensures c.in_ok-key.key c.lemma_keys_unique.ensures c.in_ok-key.was)
-    (sym c.in_err-node.was ∙ c.get.ensures))
 
 pub returns : goal.returns
 returns g c = second_timer_is c.args.list c.in_ok-first.first c.args.links.now.lists c.requires
     (sym c.in_ok-first.was ∙ c.front.ensures) c.next.result c.next.ensures c.in_ok-key.key c.lemma_keys_unique.ensures c.in_ok-key.was
-    c.in_ok-node.node (sym c.in_ok-node.was ∙ c.get.ensures)
+    c.node.result c.node.ensures

@@ -3,7 +3,7 @@ use Rattle.timer_base.specs.WakeUps.{IsQuietUntil}
 use Rattle.timer_wheels.specs.smooth.SmoothWheel.{smooth_state, smooth-well_formed}
 use Rattle.timer_wheels.specs.TieredWheel.{option_of}
 use Rattle.timer_wheels.proofs.TieredLemmas.{some_tick, wake_in_clock}
-use Rattle.timer_wheels.proofs.tiered.quiet_smooth.Goals as goal
+use Rattle.timer_wheels.proofs.tiered.smooth_calls.quiet_smooth.Goals as goal
 
 pub returns-in-Some-clause-quiet : goal.returns-in-Some-clause-quiet
 returns-in-Some-clause-quiet g c =

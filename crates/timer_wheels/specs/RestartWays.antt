@@ -1,0 +1,9 @@
+-- What becomes of a timer of a lazy wheel that is restarted for a deadline.
+use Rattle.std.specs.Prelude.{ℕ, ◌≡◌, ◌<◌, ◌≤◌, Some}
+use Rattle.timer_base.specs.declared.timer.Handle.{Handle}
+use Rattle.timer_base.specs.declared.timer.Timer.{Timer}
+use Rattle.timer_base.specs.WheelState.{WheelState, held_at}
+
+-- it is pending, and the deadline is not before its own
+abbrev pub IsStay : Handle → ℕ → WheelState → Type 0
+IsStay handle deadline state = (t : Timer) × (held_at handle state ≡ Some t) × (state.now < t.deadline) × (t.deadline ≤ deadline)
