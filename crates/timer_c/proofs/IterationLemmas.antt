@@ -10,7 +10,7 @@ use Rattle.timer_base.specs.WheelState.{WheelState, timer_at, held_at}
 use Rattle.timer_wheels.specs.HeldPlaces.{IsHeld, IsAlone}
 use Rattle.timer_c.specs.declared.layout.CHandle.{CHandle}
 use Rattle.timer_c.specs.declared.layout.Expired.{Expired}
-use Rattle.timer_c.specs.Outcomes.{base_handle, told, tell}
+use Rattle.timer_c.specs.Outcomes.{base_handle, told}
 use Rattle.timer_c.specs.Iteration.{Visit, AreVisits, IsOccupied, IsHeldThroughout, IsOccupiedThroughout, found_under, found_at}
 
 -- The entry of a held timer.

@@ -10,6 +10,7 @@ use Rattle.timer_total.specs.TimersState.{TimersState, Counting}
 use Rattle.timer_runs.specs.Runs.{Counters, Call, IsCall, Advanced, Kept}
 use Rattle.timer_ffi_base.specs.Cells.{is_open}
 use Rattle.timer_c.specs.declared.c_timers.CTimers.{CTimers}
+use Rattle.timer_c.specs.declared.layout.CHandle.{CHandle}
 use Rattle.timer_c.specs.declared.layout.Expired.{Expired}
 use Rattle.timer_c.specs.declared.status.TheConstants.{OK}
 
@@ -39,6 +40,14 @@ Does call old new = IsCall c_counters call (state_of old) (state_of new)
 -- by its status: it did so, or it was refused
 abbrev pub DoesIfOk : ℕ → Call → CTimers → CTimers → Type 0
 DoesIfOk status call old new = (status ≡ OK → Does call old new) × (0 < status → Does Kept old new)
+
+-- On open timers: the call of a run that this one is, if it returns `OK`. Else why it was refused; then nothing changed, and
+-- the handle was not written.
+pub record HasMade (call : Call) (why : TimersState → ℕ → Type 0) (status : ℕ) (before handle : CHandle)
+    (old new : TimersState) : Type 0 where
+  pub made : status ≡ OK → IsCall c_counters call old new
+  pub refused : 0 < status → why old status
+  pub kept : 0 < status → (new ≡ old) × (handle ≡ before)
 
 -- an advance up to this tick, and how many ticks it passed
 abbrev pub advance_to : ℕ → CTimers → CTimers → Call

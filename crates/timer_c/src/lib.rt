@@ -3,7 +3,8 @@
 //! C keeps a `struct timers` (`CTimers`), which owns the timers on the heap. A call requires nothing of C but
 //! the rules of that header; if it can't be done it returns a status that says why, and nothing changes.
 //!
-//!     exports      the functions that C calls: each checks the struct, if it takes one, and then does the call
+//!     exports, start_exports, clock_exports, read_exports
+//!                  the functions that C calls: each checks the struct, if it takes one, and then does the call
 //!     conversions  what timer_total takes and returns, as C's statuses and structs
 //!     laws         where a run of these calls (timer_runs) begins: no code
 //!     wheel_maker  C's wheel, and how one is made by C's number for its table
@@ -16,12 +17,15 @@
 #![tactic(auto)]
 
 mod c_timers;
+mod clock_exports;
 mod const_timers;
 mod conversions;
 mod exports;
 mod laws;
 mod layout;
 mod owned_cell;
+mod read_exports;
+mod start_exports;
 mod status;
 mod ways;
 mod wheel_maker;

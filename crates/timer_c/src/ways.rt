@@ -3,11 +3,12 @@
 //! Most starts find a node ready, and most restarts leave their timer where it stands. Such a call has no other call in it but as
 //! its end: so a compiler saves no registers for it, and its results are never in memory. A body stands in each way: what a
 //! compiler knows of the wheel there leaves of it what that way needs.
-ghost use Rattle.std.specs.Prelude.{◌≡◌, ◌<◌};
-ghost use Rattle.timer_c.specs.Calls.{c_counters};
+ghost use Rattle.std.specs.Prelude.{◌≡◌, None};
+ghost use Rattle.timer_base.specs.WheelState.{held_at};
+ghost use Rattle.timer_c.specs.Calls.{HasMade};
 ghost use Rattle.timer_c.specs.Outcomes.{IsStartRefusal, IsStartAtRefusal, IsRestartRefusal, IsRestartAtRefusal, IsSetRefusal, base_handle};
-ghost use Rattle.timer_c.specs.declared.status.TheConstants.{OK};
-ghost use Rattle.timer_runs.specs.Runs.{IsCall, Started, StartedAt, Restarted, RestartedAt, SetAt};
+ghost use Rattle.timer_runs.specs.Runs.{Started, StartedAt, Restarted, RestartedAt, SetAt};
+ghost use Rattle.timer_wheels.specs.RestartWays.{IsStay};
 
 use crate::conversions::{from_c_handle, restart_status, start_status, to_c_handle};
 use crate::layout::CHandle;
@@ -24,9 +25,8 @@ pub(crate) fn start(
     action: u64,
     handle: &mut CHandle,
 ) -> u32
-    ensures started { result ≡ OK → IsCall c_counters (Started interval action (base_handle handle.new)) timers.old timers.new }
-    ensures refused { 0 < result → IsStartRefusal interval timers.old result }
-    ensures kept { 0 < result → (timers.new ≡ timers.old) × (handle.new ≡ handle.old) }
+    ensures { HasMade (Started interval action (base_handle handle.new)) (IsStartRefusal interval)
+        result handle.old handle.new timers.old timers.new }
 {
     match timers.start(interval, action) {
         Ok(made) => {
@@ -45,9 +45,8 @@ pub(crate) fn start_apart(
     action: u64,
     handle: &mut CHandle,
 ) -> u32
-    ensures started { result ≡ OK → IsCall c_counters (Started interval action (base_handle handle.new)) timers.old timers.new }
-    ensures refused { 0 < result → IsStartRefusal interval timers.old result }
-    ensures kept { 0 < result → (timers.new ≡ timers.old) × (handle.new ≡ handle.old) }
+    ensures { HasMade (Started interval action (base_handle handle.new)) (IsStartRefusal interval)
+        result handle.old handle.new timers.old timers.new }
 {
     start(timers, interval, action, handle)
 }
@@ -60,9 +59,8 @@ pub(crate) fn start_at(
     action: u64,
     handle: &mut CHandle,
 ) -> u32
-    ensures started { result ≡ OK → IsCall c_counters (StartedAt deadline action (base_handle handle.new)) timers.old timers.new }
-    ensures refused { 0 < result → IsStartAtRefusal deadline timers.old result }
-    ensures kept { 0 < result → (timers.new ≡ timers.old) × (handle.new ≡ handle.old) }
+    ensures { HasMade (StartedAt deadline action (base_handle handle.new)) (IsStartAtRefusal deadline)
+        result handle.old handle.new timers.old timers.new }
 {
     match timers.start_at(deadline, action) {
         Ok(made) => {
@@ -81,9 +79,8 @@ pub(crate) fn start_at_apart(
     action: u64,
     handle: &mut CHandle,
 ) -> u32
-    ensures started { result ≡ OK → IsCall c_counters (StartedAt deadline action (base_handle handle.new)) timers.old timers.new }
-    ensures refused { 0 < result → IsStartAtRefusal deadline timers.old result }
-    ensures kept { 0 < result → (timers.new ≡ timers.old) × (handle.new ≡ handle.old) }
+    ensures { HasMade (StartedAt deadline action (base_handle handle.new)) (IsStartAtRefusal deadline)
+        result handle.old handle.new timers.old timers.new }
 {
     start_at(timers, deadline, action, handle)
 }
@@ -97,10 +94,8 @@ pub(crate) fn restart(
     action: u64,
     restarted: &mut CHandle,
 ) -> u32
-    ensures restarted { result ≡ OK → IsCall c_counters
-        (Restarted (base_handle handle) interval action (base_handle restarted.new)) timers.old timers.new }
-    ensures refused { 0 < result → IsRestartRefusal handle interval timers.old result }
-    ensures kept { 0 < result → (timers.new ≡ timers.old) × (restarted.new ≡ restarted.old) }
+    ensures { HasMade (Restarted (base_handle handle) interval action (base_handle restarted.new)) (IsRestartRefusal handle interval)
+        result restarted.old restarted.new timers.old timers.new }
 {
     match timers.restart(from_c_handle(handle), interval, action) {
         Ok(made) => {
@@ -120,10 +115,8 @@ pub(crate) fn restart_moved(
     action: u64,
     restarted: &mut CHandle,
 ) -> u32
-    ensures restarted { result ≡ OK → IsCall c_counters
-        (Restarted (base_handle handle) interval action (base_handle restarted.new)) timers.old timers.new }
-    ensures refused { 0 < result → IsRestartRefusal handle interval timers.old result }
-    ensures kept { 0 < result → (timers.new ≡ timers.old) × (restarted.new ≡ restarted.old) }
+    ensures { HasMade (Restarted (base_handle handle) interval action (base_handle restarted.new)) (IsRestartRefusal handle interval)
+        result restarted.old restarted.new timers.old timers.new }
 {
     let deadline = timers.now().wrapping_add(interval);
     match timers.wheel().way(from_c_handle(handle), deadline) {
@@ -141,10 +134,8 @@ pub(crate) fn restart_apart(
     action: u64,
     restarted: &mut CHandle,
 ) -> u32
-    ensures restarted { result ≡ OK → IsCall c_counters
-        (Restarted (base_handle handle) interval action (base_handle restarted.new)) timers.old timers.new }
-    ensures refused { 0 < result → IsRestartRefusal handle interval timers.old result }
-    ensures kept { 0 < result → (timers.new ≡ timers.old) × (restarted.new ≡ restarted.old) }
+    ensures { HasMade (Restarted (base_handle handle) interval action (base_handle restarted.new)) (IsRestartRefusal handle interval)
+        result restarted.old restarted.new timers.old timers.new }
 {
     restart(timers, handle, interval, action, restarted)
 }
@@ -158,10 +149,8 @@ pub(crate) fn restart_at(
     action: u64,
     restarted: &mut CHandle,
 ) -> u32
-    ensures restarted { result ≡ OK → IsCall c_counters
-        (RestartedAt (base_handle handle) deadline action (base_handle restarted.new)) timers.old timers.new }
-    ensures refused { 0 < result → IsRestartAtRefusal handle deadline timers.old result }
-    ensures kept { 0 < result → (timers.new ≡ timers.old) × (restarted.new ≡ restarted.old) }
+    ensures { HasMade (RestartedAt (base_handle handle) deadline action (base_handle restarted.new)) (IsRestartAtRefusal handle deadline)
+        result restarted.old restarted.new timers.old timers.new }
 {
     match timers.restart_at(from_c_handle(handle), deadline, action) {
         Ok(made) => {
@@ -181,10 +170,8 @@ pub(crate) fn restart_at_moved(
     action: u64,
     restarted: &mut CHandle,
 ) -> u32
-    ensures restarted { result ≡ OK → IsCall c_counters
-        (RestartedAt (base_handle handle) deadline action (base_handle restarted.new)) timers.old timers.new }
-    ensures refused { 0 < result → IsRestartAtRefusal handle deadline timers.old result }
-    ensures kept { 0 < result → (timers.new ≡ timers.old) × (restarted.new ≡ restarted.old) }
+    ensures { HasMade (RestartedAt (base_handle handle) deadline action (base_handle restarted.new)) (IsRestartAtRefusal handle deadline)
+        result restarted.old restarted.new timers.old timers.new }
 {
     match timers.wheel().way(from_c_handle(handle), deadline) {
         RestartWay::Moves => restart_at(timers, handle, deadline, action, restarted),
@@ -201,10 +188,8 @@ pub(crate) fn restart_at_apart(
     action: u64,
     restarted: &mut CHandle,
 ) -> u32
-    ensures restarted { result ≡ OK → IsCall c_counters
-        (RestartedAt (base_handle handle) deadline action (base_handle restarted.new)) timers.old timers.new }
-    ensures refused { 0 < result → IsRestartAtRefusal handle deadline timers.old result }
-    ensures kept { 0 < result → (timers.new ≡ timers.old) × (restarted.new ≡ restarted.old) }
+    ensures { HasMade (RestartedAt (base_handle handle) deadline action (base_handle restarted.new)) (IsRestartAtRefusal handle deadline)
+        result restarted.old restarted.new timers.old timers.new }
 {
     restart_at(timers, handle, deadline, action, restarted)
 }
@@ -217,15 +202,40 @@ pub(crate) fn set(
     deadline: u64,
     action: u64,
 ) -> u32
-    ensures set { result ≡ OK → IsCall c_counters
-        (SetAt (base_handle handle.old) deadline action (base_handle handle.new)) timers.old timers.new }
-    ensures refused { 0 < result → IsSetRefusal handle.old deadline timers.old result }
-    ensures kept { 0 < result → (timers.new ≡ timers.old) × (handle.new ≡ handle.old) }
+    ensures { HasMade (SetAt (base_handle handle.old) deadline action (base_handle handle.new)) (IsSetRefusal handle.old deadline)
+        result handle.old handle.new timers.old timers.new }
 {
     let old = from_c_handle(*handle);
     match timers.set_at(old, deadline, action) {
         Ok(made) => {
             // A timer that was there keeps its place, which a compiler sees: then the serial alone is written.
+            if made.place != old.place {
+                handle.place = made.place;
+            }
+            handle.serial = made.serial;
+            OK
+        }
+        Err(fault) => start_status(fault),
+    }
+}
+
+/// A set that leaves its timer where it stands.
+// Its deadline is later than now, as the old one is: so no body for one that has passed stands here.
+#[inline(always)]
+pub(crate) fn set_kept(
+    timers: &mut Timers<CWheel>,
+    handle: &mut CHandle,
+    deadline: u64,
+    action: u64,
+) -> u32
+    requires { IsStay (base_handle handle.old) deadline timers.old.wheel }
+    ensures { HasMade (SetAt (base_handle handle.old) deadline action (base_handle handle.new)) (IsSetRefusal handle.old deadline)
+        result handle.old handle.new timers.old timers.new }
+{
+    let old = from_c_handle(*handle);
+    match timers.set_later(old, deadline, action) {
+        Ok(made) => {
+            // The place is the same, which a compiler sees: then the serial alone is written.
             if made.place != old.place {
                 handle.place = made.place;
             }
@@ -244,10 +254,8 @@ pub(crate) fn set_moved(
     deadline: u64,
     action: u64,
 ) -> u32
-    ensures set { result ≡ OK → IsCall c_counters
-        (SetAt (base_handle handle.old) deadline action (base_handle handle.new)) timers.old timers.new }
-    ensures refused { 0 < result → IsSetRefusal handle.old deadline timers.old result }
-    ensures kept { 0 < result → (timers.new ≡ timers.old) × (handle.new ≡ handle.old) }
+    ensures { HasMade (SetAt (base_handle handle.old) deadline action (base_handle handle.new)) (IsSetRefusal handle.old deadline)
+        result handle.old handle.new timers.old timers.new }
 {
     match timers.wheel().way(from_c_handle(*handle), deadline) {
         RestartWay::Moves => set(timers, handle, deadline, action),
@@ -255,7 +263,7 @@ pub(crate) fn set_moved(
     }
 }
 
-/// A set that starts its timer where a node is ready, out of line.
+/// A set that starts its timer, out of line.
 #[inline(never)]
 pub(crate) fn set_started(
     timers: &mut Timers<CWheel>,
@@ -263,14 +271,30 @@ pub(crate) fn set_started(
     deadline: u64,
     action: u64,
 ) -> u32
-    ensures set { result ≡ OK → IsCall c_counters
-        (SetAt (base_handle handle.old) deadline action (base_handle handle.new)) timers.old timers.new }
-    ensures refused { 0 < result → IsSetRefusal handle.old deadline timers.old result }
-    ensures kept { 0 < result → (timers.new ≡ timers.old) × (handle.new ≡ handle.old) }
+    requires { held_at (base_handle handle.old) timers.old.wheel ≡ None }
+    ensures { HasMade (SetAt (base_handle handle.old) deadline action (base_handle handle.new)) (IsSetRefusal handle.old deadline)
+        result handle.old handle.new timers.old timers.new }
 {
-    match timers.wheel().way(from_c_handle(*handle), deadline) {
-        RestartWay::Starts => set(timers, handle, deadline, action),
-        _ => set_apart(timers, handle, deadline, action),
+    if !timers.wheel().is_ready() {
+        return set_apart(timers, handle, deadline, action);
+    }
+    set_new(timers, handle, deadline, action)
+}
+
+/// A set that starts its timer in any wheel.
+#[inline(always)]
+fn set_new(timers: &mut Timers<CWheel>, handle: &mut CHandle, deadline: u64, action: u64) -> u32
+    requires { held_at (base_handle handle.old) timers.old.wheel ≡ None }
+    ensures { HasMade (SetAt (base_handle handle.old) deadline action (base_handle handle.new)) (IsSetRefusal handle.old deadline)
+        result handle.old handle.new timers.old timers.new }
+{
+    let started = timers.start_at(deadline, action);
+    match started {
+        Ok(made) => {
+            *handle = to_c_handle(made);
+            OK
+        }
+        Err(fault) => start_status(fault),
     }
 }
 
@@ -282,10 +306,8 @@ pub(crate) fn set_apart(
     deadline: u64,
     action: u64,
 ) -> u32
-    ensures set { result ≡ OK → IsCall c_counters
-        (SetAt (base_handle handle.old) deadline action (base_handle handle.new)) timers.old timers.new }
-    ensures refused { 0 < result → IsSetRefusal handle.old deadline timers.old result }
-    ensures kept { 0 < result → (timers.new ≡ timers.old) × (handle.new ≡ handle.old) }
+    ensures { HasMade (SetAt (base_handle handle.old) deadline action (base_handle handle.new)) (IsSetRefusal handle.old deadline)
+        result handle.old handle.new timers.old timers.new }
 {
     set(timers, handle, deadline, action)
 }

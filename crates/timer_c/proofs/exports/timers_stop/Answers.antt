@@ -1,4 +1,4 @@
-use Rattle.std.proofs.Common.{◌≡◌, refl, sym, ap, arith}
+use Rattle.std.proofs.Common.{refl, sym, ap, arith}
 use Rattle.timer_c.specs.Calls.{state_of}
 use Rattle.timer_c.proofs.CallLemmas.{none_stopped}
 use Rattle.timer_c.proofs.exports.timers_stop.Goals as goal

@@ -3,7 +3,7 @@ use Rattle.timer_total.specs.TimersState.{TimersState}
 use Rattle.timer_wheels.specs.HeldPlaces.{IsAlone}
 use Rattle.timer_c.specs.Outcomes.{base_handle}
 use Rattle.timer_c.specs.declared.layout.CHandle.{CHandle}
-use Rattle.timer_c.proofs.exports.timers_each.Goals as goal
+use Rattle.timer_c.proofs.read_exports.timers_each.Goals as goal
 
 pub returns-clause-alone : goal.returns-clause-alone
 returns-clause-alone c = λ yes.

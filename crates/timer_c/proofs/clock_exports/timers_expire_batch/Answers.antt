@@ -3,7 +3,7 @@ use Rattle.std.specs.Prelude.{Some, slice_set}
 use Rattle.timer_base.specs.WheelState.{first_due}
 use Rattle.timer_c.specs.declared.layout.Expired.{Expired}
 use Rattle.timer_c.proofs.Batches.{AreTaken, taken_none, taken_next}
-use Rattle.timer_c.proofs.exports.timers_expire_batch.Goals as goal
+use Rattle.timer_c.proofs.clock_exports.timers_expire_batch.Goals as goal
 
 pub loop-count-init : goal.loop-count-init
 loop-count-init c = record { taken = taken_none c.args.out.now c.in-Some.timers.now }

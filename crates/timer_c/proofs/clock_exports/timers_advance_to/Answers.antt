@@ -4,7 +4,7 @@ use Rattle.timer_total.specs.Ticks.{IsAdvanced}
 use Rattle.timer_total.specs.TimersState.{TimersState}
 use Rattle.timer_c.proofs.CallLemmas.{advanced_to}
 use Rattle.timer_c.specs.Calls.{counts_kept}
-use Rattle.timer_c.proofs.exports.timers_advance_to.Goals as goal
+use Rattle.timer_c.proofs.clock_exports.timers_advance_to.Goals as goal
 
 pub returns-in-Ok-clause-call : goal.returns-in-Ok-clause-call
 returns-in-Ok-clause-call c =
