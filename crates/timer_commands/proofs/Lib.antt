@@ -1,6 +1,5 @@
 pub mod IndentedLemmas
 pub mod PictureLemmas
-mod MarkedLemmas
 mod VerbLemmas
 mod KeepingLemmas
 mod PlainLemmas

@@ -7,7 +7,7 @@ use Rattle.timer_links.specs.declared.kept.Node.{Node}
 use Rattle.timer_links.specs.Lists.{list_at, node_at, first_key, AreApart, KeyedLists, Row, Rows}
 use Rattle.timer_base.proofs.Basics.{some_same, some_none}
 use Rattle.timer_wheels.proofs.bucket_lemmas.WalkLemmas.{IsGathering, next_row, found}
-use Rattle.timer_commands.specs.declared.render.Naming.{Naming}
+use Rattle.timer_commands.specs.declared.render.names.Naming.{Naming}
 use Rattle.timer_commands.specs.declared.shows.Filter.{Filter}
 use Rattle.timer_commands.specs.Shows.{is_kept}
 use Rattle.timer_commands.specs.Pictures.{kept_rows, has_row, shows_rounds, rounds_text, node_text, rows_text, list_end, list_line, lines_below, visits_text}
@@ -16,10 +16,6 @@ use Rattle.timer_commands.specs.Pictures.{kept_rows, has_row, shows_rounds, roun
 
 pub then : (a b c x y : List ℕ) → b ≡ a ++ x → c ≡ b ++ y → c ≡ a ++ (x ++ y)
 then a b c x y f g = g ∙ ap (λ t. t ++ y) f ∙ append_assoc a x y
-
-pub then_ok : {E : Type 0} (result : Result Unit E) (a b c x y : List ℕ) → b ≡ a ++ x → OnOk result (c ≡ b ++ y)
-    → OnOk result (c ≡ a ++ (x ++ y))
-then_ok {E} result a b c x y f = on_ok_weaker result (then a b c x y f)
 
 -- ---- a timer
 

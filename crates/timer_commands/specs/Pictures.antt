@@ -5,8 +5,8 @@ use Rattle.timer_links.specs.declared.kept.Node.{Node}
 use Rattle.timer_links.specs.Lists.{list_at, KeyedLists, Rows}
 use Rattle.timer_wheels.specs.Digits.{lowest_radix}
 use Rattle.timer_wheels.specs.Tables.{radices}
-use Rattle.timer_commands.specs.declared.render.Naming.{Naming}
-use Rattle.timer_commands.specs.declared.render.Naming.TheVariants as namings
+use Rattle.timer_commands.specs.declared.render.names.Naming.{Naming}
+use Rattle.timer_commands.specs.declared.render.names.Naming.TheVariants as namings
 use Rattle.timer_commands.specs.declared.shows.Filter.{Filter}
 use Rattle.timer_commands.specs.Shows.{is_kept}
 

@@ -7,7 +7,7 @@ ghost use Rattle.std.specs.Prelude.{◌≡◌, IfOk};
 ghost use Rattle.timer_base.specs.declared.timer.Timer.{Timer};
 ghost use Rattle.timer_base.specs.WheelState.{empty_wheel};
 ghost use Rattle.timer_script.specs.Service.{AreGood};
-ghost use Rattle.timer_commands.specs.Options.{scheme_last, scheme_layout, config_of, IsPlayable};
+ghost use Rattle.timer_commands.specs.Options.{scheme_last, scheme_layout, config_of};
 ghost use Rattle.timer_commands.specs.Serving.{FitsOptions, HasGoneOn, HasResumed};
 
 use crate::ending::Ending;
@@ -41,34 +41,10 @@ pub fn resume<P: Peer, F: Write>(
         (record { peer = peer.old; faults = faults.old })
         (record { peer = peer.new; faults = faults.new }) result }
 {
-    match options.check() {
-        Ok(checked) => over_scheme(
-            alloc, options, checked, saved, on_bad, wakeups, peer, faults,
-        ),
-        Err(fault) => Err(Fault::Options(fault)),
-    }
-}
-
-/// Makes the wheel, and serves over it.
-fn over_scheme<P: Peer, F: Write>(
-    alloc: Global,
-    options: RunOptions,
-    checked: Checked,
-    saved: &SavedState,
-    on_bad: OnBadLine,
-    wakeups: bool,
-    peer: &mut P,
-    faults: &mut Watched<F>,
-) -> Result<Ending, Fault>
-    requires playable { IsPlayable options }
-    requires config { checked ≡ config_of options }
-    requires good { AreGood (P.state peer.old) }
-    requires fits { FitsOptions options saved.now }
-    ensures { HasGoneOn options saved.now
-        (record { on_bad = on_bad; wakeups = wakeups; state = P.state; reports = F.contents })
-        (record { peer = peer.old; faults = faults.old })
-        (record { peer = peer.new; faults = faults.new }) result }
-{
+    let checked = match options.check() {
+        Ok(checked) => checked,
+        Err(fault) => return Err(Fault::Options(fault)),
+    };
     let tick = saved.now();
     match options.scheme {
         Scheme::Plain => {

@@ -6,7 +6,7 @@ ghost use Rattle.timer_wheels.specs.hashed.HashedWheel.{slots_of};
 ghost use Rattle.timer_wheels.specs.hier.HierWheel.{table_of};
 ghost use Rattle.timer_wheels.specs.declared.table.Table.TheVariants as tables;
 ghost use Rattle.timer_commands.specs.declared.options.Scheme.TheVariants as schemes;
-ghost use Rattle.timer_commands.specs.Options.{scheme_last, scheme_layout, config_of, IsPlayable};
+ghost use Rattle.timer_commands.specs.Options.{scheme_last, scheme_layout, config_of};
 ghost use Rattle.timer_commands.specs.Serving.{FitsOptions};
 ghost use Rattle.timer_commands.specs.Subcommands.{opened_by, HasDone, HasRunNew, HasRunVerb};
 ghost use Rattle.timer_script.specs.Watched.{has_failed};
@@ -80,7 +80,7 @@ pub fn run_verb<R: Read, S: Write, F: Write>(
     }
 }
 
-/// Does what the verb says over a new wheel of the scheme that the options name.
+/// Makes a wheel of the scheme that the options name, and does what the verb says over it.
 fn run_new<R: Read, S: Write, F: Write>(
     alloc: Global,
     verb: Verb,
@@ -95,30 +95,10 @@ fn run_new<R: Read, S: Write, F: Write>(
         (record { streams = streams.old; faults = faults.old })
         (record { streams = streams.new; faults = faults.new }) result }
 {
-    match options.check() {
-        Ok(checked) => over_scheme(alloc, verb, options, checked, streams, faults),
-        Err(fault) => Err(Fault::Options(fault)),
-    }
-}
-
-/// Makes the wheel, and does what the verb says over it.
-fn over_scheme<R: Read, S: Write, F: Write>(
-    alloc: Global,
-    verb: Verb,
-    options: RunOptions,
-    checked: Checked,
-    streams: &mut Streams<R, S>,
-    faults: &mut Watched<F>,
-) -> Result<Ending, Fault>
-    requires playable { IsPlayable options }
-    requires config { checked ≡ config_of options }
-    requires reader_good { has_failed streams.old.reader ≡ false }
-    requires writer_good { has_failed streams.old.writer ≡ false }
-    ensures { HasDone verb (opened_by options)
-        (record { remaining = R.remaining; contents = S.contents; reports = F.contents })
-        (record { streams = streams.old; faults = faults.old })
-        (record { streams = streams.new; faults = faults.new }) result }
-{
+    let checked = match options.check() {
+        Ok(checked) => checked,
+        Err(fault) => return Err(Fault::Options(fault)),
+    };
     let first_tick = options.first_tick;
     match options.scheme {
         Scheme::Plain => {

@@ -15,7 +15,7 @@ use Rattle.timer_facility.specs.Facility.{FacilityView, view_after, NoRoomToClos
 use Rattle.timer_facility.specs.HandedOver.{HandsOver}
 use Rattle.timer_facility.specs.Ticked.{ticks, AreTicked}
 use Rattle.timer_facility.specs.Owed.{timer_handed}
-use Rattle.timer_facility.proofs.NoticeLists.{notices_in-append}
+use Rattle.timer_facility.proofs.TimerLists.{notices_in-append}
 use Rattle.timer_facility.proofs.PlayedTicks.{are_accepted, length-many}
 use Rattle.timer_facility.proofs.HandedOverLemmas.{hands_over_tick, hands_over_close}
 use Rattle.timer_desk.specs.declared.report.Served.TheVariants.{Idle, NoRoom, NoMemory, Did}

@@ -142,8 +142,8 @@ IsReadToEnd l = (is_ended_line l ≡ true) × (unread_on l ≡ [])
 abbrev pub MayReceive : Line → Type 0
 MayReceive l = (is_ended_line l ≡ false) ⊎ (0 < length (unread_on l))
 
--- The requests have ended, and what was found of the owner's end stays. Afterwards the line has no ring of requests if the owner's end was freed, by the ring's
--- answer. Otherwise everything that was submitted is known.
+-- The requests have ended, and what was found of the owner's end stays. Afterwards the line has no ring of requests if the
+-- owner's end was freed, by the ring's answer. Otherwise everything that was submitted is known.
 abbrev pub HasFinished : Line → Line → Type 0
 HasFinished old new =
     (is_open_line old ≡ true) × (is_open_line new ≡ false) × (is_ended_line new ≡ false)

@@ -4,7 +4,8 @@
 //! the heap, and for each client a `struct timers_line` (`CLine`), which owns the client's end. Each
 //! struct is used by one thread at a time; they share nothing but the rings.
 //!
-//!     desk_exports   the owner's calls: each tests whether a desk is held, and passes the call on
+//!     desk_exports, desk_line_exports, desk_read_exports
+//!                    the owner's calls: each tests whether a desk is held, and passes the call on
 //!     line_exports   a client's calls, the same for its line
 //!     rounds, stopping, ending, opening
 //!                    what they do to a desk, with C's statuses
@@ -21,7 +22,9 @@ mod c_structs;
 mod const_structs;
 mod desk_cell;
 mod desk_exports;
+mod desk_line_exports;
 mod desk_maker;
+mod desk_read_exports;
 mod ending;
 mod layout;
 mod line;

@@ -50,20 +50,3 @@ counted_more start a b = omega (arith, lines_in-append a b)
 -- a count that is not at its greatest value is exact
 pub counted_all : (start count : ℕ) (text : List ℕ) → count ≡ counted start text → count ≤ LAST → count ≡ start + lines_in text
 counted_all start count text is small = omega arith
-
-pub unseen_more : (start seen answers : ℕ) (before text : List ℕ) → seen < 2 ^ 64 → answers ≡ counted start before
-    → after_lines (seen - start) (before ++ text) ≡ after_lines (seen - start) before ++ after_lines (seen - answers) text
-unseen_more start seen answers before text fits is =
-    let same : (seen - start) - lines_in before ≡ seen - answers = omega arith in
-    after_lines-append (seen - start) before text ∙ ap (λ k. after_lines (seen - start) before ++ after_lines k text) same
-
-pub fault_why : (seen : Option ℕ) (before : ℕ) (so_far : Beginning) (fault : KeepFault) → IsFaultInSeen seen before so_far.answers fault
-    → WhyNotGreeted seen before so_far fault
-fault_why seen before so_far (faults.AnswersGone n) why = why
-fault_why seen before so_far (faults.FewAnswers n) why = why
-fault_why seen before so_far (faults.Journal fault) why = absurd why
-fault_why seen before so_far faults.TooMany why = absurd why
-fault_why seen before so_far faults.LongLine why = absurd why
-fault_why seen before so_far faults.Read why = absurd why
-fault_why seen before so_far faults.Write why = absurd why
-fault_why seen before so_far faults.Unwanted why = absurd why

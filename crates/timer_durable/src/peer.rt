@@ -22,21 +22,21 @@ ghost use Rattle.timer_journal.specs.Format.{groups_of};
 ghost use Rattle.timer_journal.specs.Journal.{IsBeforeOrAfter, IsBeforeOrAnew, text_of};
 ghost use Rattle.timer_durable.specs.Answers.{answers_in, counted as counted_on, answered, begun_in, unseen_of, greeting_of, IsSeenWithin};
 ghost use Rattle.timer_durable.specs.Beginning.{preamble_of, IsCounted};
-ghost use Rattle.timer_durable.specs.Durable.{AtFirst, origin_of, state_over, came_since, last_told, totals_of, IsCounting, IsWanted, IsReplaying, HasReplayed, HasReadOn, HasGreeted, IsAtEnd-prop, HasNoFeed-prop, IsReplaying-prop, HasReplayed-prop};
+ghost use Rattle.timer_durable.specs.Durable.{AtFirst, origin_of, state_over, came_since, last_told, totals_of, IsCounting, IsWanted, IsReplaying, HasReplayed, HasGreeted, IsAtEnd-prop, HasNoFeed-prop, IsReplaying-prop, HasReplayed-prop};
 
 mod answering;
+mod fetching;
 mod giving;
 mod snapshot;
 
 use crate::beginning::{Beginning, Kept};
-use crate::bytes::read_lines;
 use crate::calls::{Calls, First};
 use crate::fault::KeepFault;
 use crate::pieces::send;
-use crate::replay::{counted, counted_if, greeting};
+use crate::replay::{counted, greeting};
 use std::alloc::Global;
 use std::io;
-use timer_journal::{Device, Journal, JournalFault};
+use timer_journal::{Device, Journal};
 use timer_script::Peer;
 
 /// How a journal is kept, and what its caller has seen.
@@ -95,7 +95,8 @@ pub struct JournaledPeer<P: Peer, D: Device + Drop> {
     /// The journal says its options, what came before its beginning and the state there. Behind that are the lines that
     /// came since, and those that are to be given, but for a last line without its end.
     ghost kept: { journal.is_dead ≡ false → text_of (D.seen journal.device) ++ take told front.items
-        ≡ preamble_of keeping.options.items beginning (last_told states.so_far) ++ (came_since calls.so_far ++ drop given lines.items) } by { Prim.hlevel props },
+        ≡ preamble_of keeping.options.items beginning (last_told states.so_far)
+        ++ (came_since calls.so_far ++ drop given lines.items) } by { Prim.hlevel props },
     /// Once the lines that were recovered are played, counts are kept for snapshots alone.
     ghost lines_are: { IsCounting is_live keeping.every → so_far.lines ≡ counted_on start.lines (came_of calls.so_far ++ drop given lines.items) },
     ghost answers_are: { IsCounting is_live keeping.every → so_far.answers ≡ answered start.answers (gone_of calls.so_far) },
@@ -182,59 +183,6 @@ impl<P: Peer, D: Device + Drop> JournaledPeer<P, D> {
         ensures journal { result.1 ≡ self.journal }
     {
         (self.peer, self.journal)
-    }
-
-    /// Adds the first bytes of the front to the journal. Then they are to be given.
-    fn keep(&mut self, len: usize) -> Result<(), KeepFault>
-        requires live { self.old.is_live ≡ true }
-        requires given { drop self.old.given self.old.lines.items ≡ [] }
-        requires early { self.old.has_ended ≡ false }
-        requires within { len ≤ length self.old.front.items }
-        ensures bytes { drop self.new.given self.new.lines.items ++ self.new.front.items ≡ self.old.front.items }
-        ensures due { OnOk result (drop self.new.given self.new.lines.items ≡ take len self.old.front.items) }
-        ensures early { self.new.has_ended ≡ false }
-        ensures same { (self.new.peer ≡ self.old.peer) × (self.new.is_live ≡ self.old.is_live) × (self.new.unseen ≡ self.old.unseen)
-            × (self.new.keeping ≡ self.old.keeping) × (self.new.start ≡ self.old.start) × (self.new.beginning ≡ self.old.beginning)
-            × (self.new.calls ≡ self.old.calls) × (self.new.read_failed ≡ self.old.read_failed)
-            × (self.new.write_failed ≡ self.old.write_failed) × (self.new.first ≡ self.old.first) }
-        ensures crash { self.old.journal.is_dead ≡ false → LeavesOnly D.moment D.left_since self.old.journal.device
-            self.new.journal.device (IsBeforeOrAfter (groups_of (D.seen self.old.journal.device)) (take len self.old.front.items)) }
-    {
-        let lines = Vec::from_slice(self.alloc, &self.front[..len])?;
-        let front = Vec::from_slice(self.alloc, &self.front[len..])?;
-        self.journal.append(self.alloc, &lines)?;
-        self.so_far.lines = counted_if(self.keeping.every, self.so_far.lines, &lines);
-        self.lines = lines;
-        self.given = 0;
-        self.front = front;
-        Ok(())
-    }
-
-    /// Reads the next lines, and adds them to the journal. At the end of the stream there may be none.
-    fn fetch(&mut self, piece: &mut [u8]) -> Result<(), KeepFault>
-        requires live { self.old.is_live ≡ true }
-        requires given { drop self.old.given self.old.lines.items ≡ [] }
-        requires early { self.old.has_ended ≡ false }
-        requires room { 0 < length piece.old }
-        ensures bytes { HasReadOn (P.state self.old.peer) self.old.front.items (P.state self.new.peer)
-            (drop self.new.given self.new.lines.items ++ drop self.new.told self.new.front.items) }
-        ensures ready { OnOk result (drop self.new.given self.new.lines.items ≡ [] → self.new.has_ended ≡ true) }
-        ensures same { (self.new.is_live ≡ self.old.is_live) × (self.new.unseen ≡ self.old.unseen)
-            × (self.new.keeping ≡ self.old.keeping) × (self.new.start ≡ self.old.start) × (self.new.beginning ≡ self.old.beginning)
-            × (self.new.calls ≡ self.old.calls) × (self.new.read_failed ≡ self.old.read_failed)
-            × (self.new.write_failed ≡ self.old.write_failed) × (self.new.first ≡ self.old.first) }
-        ensures crash { self.old.journal.is_dead ≡ false → (lines : List ℕ) × LeavesOnly D.moment D.left_since
-            self.old.journal.device self.new.journal.device (IsBeforeOrAfter (groups_of (D.seen self.old.journal.device)) lines) }
-    {
-        if self.journal.is_dead() {
-            return Err(KeepFault::Journal(JournalFault::Dead));
-        }
-        let len = read_lines(&mut self.peer, piece, &mut self.front)?;
-        if len == 0 {
-            self.has_ended = true;
-            return Ok(());
-        }
-        self.keep(len)
     }
 
     /// Tells the peer what was recovered, and the answers that it has not seen, unless that was done. From then on it is
@@ -395,8 +343,8 @@ impl<P: Peer, D: Device + Drop> Peer for JournaledPeer<P, D> {
     }
 
     fn keep_state(&mut self, text: &[u8]) -> io::Result<()>
-        ensures keeps { KeepsState (state_over (drop self.old.given self.old.lines.items) (drop self.old.told self.old.front.items) (P.state self.old.peer)
-            self.old.calls.so_far self.old.read_failed self.old.write_failed
+        ensures keeps { KeepsState (state_over (drop self.old.given self.old.lines.items) (drop self.old.told self.old.front.items)
+            (P.state self.old.peer) self.old.calls.so_far self.old.read_failed self.old.write_failed
             (origin_of self.old.start self.old.keeping.seen self.old.first.at))
             result text.now
             (state_over (drop self.new.given self.new.lines.items) (drop self.new.told self.new.front.items) (P.state self.new.peer)

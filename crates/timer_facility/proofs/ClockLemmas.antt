@@ -1,6 +1,6 @@
 -- The clock after events, and the clients that there are not.
-use Rattle.std.proofs.Common.{◌≡◌, ◌≤◌, ◌+◌, ℕ, Bool, true, false, ◌==◌, List, [], ◌∷◌, length, inl, inr, refl, sym, ap, subst, arith}
-use Rattle.std.specs.Prelude.{if◌then◌else◌, Option, Some, None}
+use Rattle.std.proofs.Common.{◌≡◌, ◌≤◌, ◌+◌, ℕ, Bool, true, false, ◌==◌, List, [], ◌∷◌, length, inl, inr, refl, sym, ap, subst, arith, ◌<◌, zero, suc, not, ◌∙◌}
+use Rattle.std.specs.Prelude.{if◌then◌else◌, Option, Some, None, map, filter}
 use Rattle.std.proofs.lemmas.Bool.Decides.{nat_tests}
 use Rattle.std.proofs.lemmas.List.{length-set}
 use Rattle.timer_base.proofs.Basics.{either}
@@ -9,13 +9,19 @@ use Rattle.timer_facility.specs.declared.request.NotTaken.TheVariants as NotTake
 use Rattle.timer_facility.specs.State.{FacilityState, count_of, pending_of, ModelRequest, SingleEvent, Asked, Tick, Dump}
 use Rattle.timer_facility.specs.Verdict.{tick_refusal}
 use Rattle.timer_facility.specs.Step.{StepResult, with_number, timer_stopped, timer_started, after_request, expired_next, step, step_of_tick}
-use Rattle.timer_facility.specs.Run.{PlacedEvent, history, state_after}
+use Rattle.timer_facility.specs.Run.{PlacedEvent, history, state_after, notices, notices_in, outs_of}
 use Rattle.timer_facility.specs.Owed.{accepted_ticks, ticks_by}
 use Rattle.timer_facility.specs.HandedOver.{timers_handed}
 use Rattle.timer_facility.proofs.VerdictLemmas.{not_taken-closed, not_taken-no_client}
 use Rattle.timer_facility.proofs.StepLemmas.{by_verdict, step-not_taken}
 use Rattle.timer_facility.proofs.HandedOverLemmas.{adds_at_most_one, hands_over_tick}
-use Rattle.timer_facility.proofs.NoticeLists.{refusal-map}
+use Rattle.timer_facility.proofs.TimerLists.{refusal-map, notices_in-append, timers_of-filter}
+use Rattle.std.specs.List.{AllByRecursion}
+use Rattle.timer_base.proofs.OrderLaws.{All-filter, All-weaken}
+use Rattle.timer_base.specs.Pending.{Entry, timers_of, is_due_at}
+use Rattle.timer_base.proofs.TickLaws.{due_none}
+use Rattle.timer_facility.specs.declared.event.Out.TheVariants as Outs
+use Rattle.timer_facility.specs.Ticked.{ticks}
 
 -- the tick and the number of clients are the same
 record IsSameClock (s t : FacilityState) : Type 0 where
@@ -115,3 +121,36 @@ none_run s c (p ∷ ps) h = none_run (step s p.event p.place).state c ps (none_s
 pub pending_no_client : (s : FacilityState) (ps : List PlacedEvent) (client : ℕ) → length s.numbers ≤ client → pending_of s client ≡ 0
     → pending_of (state_after s ps) client ≡ 0
 pending_no_client s ps client l h = (none_run s client ps (record { no_client = l; none = h })).none
+
+-- Before the tick to wake up at, nothing is handed out.
+
+-- each of these timers has its deadline at the tick or after it
+abbrev AreFrom : ℕ → List Entry → Type 0
+AreFrom tick es = AllByRecursion (λ entry. tick ≤ entry.timer.deadline) es
+
+none_due : (tick n : ℕ) (es : List Entry) → AreFrom tick es → n < tick → filter (is_due_at n) (timers_of es) ≡ []
+none_due tick n es a h = sym (timers_of-filter (is_due_at n) es)
+    ∙ ap timers_of (due_none n es (All-weaken (λ e. tick ≤ e.timer.deadline) _ es (λ e from. omega (arith, from, h)) a))
+
+-- a tick that hands nothing out, and leaves nothing to hand out before the tick
+record IsQuiet (tick n : ℕ) (st : StepResult) : Type 0 where
+  none : notices_in st.outs ≡ []
+  from : AreFrom tick st.state.pending
+  before : st.state.now + n < tick
+
+quiet_tick : (tick n : ℕ) (s : FacilityState) (v : Option TickFault) → AreFrom tick s.pending → s.now + suc n < tick
+    → IsQuiet tick n (step_of_tick s v)
+quiet_tick tick n s (Some fault) a h = record { none = refl; from = a; before = omega arith }
+quiet_tick tick n s None a h = record {
+  none = ap (λ ts. notices_in (map (λ t. Outs.Notice (Expired t)) ts)) (none_due tick (s.now + 1) s.pending a (omega arith));
+  from = All-filter (λ e. tick ≤ e.timer.deadline) _ (λ e. not (is_due_at (s.now + 1) e.timer)) s.pending (λ e _ l. l) a;
+  before = omega arith;
+}
+
+pub quiet_ticks : (tick n : ℕ) (s : FacilityState) → AreFrom tick s.pending → s.now + n < tick → notices (history s (ticks n)) ≡ []
+quiet_ticks tick zero s a h = refl
+quiet_ticks tick (suc n) s a h =
+    let st : StepResult = step_of_tick s (tick_refusal s) in
+    let q : IsQuiet tick n st = quiet_tick tick n s (tick_refusal s) a h in
+    let rest : notices (history st.state (ticks n)) ≡ [] = quiet_ticks tick n st.state q.from q.before in
+    rw (notices_in-append st.outs (outs_of (history st.state (ticks n))), q.none) rest

@@ -19,8 +19,7 @@ use Rattle.timer_facility.specs.Run.{notices_in}
 use Rattle.timer_facility.specs.Config.{IsInRange}
 use Rattle.timer_facility.specs.Facility.{FacilityView, Fields, view_of, kept_in, AreCounted, IsFacility, view_after, with_nothing_waiting, with_expiries, place_in, IsAnswered}
 use Rattle.timer_facility.proofs.FacilityCounts.{count-append, count-kept, count-put, count-tick, count-without, count-front, counted-none, counted-as, counted-more, counted-less, IsCounted, is_counted, count_in_range}
-use Rattle.timer_facility.proofs.TimerLists.{first_timer-among, timers_of-filter, of_client_some, length-put}
-use Rattle.timer_facility.proofs.NoticeLists.{notices_in-map}
+use Rattle.timer_facility.proofs.TimerLists.{first_timer-among, timers_of-filter, of_client_some, length-put, notices_in-map}
 use Rattle.timer_facility.proofs.VerdictLemmas.{timely, ticking}
 
 -- The state of the fields.

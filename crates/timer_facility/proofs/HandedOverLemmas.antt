@@ -13,8 +13,7 @@ use Rattle.timer_facility.specs.Run.{notices_in}
 use Rattle.timer_facility.specs.Owed.{timer_handed}
 use Rattle.timer_facility.specs.HandedOver.{timers_handed, AddsAtMostOne, HandsOver}
 use Rattle.timer_facility.proofs.FacilityCounts.{count-put, count-tick}
-use Rattle.timer_facility.proofs.TimerLists.{length-parts, timers_of-filter, length-put}
-use Rattle.timer_facility.proofs.NoticeLists.{notices_in-map}
+use Rattle.timer_facility.proofs.TimerLists.{length-parts, timers_of-filter, length-put, notices_in-map}
 use Rattle.timer_facility.proofs.StepLemmas.{by_verdict, started-new}
 
 -- Notices.

@@ -2,7 +2,6 @@ pub mod PlayedTicks
 pub mod PlayedLemmas
 pub mod HandlesLemmas
 pub mod HandlesSwept
-pub mod HandlesFound
 pub mod FacilityCounts
 pub mod HandedOverLemmas
 pub mod ClockLemmas
@@ -13,13 +12,9 @@ pub mod OwedKeeps
 pub mod OwedLemmas
 pub mod RunBare
 pub mod OwedOnce
-pub mod OwedAtLeastOnce
-pub mod RefusedLemmas
 pub mod StepLemmas
 pub mod FacilityFields
 pub mod TickedLemmas
-pub mod WakeUpLemmas
-pub mod NoticeLists
 pub mod SerialOrder
 pub mod StateLines
 pub mod NextLines

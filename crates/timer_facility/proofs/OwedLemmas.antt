@@ -15,10 +15,9 @@ use Rattle.timer_facility.specs.Verdict.{tick_refusal}
 use Rattle.timer_facility.specs.Step.{StepResult, timer_stopped, expiries, timer_started, handle_of, answer_to, answered, due_at_start, with_timer, after_request, expired_next, step, step_of_tick, step_of_close}
 use Rattle.timer_facility.specs.Run.{PlacedEvent, history, state_after, notices, notices_in, outs_of}
 use Rattle.timer_facility.specs.Owed.{owed, started, accepted_starts, timers_in_order, timer_answered}
-use Rattle.timer_facility.proofs.TimerLists.{or_false, timers_in_order-ordered}
+use Rattle.timer_facility.proofs.TimerLists.{or_false, timers_in_order-ordered, notices_in-map, timers_in-map, serials_told-map, closing-map, refusal-map, notices_in-append, notices_in-dumped, serials_told-dumped, closing-dumped}
 use Rattle.timer_facility.proofs.VerdictLemmas.{takable, ticking}
 use Rattle.timer_facility.proofs.StepLemmas.{by_verdict, stopped-among, IsNew, started-new, started-not_past, due_when_later, due_when_now}
-use Rattle.timer_facility.proofs.NoticeLists.{notices_in-map, timers_in-map, serials_told-map, closing-map, refusal-map, notices_in-append, notices_in-dumped, serials_told-dumped, closing-dumped}
 use Rattle.timer_facility.proofs.OwedFold.{Reading, nothing_read, read_one, reading, and_then, then_nothing, nothing_then, then_then, reading_is, all_started, is_owed_at, is_left_at, owed_at_ticks, owed_is}
 use Rattle.timer_facility.proofs.OwedKeeps.{Keeps, not_closed, not_owed, with_started, keeps-start, keeps-start_now, keeps-stop, keeps-tick, keeps-close, keeps-numbered}
 

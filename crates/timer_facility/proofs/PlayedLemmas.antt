@@ -1,23 +1,22 @@
 -- Runs that go on, and the outs of a close.
-use Rattle.std.proofs.Common.{◌≡◌, ℕ, Bool, true, false, List, [], ◌∷◌, ◌++◌, ◌-◌, ◌≤◌, length, refl, sym, ◌∙◌, ap, subst, arith, append-nil, append_assoc, inl, inr}
-use Rattle.std.specs.Prelude.{map, nat_lt, Option, Some, None, ◌⊎◌, Result, Ok, Err, OnErr, OnOk}
+use Rattle.std.proofs.Common.{◌≡◌, ℕ, Bool, true, false, List, [], ◌∷◌, ◌++◌, ◌-◌, length, refl, sym, ◌∙◌, ap, subst, append-nil, append_assoc, inl, inr}
+use Rattle.std.specs.Prelude.{map, Some, None, ◌⊎◌, Result, Ok, Err, OnErr, OnOk}
 use Rattle.std.proofs.lemmas.List.{length-map}
-use Rattle.timer_base.proofs.Basics.{either}
 use Rattle.timer_base.specs.Pending.{timers_of, timer_of}
-use Rattle.timer_facility.specs.Types.{Timer, Handle, Request, NotTaken, Event, Out, Answer, Expired, Returned}
+use Rattle.timer_facility.specs.Types.{Handle, Request, NotTaken, Event, Out, Answer, Returned}
 use Rattle.timer_facility.specs.declared.request.NotTaken.TheVariants as NotTakens
 use Rattle.timer_facility.specs.declared.event.Event.TheVariants as Events
 use Rattle.timer_facility.specs.declared.request.Request.TheVariants as Requests
 use Rattle.timer_facility.specs.Handles.{HandleList, AreRecorded}
 use Rattle.timer_facility.proofs.HandlesLemmas.{IsHandleOf, named-recorded}
-use Rattle.timer_facility.proofs.NoticeLists.{outs-notices, length-notices}
-use Rattle.timer_facility.proofs.StepLemmas.{by_verdict, step-not_taken, step-stop, step-restart}
+use Rattle.timer_facility.proofs.TimerLists.{outs-notices, length-notices}
+use Rattle.timer_facility.proofs.StepLemmas.{step-not_taken, step-stop, step-restart}
 use Rattle.timer_facility.proofs.OwedLemmas.{notices_take}
 use Rattle.timer_facility.specs.declared.event.Out.TheVariants as Outs
 use Rattle.timer_facility.specs.State.{FacilityState, IsSound, Deadline, After, At, tested_interval, ByHandle, BySerial, Start, Stop, Restart, SingleEvent, Asked, Close}
 use Rattle.timer_facility.specs.Verdict.{not_taken, first_refusal, name_refusal, interval_refusal}
-use Rattle.timer_facility.specs.Step.{StepResult, timer_started, due_at_start, step, step_of_close}
-use Rattle.timer_facility.specs.Run.{PlacedEvent, history, state_after, outs_of, run, notices_in}
+use Rattle.timer_facility.specs.Step.{StepResult, step, step_of_close}
+use Rattle.timer_facility.specs.Run.{PlacedEvent, history, state_after, outs_of, run}
 use Rattle.timer_facility.specs.Facility.{FacilityView, view_after, model_of, event_of_request, notice_outs, place_in, IsTaken, IsNotTaken, MakesTimer, WhyNotTaken}
 use Rattle.timer_facility.specs.Played.{singles_of, ArePlaced, IsRun, IsPlayed, MakesStep, AddsRun}
 
@@ -148,14 +147,6 @@ pub IsRun-to : {s : FacilityState} (tick : ℕ) {outs : List Out} {after : Facil
     → IsRun s (Events.Ticks (tick - s.now) ∷ []) outs after → IsRun s (Events.TicksTo tick ∷ []) outs after
 IsRun-to tick h = record { placed = h.placed; singles = h.singles; outs_are = h.outs_are; after_is = h.after_is }
 
-pub AddsRun-to : {s : FacilityState} (tick : ℕ) {before outs : List Out} {after : FacilityState}
-    → AddsRun s (Events.Ticks (tick - s.now)) before outs after → AddsRun s (Events.TicksTo tick) before outs after
-AddsRun-to tick h = record {
-  more = h.more;
-  appended = h.appended;
-  runs = IsRun-to tick h.runs;
-}
-
 -- what follows from what holds of an error
 pub unless_done : {T E P Q : Type 0} (result : Result T E) → (P → Q) → OnErr result P → OnErr result Q
 unless_done (Ok x) f h = h
@@ -190,35 +181,6 @@ MakesStep-taken {s} {t} {client} {number} {request} {answer} {new} same h quiet 
       appended = sym (h.answered ∙ ap (λ ns. Outs.Answered client number answer ∷ notice_outs ns) quiet);
       left = ap (λ (v : FacilityView). v.state) h.left;
     })
-
--- the same of one after which timers may wait, once they are handed out
-pub MakesStep-handed : {s t : FacilityState} {client number : ℕ} {request : Request} {answer : Answer} {new : FacilityView}
-    (before : List Out) {outs : List Out} {after : FacilityState} → s ≡ t → IsTaken s client number request answer new
-    → outs ≡ (before ++ Outs.Answered client number answer ∷ []) ++ notice_outs new.waiting → after ≡ new.state
-    → MakesStep t (event_of_request client number request) before outs after
-MakesStep-handed {s} {t} {client} {number} {request} {answer} {new} before {outs} {after} same h added left =
-    subst (λ u. MakesStep u (event_of_request client number request) before outs after) same (record {
-      place = place_in answer;
-      appended = added ∙ append_assoc before (Outs.Answered client number answer ∷ []) (notice_outs new.waiting)
-          ∙ ap (λ os. before ++ os) (sym h.answered);
-      left = left ∙ ap (λ (v : FacilityView). v.state) h.left;
-    })
-
-due_few : (s : FacilityState) (new : Option Timer) → length (due_at_start s new) ≤ 1
-due_few s None = omega arith
-due_few s (Some t) = elim (either (nat_lt s.now t.deadline)) [ inl h ↦ rw h (omega arith) | inr h ↦ rw h (omega arith) ]
-
--- at most one timer waits after a request: the one that it starts
-pub few_wait : {s : FacilityState} {client number : ℕ} {request : Request} {answer : Answer} {new : FacilityView}
-    → IsTaken s client number request answer new → length new.waiting ≤ 1
-few_wait {s} {client} {number} {request} {answer} h =
-    subst (λ (v : FacilityView). length v.waiting ≤ 1) (sym h.left)
-    (by_verdict (λ (st : StepResult). length (notices_in st.outs) ≤ 1) s client number (model_of request) (place_in answer)
-    (λ reason. omega arith)
-    (λ reason taken. omega arith)
-    (λ taken ok.
-    let due : List Timer = due_at_start s (timer_started s client number (model_of request)) in
-    omega (arith, length-notices (λ t. Expired t) due, due_few s (timer_started s client number (model_of request)))))
 
 -- and of one that is not taken, for another reason than memory
 pub MakesStep-not_taken : {old new : FacilityView} {t : FacilityState} {client number : ℕ} {request : Request} {reason : NotTaken}

@@ -14,8 +14,7 @@ use Rattle.timer_facility.specs.Step.{StepResult, step, step_of_tick, accepted, 
 use Rattle.timer_facility.specs.Run.{PlacedEvent, history, state_after, outs_of, notices, notices_in}
 use Rattle.timer_facility.specs.Facility.{FacilityView}
 use Rattle.timer_facility.proofs.PlayedLemmas.{outs_of-append, state_after-append}
-use Rattle.timer_facility.proofs.TimerLists.{length-parts}
-use Rattle.timer_facility.proofs.NoticeLists.{length-notices, notices_in-append, outs-notices}
+use Rattle.timer_facility.proofs.TimerLists.{length-parts, length-notices, notices_in-append, outs-notices}
 use Rattle.timer_facility.proofs.VerdictLemmas.{IsTicking, ticking, tick_refusal-none}
 use Rattle.timer_facility.specs.Played.{ticks_left, AddsRun}
 use Rattle.timer_facility.specs.Ticked.{a_tick, ticks, AreTicked}

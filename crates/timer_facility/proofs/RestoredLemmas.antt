@@ -15,7 +15,7 @@ use Rattle.timer_base.specs.WheelState.{WheelState, after_held_start}
 use Rattle.timer_facility.specs.Types.{LAST, Timer, Handle, Config, Limits}
 use Rattle.timer_facility.specs.Config.{IsInRange}
 use Rattle.timer_facility.specs.Facility.{AreCounted, kept_in, Fields, IsFacility, view_of}
-use Rattle.timer_facility.specs.Handles.{AreRecorded, IsRecorded}
+use Rattle.timer_facility.specs.Handles.{AreRecorded}
 use Rattle.timer_facility.specs.Restored.{IsUnused, AreStarted, GoesOnAs, IsConfigured, limits_of, restored}
 use Rattle.timer_facility.specs.Run.{bare_entry, bare_state}
 use Rattle.timer_facility.specs.Saved.{Saved, saved_of, state_lines, ReadState, IsReadState}
@@ -50,17 +50,6 @@ all_at P zero (x ∷ xs) d a h = a.0
 all_at P (suc i) (x ∷ xs) d a h = all_at P i xs d a.1 (omega (arith, h))
 
 -- Timers that are started.
-
-pub started_none : {w : WheelState} {handles : List Handle} → IsUnused w → handles ≡ [] → AreStarted w [] handles w
-started_none {w} {handles} u e = subst (λ hs. AreStarted w [] hs w) (sym e) (record {
-  pending_are = ap timers_of u.no_pending;
-  rest_is = refl;
-  unused = λ high some below. omega (arith, u.no_serial, some);
-  sorted = tt;
-  used = tt;
-  each = subst (λ es. AllByRecursion (IsRecorded []) es) (sym u.no_pending) tt;
-  as_many = refl;
-})
 
 -- a state with these timers, for what is known of handles
 abbrev state_with : WheelState → ℕ → FacilityState
@@ -222,6 +211,18 @@ pub record IsRestored (old w : WheelState) (config : Config) (r : ReadState) (ha
   pub now_is : old.now ≡ r.saved.now
   pub limits : r.limits ≡ limits_of config old.last_tick
   pub in_range : IsInRange config
+
+pub is_restored : {old w : WheelState} {config checked : Config} {r : ReadState} {handles : List Handle} → AreStarted old r.saved.timers handles w
+    → IsReadState r → IsUnused old → old.now ≡ r.saved.now → r.limits ≡ limits_of checked old.last_tick → config ≡ checked → IsInRange config
+    → IsRestored old w config r handles
+is_restored {old} started read empty now_is limits is in_range = record {
+  started = started;
+  read = read;
+  empty = empty;
+  now_is = now_is;
+  limits = limits ∙ ap (λ (k : Config). limits_of k old.last_tick) (sym is);
+  in_range = in_range;
+}
 
 few_numbers : {old w : WheelState} {config : Config} {r : ReadState} {handles : List Handle} → IsRestored old w config r handles
     → length r.saved.numbers ≤ config.clients

@@ -25,8 +25,7 @@ use Rattle.timer_facility.proofs.OwedFold.{Reading, reading, all_started, is_lef
 use Rattle.timer_facility.proofs.OwedKeeps.{Keeps, not_closed}
 use Rattle.timer_facility.proofs.OwedLemmas.{keeps_history}
 use Rattle.timer_facility.proofs.OwedOnce.{AreDistinct-filter}
-use Rattle.timer_facility.proofs.RefusedLemmas.{state_closed}
-use Rattle.timer_facility.proofs.StepLemmas.{by_verdict}
+use Rattle.timer_facility.proofs.StepLemmas.{state_closed, by_verdict}
 use Rattle.timer_facility.proofs.TimerLists.{of_client_some, length-put}
 use Rattle.timer_facility.proofs.VerdictLemmas.{takable, timely, startable, neither, ticking}
 

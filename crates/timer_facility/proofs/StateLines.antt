@@ -256,24 +256,6 @@ lines-timer {r} {t} h =
 abbrev pub with_end : ReadState → ReadState
 with_end r = record r { stage = Whole }
 
-pub read-end : {r : ReadState} → IsReadState r → IsReadState (with_end r)
-read-end {r} a = record {
-  few_clients = a.few_clients;
-  few_timers = a.few_timers;
-  now_in_range = a.now_in_range;
-  serial_some = a.serial_some;
-  serial_in_range = a.serial_in_range;
-  numbers_in_range = a.numbers_in_range;
-  numbers_some = a.numbers_some;
-  rising = a.rising;
-  last_is = a.last_is;
-  up_to_last = a.up_to_last;
-  below = a.below;
-  each = a.each;
-  none_first = λ (e : Whole ≡ Begin). absurd (cc);
-  none_if_closed = a.none_if_closed;
-}
-
 pub lines-end : {r : ReadState} {pending : ℕ} → IsNextEnd r pending → lines_read (with_end r) ≡ lines_read r ++ Lines.End pending ∷ []
 lines-end {r} h = rw (h.stage_is, h.count_is) refl
 

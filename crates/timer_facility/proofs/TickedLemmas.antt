@@ -11,7 +11,7 @@ use Rattle.timer_facility.specs.Step.{StepResult, step}
 use Rattle.timer_facility.specs.Run.{history, state_after, run, notices, notices_in, outs_of}
 use Rattle.timer_facility.specs.Facility.{FacilityView, Fields, view_of, IsFacility, view_after}
 use Rattle.timer_facility.specs.Ticked.{ticks, AreTicked}
-use Rattle.timer_facility.proofs.NoticeLists.{notices_in-append}
+use Rattle.timer_facility.proofs.TimerLists.{notices_in-append}
 use Rattle.timer_facility.proofs.FacilityFields.{idle, agrees, view_is, view-tick, facility-tick}
 use Rattle.timer_facility.proofs.PlayedTicks.{state_after-ticks, outs_of-ticks}
 use Rattle.timer_facility.proofs.VerdictLemmas.{tick_refusal-none, ticking}

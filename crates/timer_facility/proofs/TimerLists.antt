@@ -1,6 +1,6 @@
 -- Lists of timers, for what is owed, and the timers that a wheel holds.
-use Rattle.std.proofs.Common.{◌≡◌, ◌≢◌, ◌<◌, ◌+◌, ℕ, Bool, true, false, not, ◌==◌, ◌&&◌, ◌||◌, List, [], ◌∷◌, ◌++◌, length, refl, sym, ◌∙◌, ap, subst, inl, inr, arith}
-use Rattle.std.specs.Prelude.{filter, nat_lt, if◌then◌else◌, is_some, Option, Some, None}
+use Rattle.std.proofs.Common.{◌≡◌, ◌≢◌, ◌<◌, ◌+◌, ℕ, Bool, true, false, not, ◌==◌, ◌&&◌, ◌||◌, List, [], ◌∷◌, ◌++◌, length, refl, sym, ◌∙◌, ap, subst, inl, inr, arith, append_assoc}
+use Rattle.std.specs.Prelude.{filter, nat_lt, if◌then◌else◌, is_some, Option, Some, None, map}
 use Rattle.std.specs.List.{AllByRecursion}
 use Rattle.std.proofs.lemmas.Bool.{eqb-true, ne_eqb}
 use Rattle.std.proofs.lemmas.Bool.Decides.{nat_tests}
@@ -8,7 +8,7 @@ use Rattle.std.proofs.lemmas.List.{length-map}
 use Rattle.std.proofs.lemmas.List.Filters.{length-filter_both}
 use Rattle.std.proofs.lemmas.Option.{cond_some}
 use Rattle.timer_base.proofs.Basics.{either, none_some, some_same}
-use Rattle.timer_facility.specs.Types.{Timer, Handle}
+use Rattle.timer_facility.specs.Types.{Timer, Handle, Notice, Out, StateLine}
 use Rattle.timer_base.specs.Order.{itself, insert_by_deadline, IsOrdered, IsNotAmong, AreDistinct, IsMember}
 use Rattle.timer_base.proofs.Members.{at_member}
 use Rattle.timer_base.proofs.OneOrder.{each_is_member, in_order-ordered, map-itself}
@@ -16,7 +16,11 @@ use Rattle.timer_base.proofs.OrderLaws.{All-append, All-filter, All-weaken, All-
 use Rattle.timer_base.specs.Pending.{Entry, timer_of, timers_of, put, has_handle, first_timer, first_found}
 use Rattle.timer_base.specs.WheelState.{WheelState, IsPending, IsDue, IsWellFormed, timer_at, due_at, held_at}
 use Rattle.timer_facility.specs.Verdict.{of_client}
-use Rattle.timer_facility.specs.Owed.{timers_in_order, is_among}
+use Rattle.timer_facility.specs.Owed.{timers_in_order, is_among, timers_in, serials_told, any_out, is_closing, is_tick_refusal}
+use Rattle.std.proofs.lemmas.Simd.{map-map}
+use Rattle.timer_facility.specs.declared.event.Out.TheVariants as Outs
+use Rattle.timer_facility.specs.Step.{refusals_in}
+use Rattle.timer_facility.specs.Run.{notice_in, notices_in}
 
 -- the timer goes before the first one with a later deadline
 abbrev pub insert_newest : Timer → List Timer → List Timer
@@ -140,3 +144,65 @@ pending_by_deadline handle w t i e =
     (first_timer-among (has_handle handle) x w.pending f)).later)
     (λ x f. (at_member (IsDue w.now w.last_serial) x (timers_of w.due) i.each_due
     (first_timer-among (has_handle handle) x w.due f)).deadline) (sym e)
+
+-- Outs that are the notices of timers, read.
+
+pub notices_in-map : (f : Timer → Notice) (ts : List Timer) → notices_in (map (λ t. Outs.Notice (f t)) ts) ≡ map f ts
+notices_in-map f [] = refl
+notices_in-map f (t ∷ ts) = ap (λ ns. f t ∷ ns) (notices_in-map f ts)
+
+-- there is one notice for each timer, and the outs are those of their notices
+pub length-notices : (f : Timer → Notice) (ts : List Timer) → length (notices_in (map (λ t. Outs.Notice (f t)) ts)) ≡ length ts
+length-notices f ts = ap length (notices_in-map f ts) ∙ length-map ts f
+
+pub outs-notices : (f : Timer → Notice) (ts : List Timer) → map (λ notice. Outs.Notice notice)
+    (notices_in (map (λ t. Outs.Notice (f t)) ts)) ≡ map (λ t. Outs.Notice (f t)) ts
+outs-notices f ts = ap (map (λ notice. Outs.Notice notice)) (notices_in-map f ts) ∙ map-map (λ notice. Outs.Notice notice) f ts
+
+pub serials_told-map : (f : Timer → Notice) (ts : List Timer) → serials_told (map (λ t. Outs.Notice (f t)) ts) ≡ []
+serials_told-map f [] = refl
+serials_told-map f (t ∷ ts) = serials_told-map f ts
+
+pub closing-map : (f : Timer → Notice) (ts : List Timer) → any_out is_closing (map (λ t. Outs.Notice (f t)) ts) ≡ false
+closing-map f [] = refl
+closing-map f (t ∷ ts) = closing-map f ts
+
+pub refusal-map : (f : Timer → Notice) (ts : List Timer) → any_out is_tick_refusal (map (λ t. Outs.Notice (f t)) ts) ≡ false
+refusal-map f [] = refl
+refusal-map f (t ∷ ts) = refusal-map f ts
+
+pub timers_in-map : (client number action : ℕ) (f : Timer → Notice) (ts : List Timer)
+    → timers_in client number action (map (λ t. Outs.Notice (f t)) ts) ≡ []
+timers_in-map client number action f [] = refl
+timers_in-map client number action f (t ∷ ts) = timers_in-map client number action f ts
+
+pub refusals_in-map : (f : Timer → Notice) (ts : List Timer) → refusals_in (map (λ t. Outs.Notice (f t)) ts) ≡ []
+refusals_in-map f [] = refl
+refusals_in-map f (t ∷ ts) = refusals_in-map f ts
+
+-- The lines of a dump are no notices, and no other outs that are looked for.
+
+-- the lines as outs
+abbrev pub dumped : List StateLine → List Out
+dumped lines = map (λ line. Outs.Dumped line) lines
+
+pub notices_in-dumped : (lines : List StateLine) → notices_in (dumped lines) ≡ []
+notices_in-dumped [] = refl
+notices_in-dumped (line ∷ lines) = notices_in-dumped lines
+
+pub serials_told-dumped : (lines : List StateLine) → serials_told (dumped lines) ≡ []
+serials_told-dumped [] = refl
+serials_told-dumped (line ∷ lines) = serials_told-dumped lines
+
+pub closing-dumped : (lines : List StateLine) → any_out is_closing (dumped lines) ≡ false
+closing-dumped [] = refl
+closing-dumped (line ∷ lines) = closing-dumped lines
+
+pub refusals_in-dumped : (lines : List StateLine) → refusals_in (dumped lines) ≡ []
+refusals_in-dumped [] = refl
+refusals_in-dumped (line ∷ lines) = refusals_in-dumped lines
+
+pub notices_in-append : (xs ys : List Out) → notices_in (xs ++ ys) ≡ notices_in xs ++ notices_in ys
+notices_in-append [] ys = refl
+notices_in-append (x ∷ xs) ys = ap (λ ns. notice_in x ++ ns) (notices_in-append xs ys)
+    ∙ sym (append_assoc (notice_in x) (notices_in xs) (notices_in ys))

@@ -101,10 +101,6 @@ startable s interval h =
 
 -- Ticks.
 
-pub tick_refusal-closed : (s : FacilityState) → s.is_closed ≡ true → tick_refusal s ≡ Some TickFaults.Closed
-unfolding tick_refusal
-tick_refusal-closed s h = rw h refl
-
 pub tick_refusal-none : (s : FacilityState) → s.is_closed ≡ false → s.now ≢ s.last → tick_refusal s ≡ None
 unfolding tick_refusal
 tick_refusal-none s h k = rw (h, ne_eqb s.now s.last k) refl

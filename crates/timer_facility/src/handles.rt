@@ -12,8 +12,7 @@
 //!
 //! A sweep of n handles drops more than n / 2 of them, and each was added by one start or restart. So
 //! sweeps look up at most two handles per start or restart, whatever the order of events is.
-ghost use Rattle.std.specs.Prelude.{◌≡◌, ◌<◌, ℕ, [], OnOk, OnErr, IfSome, Some, filter};
-ghost use Rattle.std.specs.Prelude.{vec_len, vec_capacity};
+ghost use Rattle.std.specs.Prelude.{◌≡◌, ◌<◌, ℕ, [], OnOk, OnErr, IfSome, Some, filter, vec_len, vec_capacity};
 ghost use Rattle.timer_facility.specs.Handles.{place_at, AreSorted, AreRecorded, AreFew, is_pending, with_answer, AddsHandle};
 ghost use Rattle.timer_facility.specs.Facility.{MakesTimer, model_of};
 

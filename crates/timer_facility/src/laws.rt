@@ -35,7 +35,7 @@ pub fn each_timer_is_handed_out_once()
 
 /// Each timer that was started and not stopped is handed out: it expires if its deadline is reached, and
 /// is returned if the facility was closed before that.
-#[tactic(auto, using(crate::proofs::OwedAtLeastOnce::handed_all))]
+#[tactic(auto, using(crate::proofs::OwedOnce::handed_all))]
 pub fn each_timer_is_handed_out()
     ensures { (s : FacilityState) (placed : List PlacedEvent) → IsSound s
         → AreAllHandedOut s (history s placed) }
@@ -50,7 +50,7 @@ pub fn serials_rise_in_the_order_of_starting()
 
 /// A close returns the others: of all timers that were started, those that no tick handed out and that
 /// were not stopped.
-#[tactic(auto, using(crate::proofs::OwedAtLeastOnce::left_others))]
+#[tactic(auto, using(crate::proofs::OwedOnce::left_others))]
 pub fn a_close_returns_the_others()
     ensures { (s : FacilityState) (placed : List PlacedEvent) → IsSound s
         → left_after s (history s placed) (s.now + accepted_ticks (history s placed))
@@ -123,21 +123,21 @@ pub fn a_refusal_changes_at_most_the_number()
 
 /// The outs of an event determine the verdict on it: those of an accepted event have no refusal, and the
 /// only refusal among those of a refused one is that of the verdict.
-#[tactic(auto, using(crate::proofs::RefusedLemmas::outs_verdict))]
+#[tactic(auto, using(crate::proofs::StepLemmas::outs_verdict))]
 pub fn the_outs_tell_the_verdict()
     ensures { (s : FacilityState) (event : SingleEvent) (place : ℕ)
         → refusals_in (step s event place).outs ≡ refusals_of (verdict s event) }
 {}
 
 /// A closed facility refuses each event as closed, but for a look at its state.
-#[tactic(auto, using(crate::proofs::RefusedLemmas::verdict_closed))]
+#[tactic(auto, using(crate::proofs::StepLemmas::verdict_closed))]
 pub fn a_closed_facility_refuses_each_event()
     ensures { (s : FacilityState) (event : SingleEvent) → s.is_closed ≡ true
         → verdict s event ≡ closed_refusal event }
 {}
 
 /// After the close nothing is handed out, and nothing changes.
-#[tactic(auto, using(crate::proofs::RefusedLemmas::none_after_close, crate::proofs::RefusedLemmas::state_closed))]
+#[tactic(auto, using(crate::proofs::StepLemmas::none_after_close, crate::proofs::StepLemmas::state_closed))]
 pub fn nothing_comes_after_the_close()
     ensures { (s : FacilityState) (placed : List PlacedEvent) → s.is_closed ≡ true
         → (notices_in (run s placed).outs ≡ []) × ((run s placed).state ≡ s) }

@@ -1,6 +1,6 @@
 -- How a run of calls goes on.
-use Rattle.std.proofs.Common.{inl, inr, ⊎_elim, ℕ, List, arith}
-use Rattle.timer_journal.specs.Device.{Passes, LeavesOnly}
+use Rattle.std.proofs.Common.{◌≡◌, inl, inr, ⊎_elim, ℕ, List, sym, subst, arith}
+use Rattle.timer_journal.specs.Device.{Passes, LeavesOnly, Follows, Only}
 
 module _ {D : Type 0} (moment : D → ℕ) (left_since : D → ℕ → List ℕ → Type 0) (may_leave : D → List ℕ → Type 0)
     (begins_now : (file : D) (c : List ℕ) → left_since file (moment file) c → may_leave file c) where
@@ -36,3 +36,17 @@ module _ {D : Type 0} (moment : D → ℕ) (left_since : D → ℕ → List ℕ 
     each = λ c left. from c (run.each c left);
     added = λ t c le left. ⊎_elim (λ was. inl was) (λ has. inr (from c has)) (run.added t c le left);
   }
+
+  -- a step from a file that is on the disk, and then a sync: a crash leaves what the step might
+  module _ (old mid : D) (file : List ℕ) (step : List ℕ → List ℕ → Type 0) (durable : Only file (may_leave old)) (same : step file file)
+      (time : Passes moment left_since (may_leave mid) old mid) (crash : Follows step (may_leave old) (may_leave mid)) where
+    after : (f : List ℕ) → may_leave mid f → step file f
+    after f now = let from = crash f now in subst (λ d. step d f) (durable from.0 from.1) from.2
+
+    pub stepped : LeavesOnly moment left_since old mid (step file)
+    stepped = called old mid (step file) time (λ f now. subst (step file) (sym (durable f now)) same) after
+
+    pub synced : (new : D) → Passes moment left_since (may_leave new) mid new → ((f : List ℕ) → may_leave new f → may_leave mid f)
+        → LeavesOnly moment left_since old new (step file)
+    synced new next kept = joined old mid new (step file) (step file) (step file) stepped
+        (called mid new (step file) next after (λ f now. after f (kept f now))) (λ f has. has) (λ f has. has)

@@ -45,10 +45,6 @@ pub left_push : (steps steps' : List Step) (step : Step) → steps' ≡ steps ++
     → outcomes (held_after steps) (left_after steps) (step ∷ []) c
 left_push steps steps' step is c left = outcomes_push [] (λ e. e ≡ []) steps step c (subst (λ (l : List Step). left_after l c) is left)
 
--- no step
-pub same_past : (steps : List Step) (t : ℕ) (c : List ℕ) → left_since steps t c → left_since steps t c ⊎ left_after steps c
-same_past steps t c left = inl left
-
 -- the past before one more step stays known
 kept_push : (steps : List Step) (step : Step) (t : ℕ) (c : List ℕ) → left_since steps t c → left_since (steps ++ step ∷ []) t c
 kept_push steps step t c left =

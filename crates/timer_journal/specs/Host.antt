@@ -39,7 +39,8 @@ after_steps file (NotReplaced ∷ steps) = after_steps file steps
 abbrev pub outcomes : List ℕ → (List ℕ → Type 0) → List Step → List ℕ → Type 0
 outcomes file before [] c = before c
 outcomes file before (Found bytes ∷ steps) c = outcomes bytes (λ e. e ≡ bytes) steps c
-outcomes file before (Wrote at bytes ∷ steps) c = outcomes (overwritten file at bytes) (λ e. (d : List ℕ) × before d × Torn at (length bytes) d e) steps c
+outcomes file before (Wrote at bytes ∷ steps) c =
+    outcomes (overwritten file at bytes) (λ e. (d : List ℕ) × before d × Torn at (length bytes) d e) steps c
 outcomes file before (Cut len ∷ steps) c = outcomes (take len file) (λ e. (d : List ℕ) × before d × Shortened len d e) steps c
 outcomes file before (Synced ∷ steps) c = outcomes file (λ e. before e × (e ≡ file)) steps c
 outcomes file before (WroteInPart at bytes ∷ steps) c = outcomes file (λ e. (d : List ℕ) × before d × Torn at (length bytes) d e) steps c

@@ -5,6 +5,8 @@
 ghost use Rattle.std.specs.Prelude.{◌≡◌, IfOk, IfSome, OnOk, length, true, List, [], ◌∷◌};
 ghost use Rattle.std.proofs.Props.{props};
 ghost use Rattle.timer_journal.specs.Device.{Only};
+ghost use Rattle.std.specs.declared.fs.locks.TryLockError.TheVariants.{WouldBlock, Error};
+ghost use Rattle.timer_journal.specs.declared.host.OpenFault.TheVariants.{InUse, Io};
 ghost use Rattle.timer_journal.specs.Host.{Step, Found, held_after, left_after, left_since as left_from, failures, are_usable, now_is_one, now_is_last};
 
 use crate::device::Device;
@@ -42,17 +44,9 @@ pub enum OpenFault {
     Io(#[from] io::Error),
 }
 
-impl OpenFault {
-    /// What kind of error the system gave, if it refused.
-    pub fn kind(&self) -> Option<ErrorKind> {
-        match self {
-            OpenFault::Io(error) => Some(error.kind()),
-            _ => None,
-        }
-    }
-}
-
 impl From<TryLockError> for OpenFault {
+    ghost from_gives = { λ error fault. (error ≡ WouldBlock → fault ≡ InUse) × ((e : _) → error ≡ Error e → fault ≡ Io e) };
+
     fn from(error: TryLockError) -> OpenFault {
         match error {
             TryLockError::WouldBlock => OpenFault::InUse,

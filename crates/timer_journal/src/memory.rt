@@ -1,8 +1,9 @@
 //! A file in memory, for tests. It keeps what it held first and each change, so a crash at any moment of its
 //! past may leave all that the trait allows.
-ghost use Rattle.std.specs.Prelude.{◌≡◌, ◌∷◌, [], true, length, IfOk};
+ghost use Rattle.std.specs.Prelude.{◌≡◌, ◌∷◌, [], true, length, map, IfOk};
 ghost use Rattle.timer_journal.specs.Device.{overwritten};
-ghost use Rattle.timer_journal.specs.Memory.{after_changes, may_be_left, left_from, now_is_one, now_is_last};
+ghost use Rattle.timer_journal.specs.Host.{after_steps, held_after, left_after, left_since as left_from, now_is_one, now_is_last};
+ghost use Rattle.timer_journal.specs.Memory.{step_of, steps_of};
 
 use crate::device::Device;
 use crate::fault::DeviceFault;
@@ -60,7 +61,7 @@ fn overwrite(alloc: Global, file: &[u8], at: usize, bytes: &[u8]) -> Result<Vec<
 }
 
 fn changed(alloc: Global, file: Vec<u8>, change: &Change) -> Result<Vec<u8>, AllocError>
-    ensures { IfOk result (λ new. new.items ≡ after_changes file.items (change.now ∷ [])) }
+    ensures { IfOk result (λ new. new.items ≡ after_steps file.items (step_of change.now ∷ [])) }
 {
     match change {
         Change::Written { at, bytes } => overwrite(alloc, &file, *at, bytes),
@@ -75,7 +76,7 @@ fn changed(alloc: Global, file: Vec<u8>, change: &Change) -> Result<Vec<u8>, All
 
 /// What a file holds after these changes.
 fn play(alloc: Global, first: &[u8], changes: &[Change]) -> Result<Vec<u8>, AllocError>
-    ensures { IfOk result (λ file. file.items ≡ after_changes first.now changes.now) }
+    ensures { IfOk result (λ file. file.items ≡ after_steps first.now (map step_of changes.now)) }
 {
     let mut file = first.to_vec(alloc)?;
     for change in changes {
@@ -85,21 +86,21 @@ fn play(alloc: Global, first: &[u8], changes: &[Change]) -> Result<Vec<u8>, Allo
 }
 
 impl Device for Memory {
-    ghost seen = { λ m. after_changes m.first.items m.changes.items };
+    ghost seen = { λ m. held_after (steps_of m.first.items m.changes.items) };
 
-    ghost may_leave = { λ m c. may_be_left m.first.items m.changes.items c };
+    ghost may_leave = { λ m c. left_after (steps_of m.first.items m.changes.items) c };
 
-    ghost moment = { λ m. length m.changes.items };
+    ghost moment = { λ m. length (steps_of m.first.items m.changes.items) };
 
-    ghost left_since = { λ m t c. left_from m.first.items m.changes.items t c };
+    ghost left_since = { λ m t c. left_from (steps_of m.first.items m.changes.items) t c };
 
     ghost faults = { λ m. 0 };
 
     ghost is_usable = { λ m. m.is_usable };
 
-    ghost includes_now = { λ m t c le now. now_is_one m.first.items m.changes.items t c le now };
+    ghost includes_now = { λ m t c le now. now_is_one (steps_of m.first.items m.changes.items) t c le now };
 
-    ghost begins_now = { λ m c left. now_is_last m.first.items m.changes.items c left };
+    ghost begins_now = { λ m c left. now_is_last (steps_of m.first.items m.changes.items) c left };
 
     fn read(&mut self, alloc: Global) -> Result<Vec<u8>, DeviceFault> {
         Ok(play(alloc, &self.first, &self.changes)?)

@@ -160,7 +160,8 @@ HasRunRead (Err error) opens known bytes old new ending =
 -- The arguments were read as a call of the subcommand that they name, with files whose names they have, or as an error.
 -- That is help or the version only if an argument asks for it. And that was done.
 pub record HasRunProgram {A R O S F D J : Type 0} (text : A → List ℕ) (arguments : List A) (opens : Openings O D)
-    (known : KeptStream (Streams (Source R O) S) F J) (bytes : Bytes (Source R O) S F) (old new : Channels (Source R O) S F) (ending : Ending) : Type 0 where
+    (known : KeptStream (Streams (Source R O) S) F J) (bytes : Bytes (Source R O) S F)
+    (old new : Channels (Source R O) S F) (ending : Ending) : Type 0 where
   pub read : Result Call Error
   pub called : IfOk read (λ call. IsNamedBy text arguments (subcommand_name call.subcommand))
   pub file : IfOk read (λ call. IfSome call.file (λ name. Any (λ argument. text argument ≡ name.now) arguments))

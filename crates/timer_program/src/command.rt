@@ -1,14 +1,15 @@
 //! The whole program, over its arguments, its input and its outputs.
-ghost use Rattle.std.specs.Prelude.{◌≡◌, ◌≢◌, false, Some, option_map, codes};
+ghost use Rattle.std.specs.Prelude.{◌≡◌, false, option_map};
 ghost use Rattle.clap.specs.Values.{kind_of};
 ghost use Rattle.timer_commands.specs.declared.ending.Ending.{Ending};
 ghost use Rattle.timer_commands.specs.Endings.{status_of};
-ghost use Rattle.timer_program.specs.Command.{Fits, HasCalled, HasRunFile, HasRunInput, HasRunFromState, HasRunUnkept, HasRunCall, HasRunRead, HasNotPlayed, HasRunProgram, options_of_stream, journal_of, standard_name};
+ghost use Rattle.timer_program.specs.Command.{Fits, HasCalled, HasRunInput, HasRunUnkept, HasRunCall, HasNotPlayed, HasRunProgram, options_of_stream, journal_of, standard_name};
 ghost use Rattle.timer_journal.specs.Journal.{text_of};
 ghost use Rattle.timer_program.specs.Files.{remaining_of};
 ghost use Rattle.timer_script.specs.Watched.{has_failed};
 
-use crate::arguments::{Call, Subcommand, read_arguments};
+use crate::arguments::calls::read_arguments;
+use crate::arguments::{Call, Subcommand};
 use crate::files::{Journals, Opener, Source, file_to_open, reason_to_refuse};
 use crate::kept_stream::run_kept;
 use crate::reports::{end_call, write_located};
@@ -62,47 +63,15 @@ pub fn command<
         (record { streams = streams; faults = faults.old })
         (record { streams = result.1; faults = faults.new }) ending }
 {
-    let read = read_arguments(rt.alloc(), arguments);
-    let (ending, streams) = run_read(rt, read, streams, faults);
-    (ending.status(), streams)
-}
-
-/// Runs the call that the arguments were read as, or reports the error.
-fn run_read<
-    T: AllocGlobal + Threads + Opener<O> + Journals<J>,
-    R: Read + Drop,
-    O: Read + Seek + Drop,
-    J: Device + Drop,
-    W: Write,
-    F: Write,
->(
-    rt: &T,
-    read: Result<Call<'_>, Error>,
-    streams: Streams<Source<R, O>, W>,
-    faults: &mut Watched<F>,
-) -> (Ending, Streams<Source<R, O>, W>)
-    requires reader_good { has_failed streams.reader ≡ false }
-    requires writer_good { has_failed streams.writer ≡ false }
-    requires faults_good { has_failed faults.old ≡ false }
-    ensures { HasRunRead read.entry (record { is_file = T.is_opened; is_journal = T.is_journal; seen = J.seen })
-        (record {
-          state = ⟦<Streams<Source<R, O>, W> as Peer>⟧.state;
-          reports = F.contents;
-          over = ⟦<JournaledPeer<Streams<Source<R, O>, W>, J> as Peer>⟧.state;
-          inner = λ j. j.peer;
-          text = λ j. text_of (J.seen j.journal.device);
-          fault = λ j. j.fault;
-        })
-        (record { remaining = remaining_of R.remaining O.remaining; contents = W.contents; reports = F.contents })
-        (record { streams = streams; faults = faults.old })
-        (record { streams = result.1; faults = faults.new }) result.0 }
-{
     let mut streams = streams;
-    match read {
-        Ok(call) => run_call(rt, call, streams, faults),
+    match read_arguments(rt.alloc(), arguments) {
+        Ok(call) => {
+            let (ending, streams) = run_call(rt, call, streams, faults);
+            (ending.status(), streams)
+        }
         Err(error) => {
             let ending = end_unplayed(rt.alloc(), &error, &mut streams.writer, faults);
-            (ending, streams)
+            (ending.status(), streams)
         }
     }
 }
@@ -161,7 +130,8 @@ fn journal_of<'a>(call: Call<'a>) -> Option<(&'a str, RunOptions)>
     }
 }
 
-/// Runs a subcommand over its files, but for a journal.
+/// Runs a subcommand over its files, but for a journal. If the state that a stream is to begin with can't be read, or is none that
+/// fits the options, nothing else is read.
 fn run_unkept<
     T: AllocGlobal + Threads + Opener<O>,
     R: Read + Drop,
@@ -182,9 +152,15 @@ fn run_unkept<
     let Some(name) = call.state else {
         return run_input(rt, subcommand, None, call.file, streams, faults);
     };
-    match options_of_stream(subcommand) {
-        Some(options) => run_from_state(rt, subcommand, options, name, call.file, streams, faults),
-        None => run_input(rt, subcommand, None, call.file, streams, faults),
+    let Some(options) = options_of_stream(subcommand) else {
+        return run_input(rt, subcommand, None, call.file, streams, faults);
+    };
+    match read_state(rt, name, options) {
+        Ok(saved) => run_input(rt, subcommand, Some(&saved), call.file, streams, faults),
+        Err(fault) => {
+            report_no_state(rt.alloc(), name, fault, faults);
+            Ending::Refused
+        }
     }
 }
 
@@ -195,41 +171,6 @@ fn options_of_stream(subcommand: Subcommand) -> Option<RunOptions>
     match subcommand {
         Subcommand::Run(Verb::Serve { .. }, options) => Some(options),
         _ => None,
-    }
-}
-
-/// Reads the state in the file of this name, and serves from it. If it can't be read, or is none that fits the options,
-/// nothing else is read.
-fn run_from_state<
-    T: AllocGlobal + Threads + Opener<O>,
-    R: Read + Drop,
-    O: Read + Seek + Drop,
-    W: Write,
-    F: Write,
->(
-    rt: &T,
-    subcommand: Subcommand,
-    options: RunOptions,
-    name: &str,
-    file: Option<&str>,
-    streams: &mut Streams<Source<R, O>, W>,
-    faults: &mut Watched<F>,
-) -> Ending
-    requires options { options_of_stream subcommand ≡ Some options }
-    requires reader_good { has_failed streams.old.reader ≡ false }
-    requires writer_good { has_failed streams.old.writer ≡ false }
-    requires faults_good { has_failed faults.old ≡ false }
-    ensures { HasRunFromState name.now options subcommand (option_map (λ n. n.now) file.entry) T.is_opened
-        (record { remaining = remaining_of R.remaining O.remaining; contents = W.contents; reports = F.contents })
-        (record { streams = streams.old; faults = faults.old })
-        (record { streams = streams.new; faults = faults.new }) result }
-{
-    match read_state(rt, name, options) {
-        Ok(saved) => run_input(rt, subcommand, Some(&saved), file, streams, faults),
-        Err(fault) => {
-            report_no_state(rt.alloc(), name, fault, faults);
-            Ending::Refused
-        }
     }
 }
 
@@ -258,52 +199,10 @@ fn run_input<
         (record { streams = streams.old; faults = faults.old })
         (record { streams = streams.new; faults = faults.new }) result }
 {
-    match file_to_open(file) {
-        Some(name) => run_over_file(rt, subcommand, saved, name, streams, faults),
-        None => run_subcommand(
-            rt,
-            subcommand,
-            saved,
-            name_of_given(subcommand),
-            streams,
-            faults,
-        ),
-    }
-}
-
-/// How errors name what a subcommand is handed. Those of `play` don't.
-fn name_of_given(subcommand: Subcommand) -> Option<&'static str>
-    ensures { option_map (λ n. n.now) result ≡ standard_name subcommand }
-{
-    match subcommand {
-        Subcommand::Run(Verb::Play, _) => None,
-        _ => Some("standard input"),
-    }
-}
-
-/// Opens a file, and runs a subcommand over it.
-fn run_over_file<
-    T: AllocGlobal + Threads + Opener<O>,
-    R: Read + Drop,
-    O: Read + Seek + Drop,
-    W: Write,
-    F: Write,
->(
-    rt: &T,
-    subcommand: Subcommand,
-    saved: Option<&SavedState>,
-    name: &str,
-    streams: &mut Streams<Source<R, O>, W>,
-    faults: &mut Watched<F>,
-) -> Ending
-    requires fits { Fits (option_map (λ read. read.now) saved) subcommand }
-    requires writer_good { has_failed streams.old.writer ≡ false }
-    requires faults_good { has_failed faults.old ≡ false }
-    ensures { HasRunFile (option_map (λ read. read.now) saved.entry) subcommand name.now T.is_opened
-        (record { remaining = remaining_of R.remaining O.remaining; contents = W.contents; reports = F.contents })
-        (record { streams = streams.old; faults = faults.old })
-        (record { streams = streams.new; faults = faults.new }) result }
-{
+    let Some(name) = file_to_open(file) else {
+        let name = name_of_given(subcommand);
+        return run_subcommand(rt, subcommand, saved, name, streams, faults);
+    };
     match rt.open_to_read(name) {
         Ok(file) => {
             streams.reader = Watched::new(Source::Opened(file));
@@ -314,6 +213,16 @@ fn run_over_file<
             let _ = write_located(faults, name, Spot::Input, reason.as_bytes());
             Ending::Refused
         }
+    }
+}
+
+/// How errors name what a subcommand is handed. Those of `play` don't.
+fn name_of_given(subcommand: Subcommand) -> Option<&'static str>
+    ensures { option_map (λ n. n.now) result ≡ standard_name subcommand }
+{
+    match subcommand {
+        Subcommand::Run(Verb::Play, _) => None,
+        _ => Some("standard input"),
     }
 }
 

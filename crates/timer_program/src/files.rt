@@ -1,8 +1,7 @@
 //! What the program reads: what it is handed, which is standard input, or a file that it opens by name.
 ghost use Rattle.std.specs.Prelude.{◌≡◌, true, IfOk, List, ℕ, option_map};
 ghost use Rattle.timer_journal.specs.Device.{Only};
-ghost use Rattle.timer_program.specs.Files.{IsToOpen};
-ghost use Rattle.timer_program.specs.Files.{remaining_of};
+ghost use Rattle.timer_program.specs.Files.{IsToOpen, remaining_of};
 
 use std::fs::File;
 use std::io;

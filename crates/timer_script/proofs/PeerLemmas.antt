@@ -218,17 +218,9 @@ talked_wrote {Answers} {StateIs} {p} {q} {r} {came} {gone} {text} flushed t w la
 
 -- ---- a state that is told
 
-pub told_none : (text : List ℕ) (p : PeerState) → HasTold text p p
-told_none text p =
-    record { calls = []; grows = grows_none p.calls; told = inl refl; remaining = refl; contents = refl; origin = refl }
-
 pub told_kept : {E : Type 0} (text : List ℕ) (p q : PeerState) (u : Unit) → KeepsState {E = E} p (Ok u) text q → HasTold text p q
 told_kept {E} text p q u k =
     record { calls = Told text ∷ []; grows = k.noted; told = inr refl; remaining = k.remaining; contents = k.contents; origin = k.origin }
-
-pub told_failed : {E : Type 0} (text : List ℕ) (p q : PeerState) (e : E) → KeepsState {E = E} p (Err e) text q → HasTold text p q
-told_failed {E} text p q e k =
-    record { calls = []; grows = k.noted; told = inl refl; remaining = k.remaining; contents = k.contents; origin = k.origin }
 
 -- what such a call leaves as it was, and why it is prompt
 record IsTelling (Answers StateIs : List ℕ → List ℕ → Type 0) (came gone : List ℕ) (calls : List PeerCall) : Type 0 where

@@ -1,5 +1,5 @@
 -- The peer of a server, and the order of the bytes that come from it and go to it, and of the states that it keeps.
-use Rattle.std.specs.Prelude.{◌≡◌, ◌==◌, ℕ, ◌||◌, Bool, if◌then◌else◌, List, [], ◌∷◌, ◌++◌, take, drop, slice_index, Option, None, Some, Result, Ok, Err, is_err}
+use Rattle.std.specs.Prelude.{◌≡◌, ℕ, ◌||◌, Bool, List, [], ◌∷◌, ◌++◌, take, Option, None, Some, Result, Ok, Err, is_err}
 use Rattle.std.specs.Io.{ReadsAtMost, WritesAtMost}
 use Rattle.std.specs.Io.KnownBytes.{Keeps, ReadConsumes, WriteAppends}
 use Rattle.timer_script.specs.Watched.{took_nothing}
@@ -11,13 +11,6 @@ pub data PeerCall : Type 0 where
   Went : List ℕ → PeerCall
   Flush : PeerCall
   Told : List ℕ → PeerCall
-
--- a call that is kept as bytes: `<` and what came, `>` and what went, `=` and the state that was told, or anything else
--- for a flush
-abbrev pub call_of : List ℕ → PeerCall
-call_of call = if slice_index call 0 == 60 then Came
-    (drop 1 call) else if slice_index call 0 == 62 then Went
-    (drop 1 call) else if slice_index call 0 == 61 then Told (drop 1 call) else Flush
 
 -- what a peer that keeps what came goes on with: no call changes it
 pub record PeerOrigin : Type 0 where

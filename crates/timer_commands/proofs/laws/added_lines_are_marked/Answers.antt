@@ -1,4 +1,4 @@
-use Rattle.timer_commands.proofs.MarkedLemmas.{wakeups_marked, pictures_marked}
+use Rattle.timer_commands.proofs.IndentedLemmas.{wakeups_marked, pictures_marked}
 use Rattle.timer_commands.proofs.laws.added_lines_are_marked.Goals as goal
 
 pub returns-clause-wakeups : goal.returns-clause-wakeups

@@ -1,6 +1,6 @@
 use Rattle.std.proofs.Common.{rules, sym, Ok, Err}
 use Rattle.std.proofs.lemmas.List.Sorted.{answers_always}
-use Rattle.timer_facility.proofs.HandlesFound.{searched}
+use Rattle.timer_facility.proofs.HandlesLemmas.{searched}
 use Rattle.timer_facility.proofs.handles.place_of.Goals as goal
 
 pub returns-in-Ok : goal.returns-in-Ok

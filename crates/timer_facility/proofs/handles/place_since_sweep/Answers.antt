@@ -1,5 +1,5 @@
 use Rattle.std.proofs.Common.{◌<◌, ◌+◌, ◌-◌, ◌%◌, ℕ, length, arith}
-use Rattle.timer_facility.proofs.HandlesFound.{place_present}
+use Rattle.timer_facility.proofs.HandlesLemmas.{place_present}
 use Rattle.timer_facility.proofs.handles.place_since_sweep.Goals as goal
 
 pub returns-then-list-i : goal.returns-then-list-i

@@ -40,10 +40,6 @@ returns-clause-ok g c =
 
 pub returns-clause-end : goal.returns-clause-end
 returns-clause-end g c =
-    let lines = c.args.lines.now in
-    let fits : length lines < 2 ^ 64 = omega (arith, c.requires.small) in
-    let whole = c.deref.ensures.value ∙ c.in_ok-file.ensures in
-    let is = c.in_ok-replace.ensures.replaced ∙ whole in
-    let only : Only (g.D.Device.seen c.replace.new.self) (g.D.Device.may_leave c.replace.new.self) = λ f now. c.in_ok-replace.ensures.durable f now ∙ sym c.in_ok-replace.ensures.replaced in
-    let ok = is_durable g.D.Device.seen g.D.Device.may_leave g.D.Device.is_usable c.replace.new.self (lines ∷ []) (fits, tt) is only c.in_ok-replace.ensures.usable in
-    omega (arith, ap (λ (gs : List (List ℕ)). length (blocks gs)) ok.1, length-append (blocks (lines ∷ [])) (21 ∷ []), ap length c.in_ok-file.ensures, c.len.ensures, c.in_ok-file.file.ok)
+    let is = ap (λ (gs : List (List ℕ)). length (blocks gs)) (returns-clause-ok g c).1 in
+    let more = length-append (blocks (c.args.lines.now ∷ [])) (21 ∷ []) in
+    omega (arith, is, more, ap length c.in_ok-file.ensures, c.len.ensures, c.in_ok-file.file.ok)

@@ -73,16 +73,6 @@ returns-clause-ok g c =
 
 pub returns-clause-end : goal.returns-clause-end
 returns-clause-end g c =
-    let file = g.D.Device.seen c.args.device.now in
-    let groups = groups_of file in
-    let lines = c.args.lines.now in
-    let at_rest = c.requires.durable.file in
-    let fit = all_fit groups (omega (arith, c.requires.end, c.requires.small.0)) in
-    let fits : length lines < 2 ^ 64 = omega (arith, c.requires.small.1) in
-    let bytes_are : c.deref.result.now ≡ body_of lines ++ 21 ∷ [] = c.deref.ensures.value ∙ c.in_ok-group.ensures in
-    let is_staged : g.D.Device.seen c.write_durably.new.device ≡ staged groups lines =
-    c.in_ok-write_durably.ensures.written ∙ (λ i. overwritten (at_rest i) (c.args.end + 1) (bytes_are i)) ∙ written_group groups c.args.end c.requires.end fit lines in
-    let opened = c.in_ok-write_durably-2.ensures.written ∙ ap (λ (d : List ℕ). overwritten d c.args.end (6 ∷ [])) is_staged ∙ written_gate groups c.args.end c.requires.end fit lines fits in
-    let ok = is_durable g.D.Device.seen g.D.Device.may_leave g.D.Device.is_usable c.write_durably-2.new.device (groups ++ lines ∷ []) (all_fit_push groups lines fit fits) opened
-    c.in_ok-write_durably-2.ensures.durable c.in_ok-write_durably-2.ensures.usable in
-    omega (arith, ap (λ (gs : List (List ℕ)). length (blocks gs)) ok.1, length-push groups lines, ap length c.in_ok-group.ensures, c.requires.end, c.in_ok-group.group.ok)
+    let is = ap (λ (gs : List (List ℕ)). length (blocks gs)) (returns-clause-ok g c).1 in
+    let more = length-push (groups_of (g.D.Device.seen c.args.device.now)) c.args.lines.now in
+    omega (arith, is, more, ap length c.in_ok-group.ensures, c.requires.end, c.in_ok-group.group.ok)

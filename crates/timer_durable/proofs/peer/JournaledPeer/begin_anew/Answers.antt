@@ -57,12 +57,6 @@ returns-clause-begun g c =
 pub returns-clause-crash : goal.returns-clause-crash
 returns-clause-crash g c = λ alive.
     let s = c.args.self.now in
-    let facts = wanted_facts s.keeping.every s.is_live s.has_ended s.journal.is_dead (drop s.given s.lines.items) _ (c.wants.ensures.yes c.if-not-wants.false) in
-    let now = counting_wanted s.keeping.every s.is_live s.has_ended s.journal.is_dead (drop s.given s.lines.items) _ (c.wants.ensures.yes c.if-not-wants.false) in
-    let first : c.deref-2.result.now ≡ preamble_of s.keeping.options.items s.so_far c.args.text.now =
-    c.deref-2.ensures.value ∙ c.in_ok-first.ensures.text ∙ ap (λ o. preamble_of o s.so_far c.args.text.now) c.deref.ensures.value in
-    let totals = totals_are s.start s.so_far (came_of s.calls.so_far) (gone_of s.calls.so_far) (drop s.given s.lines.items) (s.lines_are now) (s.answers_are now) facts.3
-    c.if-so_far-gt-LAST.false c.if-so_far-gt-LAST-2.false in
     subst (λ l. LeavesOnly g.D.Device.moment g.D.Device.left_since s.journal.device c.begin_anew.new.self.device
     (IsBeforeOrAnew (groups_of (g.D.Device.seen s.journal.device)) l))
-    (first ∙ ap (λ b. preamble_of s.keeping.options.items b c.args.text.now) totals) (c.in_ok-begin_anew.ensures.any_moment alive)
+    (sym (ap concat c.in_ok-begin_anew.ensures.acknowledged.2 ∙ append-nil c.deref-2.result.now) ∙ returns-clause-begun g c) (c.in_ok-begin_anew.ensures.any_moment alive)
