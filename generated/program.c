@@ -2178,20 +2178,20 @@ OWN void tp_MatchedArgClone_clone(byte *p1, byte *p2);
 OWN uint8_t tp_globals_fill_in_global_values(byte *p1, byte *p2, uint64_t n3, byte *p4);
 OWN void tp_parse_parse_words(byte *p1, byte *p2, byte *p3, uint64_t n4, uint64_t n5);
 OWN of_ptr_i64 tp_Reading_text(uint8_t n1, byte *p2, uint64_t n3);
-OWN void tp_arguments_run_options(byte *p1, byte *p2);
+OWN void tp_found_run_options(byte *p1, byte *p2);
 OWN bool tp_ArgMatches_get_flag(byte *p1, uint64_t n2, byte *p3, uint64_t n4);
-OWN void tp_arguments_subcommand_of(byte *p1, byte *p2, uint64_t n3, byte *p4);
-OWN void tp_arguments_refusal(byte *p1, byte *p2, uint64_t n3);
+OWN void tp_found_subcommand_of(byte *p1, byte *p2, uint64_t n3, byte *p4);
+OWN void tp_calls_refusal(byte *p1, byte *p2, uint64_t n3);
 OWN void tp_clap_parser_matches_SubCommand_Destruct_drop(byte *p1);
 OWN void tp_Box_drop(byte *p1);
-OWN void tp_arguments_path_among(byte *p1, byte *p2, uint64_t n3, byte *p4, uint64_t n5, byte *p6);
-OWN void tp_arguments_path_of(byte *p1, byte *p2, uint64_t n3, byte *p4);
+OWN void tp_calls_path_among(byte *p1, byte *p2, uint64_t n3, byte *p4, uint64_t n5, byte *p6);
+OWN void tp_found_path_of(byte *p1, byte *p2, uint64_t n3, byte *p4);
 OWN void tp_std_alloc_vec_Vec_drop_4(byte *p1);
-OWN of_i8_i64 tp_arguments_number_of_serve(byte *p1, uint64_t n2, byte *p3, uint64_t n4, byte *p5);
-OWN void tp_arguments_parsed(byte *p1, byte *p2, uint64_t n3, byte *p4, uint64_t n5);
+OWN of_i8_i64 tp_found_number_of_serve(byte *p1, uint64_t n2, byte *p3, uint64_t n4, byte *p5);
+OWN void tp_calls_parsed(byte *p1, byte *p2, uint64_t n3, byte *p4, uint64_t n5);
 OWN bool tp_scan_any_in_ends(byte *p1, uint64_t n2);
 OWN bool tp_slices_parts_equal(byte *p1, uint64_t n2, byte *p3, uint64_t n4);
-OWN bool tp_arguments_is_of_text(byte *p1, uint64_t n2);
+OWN bool tp_calls_is_of_text(byte *p1, uint64_t n2);
 OWN COLD bool tp_std_alloc_vec_Vec_grow_amortized_17(byte *p1);
 OWN void tp_Error_from_bytes(byte *p1, uint8_t n2, uint8_t n3, byte *p4, uint64_t n5, uint64_t n6);
 OWN void tp_error_last_error(byte *p1);
@@ -2235,7 +2235,7 @@ OWN void tp_order_sort_timers(byte *p1);
 OWN uint8_t tp_PlainWheelWheel_list_into(byte *p1, byte *p2);
 OWN uint64_t tp_sort_pivot_median_of_medians(byte *p1, uint64_t n2, uint64_t n3, uint64_t n4, uint64_t n5);
 OWN void tp_sort_unstable_quicksort(byte *p1, uint64_t n2, uint64_t n3, uint32_t n4);
-OWN void tp_facility_sort_by_serial(byte *p1);
+OWN void tp_dumps_sort_by_serial(byte *p1);
 OWN COLD bool tp_std_alloc_vec_Vec_grow_amortized_7(byte *p1, uint64_t n2);
 OWN uint8_t tp_timer_facility_facility_Facility_dump_2(byte *p1, byte *p2);
 OWN NOINLINE uint8_t tp_text_push_refused(byte *p1, byte *p2, uint64_t n3, byte *p4, uint64_t n5, byte *p6, uint64_t n7);
@@ -2281,7 +2281,7 @@ OWN NOINLINE uint8_t tp_timer_script_script_run_answer_first_close_3(byte *p1, b
 OWN NOINLINE uint8_t tp_timer_script_script_run_answer_close_3(byte *p1, byte *p2, byte *p3);
 OWN uint8_t tp_timer_script_service_answer_one_3(byte *p1, byte *p2, byte *p3);
 OWN of_i8_i8 tp_service_send(byte *p1, byte *p2, uint64_t n3);
-OWN uint8_t tp_render_push_number(byte *p1, byte *p2, uint64_t n3, uint64_t n4);
+OWN uint8_t tp_names_push_number(byte *p1, byte *p2, uint64_t n3, uint64_t n4);
 OWN uint8_t tp_render_push_wakeup(byte *p1, uint8_t n2, uint64_t n3);
 OWN void tp_Cutter_end(byte *p1, byte *p2, byte *p3);
 OWN uint8_t tp_text_push_end(byte *p1, uint64_t n2, uint64_t n3);
@@ -2369,7 +2369,7 @@ OWN NOINLINE uint8_t tp_script_run_answer_first_close(byte *p1, byte *p2, byte *
 OWN NOINLINE uint8_t tp_script_run_answer_close(byte *p1, byte *p2, byte *p3);
 OWN uint8_t tp_service_answer_one(byte *p1, byte *p2, byte *p3);
 OWN NOINLINE of_i8_i64 tp_SmoothWheelWheel_quiet_until(byte *p1);
-OWN void tp_resuming_over_scheme(byte *p1, byte *p2, byte *p3, byte *p4, bool b5, byte *p6, byte *p7);
+OWN void tp_resuming_resume(byte *p1, byte *p2, byte *p3, bool b4, byte *p5, byte *p6);
 OWN uint8_t tp_ending_report(byte *p1, uint8_t n2, byte *p3);
 OWN void tp_diagnosis_fault_in_line(byte *p1, uint8_t n2, byte *p3, uint64_t n4);
 OWN uint8_t tp_Vec_extend_from_slice(byte *p1);
@@ -2388,14 +2388,13 @@ OWN void tp_input_read_script(byte *p1, byte *p2);
 OWN void tp_timer_commands_verbs_talk_3(byte *p1, byte *p2, uint8_t n3, bool b4, byte *p5, byte *p6);
 OWN void tp_timer_commands_verbs_talk_2(byte *p1, byte *p2, uint8_t n3, bool b4, byte *p5, byte *p6);
 OWN void tp_timer_commands_verbs_talk(byte *p1, byte *p2, uint8_t n3, bool b4, byte *p5, byte *p6);
-OWN uint8_t tp_render_push_name(byte *p1, uint64_t n2, uint8_t n3, uint8_t n4);
-OWN uint8_t tp_render_push_list(byte *p1, byte *p2, uint64_t n3, uint8_t n4, uint8_t n5, byte *p6);
+OWN uint8_t tp_names_push_name(byte *p1, uint64_t n2, uint8_t n3, uint8_t n4);
+OWN uint8_t tp_lists_push_list(byte *p1, byte *p2, uint64_t n3, uint8_t n4, uint8_t n5, byte *p6);
 OWN uint8_t tp_steps_play_steps(byte *p1, byte *p2, uint64_t n3, byte *p4);
 OWN uint8_t tp_render_push_work(byte *p1, uint64_t n2, uint64_t n3, uint64_t n4);
-OWN uint8_t tp_render_push_lists(byte *p1, byte *p2, uint8_t n3, uint8_t n4, byte *p5);
+OWN uint8_t tp_lists_push_lists(byte *p1, byte *p2, uint8_t n3, uint8_t n4, byte *p5);
 OWN void tp_schemes_over_wheel(byte *p1, byte *p2, byte *p3, byte *p4, byte *p5, byte *p6);
 OWN void tp_verbs_talk(byte *p1, byte *p2, uint8_t n3, bool b4, byte *p5, byte *p6);
-OWN void tp_schemes_over_scheme(byte *p1, byte *p2, byte *p3, byte *p4, byte *p5, byte *p6);
 OWN void tp_schemes_run_new(byte *p1, byte *p2, byte *p3, byte *p4, byte *p5);
 OWN NOINLINE void tp_release_drop_slow(byte *p1, byte *p2, uint64_t n3);
 OWN byte *tp_call_once_thread_called_by_C_0(byte *p1);
@@ -44347,8 +44346,8 @@ L6:
 	}
 }
 
-/* timer_program::arguments::run_options: crates/timer_program/src/arguments.rt */
-OWN void tp_arguments_run_options(byte *p1, byte *p2)
+/* timer_program::arguments::found::run_options: crates/timer_program/src/arguments/found.rt */
+OWN void tp_found_run_options(byte *p1, byte *p2)
 {
 	ALIGN(8) byte p3[16];
 	ALIGN(8) byte p4[16];
@@ -44538,8 +44537,8 @@ OWN bool tp_ArgMatches_get_flag(byte *p1, uint64_t n2, byte *p3, uint64_t n4)
 	return false;
 }
 
-/* timer_program::arguments::subcommand_of: crates/timer_program/src/arguments.rt */
-OWN void tp_arguments_subcommand_of(byte *p1, byte *p2, uint64_t n3, byte *p4)
+/* timer_program::arguments::found::subcommand_of: crates/timer_program/src/arguments/found.rt */
+OWN void tp_found_subcommand_of(byte *p1, byte *p2, uint64_t n3, byte *p4)
 {
 	ALIGN(8) byte p5[16];
 	ALIGN(8) byte p6[16];
@@ -44559,7 +44558,7 @@ OWN void tp_arguments_subcommand_of(byte *p1, byte *p2, uint64_t n3, byte *p4)
 	memset(p14, 0, 48);
 	bool b15 = tp_bytes_equal(p2, n3, (byte *)tp_static_4, 4);
 	if (b15) {
-		tp_arguments_run_options(p12, p4);
+		tp_found_run_options(p12, p4);
 		if (load8(p12) != 1) {
 			memset(p1, 0, 136);
 			return;
@@ -44590,7 +44589,7 @@ OWN void tp_arguments_subcommand_of(byte *p1, byte *p2, uint64_t n3, byte *p4)
 			uint64_t n36 = load64(p4 + 8);
 			bool b37 = tp_ArgMatches_get_flag(p35, n36, (byte *)tp_static_57, 10);
 			bool b38 = tp_ArgMatches_get_flag(p35, n36, (byte *)tp_static_58, 7);
-			tp_arguments_run_options(p13, p4);
+			tp_found_run_options(p13, p4);
 			if (load8(p13) != 1) {
 				memset(p1, 0, 136);
 				return;
@@ -44754,7 +44753,7 @@ L3:
 							}
 L4:
 							{
-								tp_arguments_run_options(p14, p4);
+								tp_found_run_options(p14, p4);
 								if (load8(p14) != 1) {
 									memset(p1, 0, 136);
 									return;
@@ -44920,8 +44919,8 @@ L6:
 	}
 }
 
-/* timer_program::arguments::refusal: crates/timer_program/src/arguments.rt */
-OWN void tp_arguments_refusal(byte *p1, byte *p2, uint64_t n3)
+/* timer_program::arguments::calls::refusal: crates/timer_program/src/arguments/calls.rt */
+OWN void tp_calls_refusal(byte *p1, byte *p2, uint64_t n3)
 {
 	ALIGN(8) byte p4[1];
 	ALIGN(8) byte p5[24];
@@ -45189,8 +45188,8 @@ OWN void tp_Box_drop(byte *p1)
 	return;
 }
 
-/* timer_program::arguments::path_among: crates/timer_program/src/arguments.rt */
-OWN void tp_arguments_path_among(byte *p1, byte *p2, uint64_t n3, byte *p4, uint64_t n5, byte *p6)
+/* timer_program::arguments::calls::path_among: crates/timer_program/src/arguments/calls.rt */
+OWN void tp_calls_path_among(byte *p1, byte *p2, uint64_t n3, byte *p4, uint64_t n5, byte *p6)
 {
 	ALIGN(8) byte p7[48];
 	ALIGN(8) byte p10[16];
@@ -45253,7 +45252,7 @@ L1:
 			n14 = n14 + 1;
 		}
 		memset(p7, 0, 48);
-		tp_arguments_refusal(p7, (byte *)tp_static_228, 61);
+		tp_calls_refusal(p7, (byte *)tp_static_228, 61);
 		n30 = load8(p7 + 8);
 		n31 = load8(p7 + 16);
 		n32 = load64(p7 + 24);
@@ -45282,8 +45281,8 @@ L2:
 	}
 }
 
-/* timer_program::arguments::path_of: crates/timer_program/src/arguments.rt */
-OWN void tp_arguments_path_of(byte *p1, byte *p2, uint64_t n3, byte *p4)
+/* timer_program::arguments::found::path_of: crates/timer_program/src/arguments/found.rt */
+OWN void tp_found_path_of(byte *p1, byte *p2, uint64_t n3, byte *p4)
 {
 	ALIGN(8) byte p5[16];
 	ALIGN(8) byte p6[16];
@@ -45361,8 +45360,8 @@ L1:
 	}
 }
 
-/* timer_program::arguments::number_of_serve: crates/timer_program/src/arguments.rt */
-OWN of_i8_i64 tp_arguments_number_of_serve(byte *p1, uint64_t n2, byte *p3, uint64_t n4, byte *p5)
+/* timer_program::arguments::found::number_of_serve: crates/timer_program/src/arguments/found.rt */
+OWN of_i8_i64 tp_found_number_of_serve(byte *p1, uint64_t n2, byte *p3, uint64_t n4, byte *p5)
 {
 	ALIGN(8) byte p6[16];
 	uint8_t n10;
@@ -45409,8 +45408,8 @@ L1:
 	}
 }
 
-/* timer_program::arguments::parsed: crates/timer_program/src/arguments.rt */
-OWN void tp_arguments_parsed(byte *p1, byte *p2, uint64_t n3, byte *p4, uint64_t n5)
+/* timer_program::arguments::calls::parsed: crates/timer_program/src/arguments/calls.rt */
+OWN void tp_calls_parsed(byte *p1, byte *p2, uint64_t n3, byte *p4, uint64_t n5)
 {
 	ALIGN(8) byte p6[1];
 	ALIGN(8) byte p7[56];
@@ -45650,7 +45649,7 @@ L5:
 						byte *p74 = (byte *)(uintptr_t)(n44 | n39);
 						if (n73 == 1) {
 							byte *p75 = (byte *)(uintptr_t)n40;
-							tp_arguments_subcommand_of(p22, (byte *)tp_static_4, 4, p75 + 16);
+							tp_found_subcommand_of(p22, (byte *)tp_static_4, 4, p75 + 16);
 							if (load8(p22) == 1) {
 								uint64_t n85, n86, n87;
 								uint64_t n76 = (uint64_t)load8(p22 + 8);
@@ -45695,7 +45694,7 @@ L5:
 										n92 = n92 + 1;
 									}
 									memset(p14, 0, 48);
-									tp_arguments_refusal(p14, (byte *)tp_static_228, 61);
+									tp_calls_refusal(p14, (byte *)tp_static_228, 61);
 									uint8_t n97 = load8(p14 + 8);
 									uint8_t n98 = load8(p14 + 16);
 									uint64_t n99 = load64(p14 + 24);
@@ -45784,7 +45783,7 @@ L8:
 									{
 										store64u(p24, n116);
 										memcpy(p24 + 8, p13, 16);
-										tp_arguments_path_among(p23, p4, n5, (byte *)tp_static_6, 8, p24);
+										tp_calls_path_among(p23, p4, n5, (byte *)tp_static_6, 8, p24);
 										uint8_t n120 = load8(p23 + 8);
 										uint64_t n121 = load64u(p23 + 16);
 										uint64_t n122 = load64u(p23 + 24);
@@ -45805,8 +45804,8 @@ L8:
 											memset(p1 + 48, 0, 192);
 											return;
 										}
-										tp_arguments_path_of(p26, (byte *)tp_static_4, 4, p75 + 16);
-										tp_arguments_path_among(p25, p4, n5, (byte *)tp_static_8, 10, p26);
+										tp_found_path_of(p26, (byte *)tp_static_4, 4, p75 + 16);
+										tp_calls_path_among(p25, p4, n5, (byte *)tp_static_8, 10, p26);
 										uint8_t n123 = load8(p25 + 8);
 										uint64_t n124 = load64u(p25 + 16);
 										uint64_t n125 = load64u(p25 + 24);
@@ -45827,8 +45826,8 @@ L8:
 											memset(p1 + 48, 0, 192);
 											return;
 										}
-										of_i8_i64 s126 = tp_arguments_number_of_serve((byte *)tp_static_4, 4, (byte *)tp_static_10, 4, p75 + 16);
-										of_i8_i64 s127 = tp_arguments_number_of_serve((byte *)tp_static_4, 4, (byte *)tp_static_11, 8, p75 + 16);
+										of_i8_i64 s126 = tp_found_number_of_serve((byte *)tp_static_4, 4, (byte *)tp_static_10, 4, p75 + 16);
+										of_i8_i64 s127 = tp_found_number_of_serve((byte *)tp_static_4, 4, (byte *)tp_static_11, 8, p75 + 16);
 										memcpy(p20, p22 + 48, 48);
 										memcpy(p20 + 48, p22 + 96, 40);
 										storeptru(p29, p74);
@@ -45862,7 +45861,7 @@ L8:
 							}
 						}
 						memset(p11, 0, 48);
-						tp_arguments_refusal(p11, (byte *)tp_static_228, 61);
+						tp_calls_refusal(p11, (byte *)tp_static_228, 61);
 						uint8_t n132 = load8(p11 + 8);
 						uint8_t n133 = load8(p11 + 16);
 						uint64_t n134 = load64(p11 + 24);
@@ -46145,8 +46144,8 @@ L1:
 	}
 }
 
-/* timer_program::arguments::is_of_text: crates/timer_program/src/arguments.rt */
-OWN bool tp_arguments_is_of_text(byte *p1, uint64_t n2)
+/* timer_program::arguments::calls::is_of_text: crates/timer_program/src/arguments/calls.rt */
+OWN bool tp_calls_is_of_text(byte *p1, uint64_t n2)
 {
 	bool b3 = tp_bytes_equal(p1, n2, (byte *)tp_static_94, 4);
 	if (b3)
@@ -54208,8 +54207,8 @@ L8:
 	}
 }
 
-/* timer_facility::facility::sort_by_serial: crates/timer_facility/src/facility.rt */
-OWN void tp_facility_sort_by_serial(byte *p1)
+/* timer_facility::facility::dumps::sort_by_serial: crates/timer_facility/src/facility/dumps.rt */
+OWN void tp_dumps_sort_by_serial(byte *p1)
 {
 	ALIGN(8) byte p2[32];
 	byte *p3 = loadptr(p1);
@@ -54386,7 +54385,7 @@ OWN uint8_t tp_timer_facility_facility_Facility_dump_2(byte *p1, byte *p2)
 		rattle_dealloc(loadptru(p5));
 		return 1;
 	}
-	tp_facility_sort_by_serial(p5);
+	tp_dumps_sort_by_serial(p5);
 	uint64_t n7 = load64(p1 + 56);
 	uint64_t n8 = (n7 + load64(p5 + 8)) + 2;
 	uint64_t n9 = load64(p2 + 8);
@@ -64412,8 +64411,8 @@ L1:
 	}
 }
 
-/* timer_commands::render::push_number: crates/timer_commands/src/render.rt */
-OWN uint8_t tp_render_push_number(byte *p1, byte *p2, uint64_t n3, uint64_t n4)
+/* timer_commands::render::names::push_number: crates/timer_commands/src/render/names.rt */
+OWN uint8_t tp_names_push_number(byte *p1, byte *p2, uint64_t n3, uint64_t n4)
 {
 	ALIGN(1) byte p5[40];
 	uint64_t n9, n10, n13;
@@ -64572,7 +64571,7 @@ L1:
 			return 0;
 		}
 	}
-	uint8_t n12 = tp_render_push_number(p1, (byte *)tp_static_338, 7, n3);
+	uint8_t n12 = tp_names_push_number(p1, (byte *)tp_static_338, 7, n3);
 	if ((n12 & 1) != 0)
 		return 1;
 	uint64_t n13 = load64(p1 + 8);
@@ -65515,7 +65514,7 @@ OWN uint8_t tp_timer_facility_facility_Facility_dump(byte *p1, byte *p2)
 		rattle_dealloc(loadptru(p5));
 		return 1;
 	}
-	tp_facility_sort_by_serial(p5);
+	tp_dumps_sort_by_serial(p5);
 	uint64_t n7 = load64(p1 + 128);
 	uint64_t n8 = (n7 + load64(p5 + 8)) + 2;
 	uint64_t n9 = load64(p2 + 8);
@@ -69477,7 +69476,7 @@ OWN uint8_t tp_facility_Facility_dump(byte *p1, byte *p2)
 		rattle_dealloc(loadptru(p5));
 		return 1;
 	}
-	tp_facility_sort_by_serial(p5);
+	tp_dumps_sort_by_serial(p5);
 	uint64_t n7 = load64(p1 + 232);
 	uint64_t n8 = (n7 + load64(p5 + 8)) + 2;
 	uint64_t n9 = load64(p2 + 8);
@@ -75038,7 +75037,7 @@ OWN uint8_t tp_Facility_dump(byte *p1, byte *p2)
 		rattle_dealloc(loadptru(p5));
 		return 1;
 	}
-	tp_facility_sort_by_serial(p5);
+	tp_dumps_sort_by_serial(p5);
 	uint64_t n7 = load64(p1 + 384);
 	uint64_t n8 = (n7 + load64(p5 + 8)) + 2;
 	uint64_t n9 = load64(p2 + 8);
@@ -78647,2908 +78646,2974 @@ L3:
 	}
 }
 
-/* timer_commands::resuming::over_scheme: crates/timer_commands/src/resuming.rt */
-OWN void tp_resuming_over_scheme(byte *p1, byte *p2, byte *p3, byte *p4, bool b5, byte *p6, byte *p7)
+/* timer_commands::resuming::resume: crates/timer_commands/src/resuming.rt */
+OWN void tp_resuming_resume(byte *p1, byte *p2, byte *p3, bool b4, byte *p5, byte *p6)
 {
-	ALIGN(8) byte p8[1];
+	ALIGN(8) byte p7[1];
+	ALIGN(8) byte p8[24];
 	ALIGN(8) byte p9[24];
-	ALIGN(8) byte p10[24];
-	ALIGN(8) byte p11[1520];
-	ALIGN(8) byte p12[96];
-	ALIGN(8) byte p13[24];
-	ALIGN(8) byte p14[96];
+	ALIGN(8) byte p10[1520];
+	ALIGN(8) byte p11[96];
+	ALIGN(8) byte p12[24];
+	ALIGN(8) byte p13[96];
+	ALIGN(8) byte p14[24];
 	ALIGN(8) byte p15[24];
 	ALIGN(8) byte p16[24];
-	ALIGN(8) byte p17[24];
-	ALIGN(8) byte p18[1520];
-	ALIGN(8) byte p19[96];
-	ALIGN(8) byte p20[24];
-	ALIGN(8) byte p21[96];
-	ALIGN(8) byte p22[24];
-	ALIGN(8) byte p23[1504];
-	ALIGN(8) byte p24[384];
-	ALIGN(8) byte p25[128];
-	ALIGN(8) byte p26[280];
-	ALIGN(1) byte p27[287];
-	ALIGN(8) byte p28[360];
-	ALIGN(2) byte p29[390];
-	ALIGN(8) byte p30[128];
+	ALIGN(8) byte p17[1520];
+	ALIGN(8) byte p18[96];
+	ALIGN(8) byte p19[24];
+	ALIGN(8) byte p20[96];
+	ALIGN(8) byte p21[24];
+	ALIGN(8) byte p22[1504];
+	ALIGN(8) byte p23[384];
+	ALIGN(8) byte p24[128];
+	ALIGN(8) byte p25[280];
+	ALIGN(1) byte p26[287];
+	ALIGN(8) byte p27[360];
+	ALIGN(2) byte p28[390];
+	ALIGN(8) byte p29[128];
+	ALIGN(1) byte p30[127];
 	ALIGN(1) byte p31[127];
-	ALIGN(1) byte p32[127];
-	ALIGN(8) byte p33[96];
-	ALIGN(8) byte p34[128];
+	ALIGN(8) byte p32[96];
+	ALIGN(8) byte p33[128];
+	ALIGN(1) byte p34[127];
 	ALIGN(1) byte p35[127];
-	ALIGN(1) byte p36[127];
-	ALIGN(8) byte p37[96];
+	ALIGN(8) byte p36[96];
+	ALIGN(8) byte p37[24];
 	ALIGN(8) byte p38[24];
-	ALIGN(8) byte p39[24];
-	ALIGN(8) byte p40[1264];
-	ALIGN(8) byte p41[96];
-	ALIGN(8) byte p42[24];
-	ALIGN(8) byte p43[96];
+	ALIGN(8) byte p39[1264];
+	ALIGN(8) byte p40[96];
+	ALIGN(8) byte p41[24];
+	ALIGN(8) byte p42[96];
+	ALIGN(8) byte p43[24];
 	ALIGN(8) byte p44[24];
 	ALIGN(8) byte p45[24];
-	ALIGN(8) byte p46[24];
-	ALIGN(8) byte p47[1264];
-	ALIGN(8) byte p48[96];
-	ALIGN(8) byte p49[24];
-	ALIGN(8) byte p50[96];
-	ALIGN(8) byte p51[24];
-	ALIGN(8) byte p52[1248];
+	ALIGN(8) byte p46[1264];
+	ALIGN(8) byte p47[96];
+	ALIGN(8) byte p48[24];
+	ALIGN(8) byte p49[96];
+	ALIGN(8) byte p50[24];
+	ALIGN(8) byte p51[1248];
+	ALIGN(8) byte p52[24];
 	ALIGN(8) byte p53[24];
-	ALIGN(8) byte p54[24];
-	ALIGN(8) byte p55[1192];
-	ALIGN(8) byte p56[96];
-	ALIGN(8) byte p57[24];
-	ALIGN(8) byte p58[96];
+	ALIGN(8) byte p54[1192];
+	ALIGN(8) byte p55[96];
+	ALIGN(8) byte p56[24];
+	ALIGN(8) byte p57[96];
+	ALIGN(8) byte p58[24];
 	ALIGN(8) byte p59[24];
 	ALIGN(8) byte p60[24];
-	ALIGN(8) byte p61[24];
-	ALIGN(8) byte p62[1192];
-	ALIGN(8) byte p63[96];
-	ALIGN(8) byte p64[24];
-	ALIGN(8) byte p65[96];
-	ALIGN(8) byte p66[24];
-	ALIGN(8) byte p67[40];
-	ALIGN(8) byte p68[1176];
-	ALIGN(8) byte p69[56];
-	ALIGN(8) byte p70[40];
-	ALIGN(8) byte p71[40];
-	ALIGN(8) byte p72[136];
-	ALIGN(1) byte p73[127];
-	ALIGN(8) byte p74[96];
-	ALIGN(1) byte p75[127];
-	ALIGN(8) byte p76[96];
-	ALIGN(2) byte p77[390];
-	ALIGN(8) byte p78[32];
-	ALIGN(8) byte p79[240];
-	ALIGN(8) byte p80[240];
-	memcpy(p70, p2, 40);
-	memcpy(p71, p3, 40);
-	memset(p72, 0, 136);
-	memset(p73, 0, 127);
-	memset(p74, 0, 96);
-	memset(p75, 0, 127);
-	memset(p76, 0, 96);
-	memset(p77, 0, 390);
-	memset(p78, 0, 32);
-	memset(p79, 0, 240);
-	memset(p80, 0, 240);
-	uint64_t n81 = load64(p4 + 32);
-	switch (MOSTLY_0(load8(p70))) {
-	case 0: {
-		memcpy(p67, p3, 40);
-		memset(p68, 0, 1176);
-		if (n81 > UINT64_C(1152921504606846975)) {
-			store8(p78, 1);
-			store8(p78 + 1, 0);
-			store64u(p78 + 8, 2);
-			store8(p78 + 16, 2);
-			store8(p78 + 17, 0);
-			store64u(p78 + 24, 0);
-		} else {
-			uint8_t n152, n153, n155;
-			uint64_t n154, n156;
-			store64(p69, n81);
-			store64(p69 + 8, 0);
-			storeptr(p69 + 16, p8);
-			memset(p69 + 24, 0, 32);
-			tp_timer_facility_player_Player_restore_2(p68, p67, p69, p4);
-			if (load8(p68) == 0) {
-				byte *p82 = loadptru(p68 + 24);
-				uint64_t n83 = load64u(p68 + 32);
-				uint64_t n84 = load64u(p68 + 40);
-				byte *p85 = loadptru(p68 + 1120);
-				uint64_t n86 = load64u(p68 + 1128);
-				uint64_t n87 = load64u(p68 + 1136);
-				uint64_t n88 = load64u(p68 + 1144);
-				byte *p89 = loadptru(p68 + 1152);
-				uint64_t n90 = load64u(p68 + 1160);
-				uint64_t n91 = load64u(p68 + 1168);
-				if (b5) {
-					uint8_t n93;
-					uint64_t n94;
-					memset(p61, 0, 24);
-					memset(p62, 0, 1192);
-					memset(p63, 0, 96);
-					memset(p64, 0, 24);
-					memset(p65, 0, 96);
-					memset(p66, 0, 24);
-					of_i64_i64 s92 = rattle_alloc(16384, 1);
-					if ((s92.f0 & 1) == 0) {
-						if (n84 != 0)
-							rattle_dealloc(p82);
-						if (n87 != 0)
-							rattle_dealloc(p85);
-						if (n91 == 0) {
-							n93 = 2;
-							n94 = 0;
-						} else {
-							rattle_dealloc(p89);
-							n93 = 2;
-							n94 = 0;
-						}
-					} else {
-						uint64_t n100, n107, n120, n123, n125;
-						of_i8_i8 s106;
-						uint8_t n121, n137;
-						byte *p122, *p124;
-						byte *p95 = (byte *)(uintptr_t)s92.f1;
-						uint64_t n96 = 0;
-						while (n96 != 16383) {
-							store8(inside(p95, n96), 0);
-							n96 = n96 + 1;
-						}
-						store8(p95 + 16383, 0);
-						storeptru(p61, p8);
-						memset(p61 + 8, 0, 16);
-						memcpy(p62, p68 + 8, 16);
-						storeptru(p62 + 16, p82);
-						store64u(p62 + 24, n83);
-						store64u(p62 + 32, n84);
-						memcpy(p62 + 40, p68 + 48, 16);
-						memcpy(p62 + 56, p68 + 64, 1056);
-						storeptru(p62 + 1112, p85);
-						store64u(p62 + 1120, n86);
-						store64u(p62 + 1128, n87);
-						store64u(p62 + 1136, n88);
-						storeptru(p62 + 1144, p89);
-						store64u(p62 + 1152, n90);
-						store64u(p62 + 1160, n91);
-						storeptru(p62 + 1168, p8);
-						memset(p62 + 1176, 0, 16);
-						store8(p63, 1);
-						memset(p63 + 1, 0, 7);
-						storeptru(p63 + 8, p8);
-						memset(p63 + 16, 0, 16);
-						storeptru(p63 + 32, p8);
-						memset(p63 + 40, 0, 16);
-						storeptru(p63 + 56, p8);
-						memset(p63 + 64, 0, 16);
-						store64u(p63 + 80, 1);
-						store8(p63 + 88, 1);
-						memset(p63 + 89, 0, 7);
-						uint64_t n97 = 0;
-						for (;;) {
-							uint64_t n108;
-							if (n97 == UINT64_MAX)
-								goto L1;
-							tp_timer_script_service_tell_state_3(p64, p62, p6, p61);
-							if (load8(p64) != 0)
-								break;
-							tp_JournaledPeerPeer_read(p65, p6, p95);
-							if (load8(p65) != 0)
-								goto L2;
-							uint64_t n98 = load64(p65 + 8);
-							tp_Cutter_take_in(p66, p63, p95, n98, p7);
-							if (load8(p66) != 0)
-								goto L3;
-							uint8_t n99 = load8(p66 + 8);
-							n100 = load64u(p66 + 16);
-							byte *p101 = loadptr(p63 + 8);
-							uint64_t n102 = load64(p63 + 16);
-							if (load64(p61 + 8) != 0)
-								store64(p61 + 8, 0);
-							uint64_t n103 = 0;
-							while (n103 != n102) {
-								uint8_t n104 = tp_timer_script_service_answer_one_3(p62, at(p101, n103 * 48), p61);
-								if ((n104 & 1) != 0) {
-									of_i8_i8 s105 = tp_service_send(p6, loadptr(p61), load64(p61 + 8));
-									if (s105.f0 == 0)
-										goto L4;
-									s106 = s105;
-									goto L5;
-								}
-								n103 = n103 + 1;
-							}
-							n107 = load64(p61 + 8);
-							if (n102 == 0) {
-								n108 = n107;
-							} else {
-								byte *p109 = loadptr(p62 + 16);
-								uint64_t n110 = load64(p62 + 24);
-								uint64_t n111 = load64(p62);
-								uint64_t n112 = 0;
-								uint64_t n113 = 0;
-								uint8_t n114 = 0;
-								while (n112 != n110) {
-									uint64_t n116;
-									uint8_t n117;
-									uint64_t n115 = load64(at(p109, n112 * 40) + 24);
-									if (n111 < n115) {
-										if (n114 == 1) {
-											n116 = umin64(n115, n113);
-											n117 = 1;
-										} else {
-											n116 = n115;
-											n117 = 1;
-										}
-									} else {
-										n116 = n113;
-										n117 = n114;
-									}
-									n112 = n112 + 1;
-									n113 = n116;
-									n114 = n117;
-								}
-								uint8_t n118 = tp_render_push_wakeup(p61, n114, n113);
-								if ((n118 & 1) != 0)
-									goto L6;
-								n108 = load64(p61 + 8);
-							}
-							of_i8_i8 s119 = tp_service_send(p6, loadptr(p61), n108);
-							if (s119.f0 != 0) {
-								s106 = s119;
-								goto L5;
-							}
-							if (n99 == 1)
-								goto L7;
-							if (n98 == 0)
-								goto L8;
-							n97 = n97 + 1;
-						}
-						n120 = load64u(p64 + 16);
-						n121 = load8(p64 + 8);
-						if (load64u(p63 + 24) != 0)
-							rattle_dealloc(loadptru(p63 + 8));
-						if (load64u(p63 + 48) != 0)
-							rattle_dealloc(loadptru(p63 + 32));
-						if (load64u(p63 + 72) != 0)
-							rattle_dealloc(loadptru(p63 + 56));
-						p122 = loadptru(p62 + 1112);
-						n123 = load64u(p62 + 1128);
-						p124 = loadptru(p62 + 1144);
-						n125 = load64u(p62 + 1160);
-						if (load64u(p62 + 32) != 0)
-							rattle_dealloc(loadptru(p62 + 16));
-						if (n123 != 0)
-							rattle_dealloc(p122);
-						if (n125 != 0)
-							rattle_dealloc(p124);
-						if (load64u(p62 + 1184) != 0)
-							rattle_dealloc(loadptru(p62 + 1168));
-						if (load64u(p61 + 16) != 0)
-							rattle_dealloc(loadptru(p61));
-						rattle_dealloc(p95);
-						n93 = n121;
-						n94 = n120;
-						goto L9;
-L2:
-						{
-							if (load64u(p63 + 24) != 0)
-								rattle_dealloc(loadptru(p63 + 8));
-							if (load64u(p63 + 48) != 0)
-								rattle_dealloc(loadptru(p63 + 32));
-							if (load64u(p63 + 72) != 0)
-								rattle_dealloc(loadptru(p63 + 56));
-							byte *p126 = loadptru(p62 + 1112);
-							uint64_t n127 = load64u(p62 + 1128);
-							byte *p128 = loadptru(p62 + 1144);
-							uint64_t n129 = load64u(p62 + 1160);
-							if (load64u(p62 + 32) != 0)
-								rattle_dealloc(loadptru(p62 + 16));
-							if (n127 != 0)
-								rattle_dealloc(p126);
-							if (n129 != 0)
-								rattle_dealloc(p128);
-							if (load64u(p62 + 1184) != 0)
-								rattle_dealloc(loadptru(p62 + 1168));
-							if (load64u(p61 + 16) != 0)
-								rattle_dealloc(loadptru(p61));
-							rattle_dealloc(p95);
-							n93 = 0;
-							n94 = 0;
-							goto L9;
-						}
-L3:
-						{
-							if (load64u(p63 + 24) != 0)
-								rattle_dealloc(loadptru(p63 + 8));
-							if (load64u(p63 + 48) != 0)
-								rattle_dealloc(loadptru(p63 + 32));
-							if (load64u(p63 + 72) != 0)
-								rattle_dealloc(loadptru(p63 + 56));
-							byte *p130 = loadptru(p62 + 1112);
-							uint64_t n131 = load64u(p62 + 1128);
-							byte *p132 = loadptru(p62 + 1144);
-							uint64_t n133 = load64u(p62 + 1160);
-							if (load64u(p62 + 32) != 0)
-								rattle_dealloc(loadptru(p62 + 16));
-							if (n131 != 0)
-								rattle_dealloc(p130);
-							if (n133 != 0)
-								rattle_dealloc(p132);
-							if (load64u(p62 + 1184) != 0)
-								rattle_dealloc(loadptru(p62 + 1168));
-							if (load64u(p61 + 16) != 0)
-								rattle_dealloc(loadptru(p61));
-							rattle_dealloc(p95);
-							n93 = 2;
-							n94 = 0;
-							goto L9;
-						}
-L6:
-						{
-							uint64_t n135;
-							uint64_t n134 = load64(p61 + 8);
-							if (n134 > n107) {
-								store64(p61 + 8, n107);
-								n135 = n107;
-							} else {
-								n135 = n134;
-							}
-							of_i8_i8 s136 = tp_service_send(p6, loadptr(p61), n135);
-							if (s136.f0 == 0)
-								goto L4;
-							s106 = s136;
-						}
-L5:
-						{
-							if (of_i8_i8_of(frozen8(s106.f0), frozen8(s106.f1)).f1 != 0) {
-								n137 = 3;
-								goto L10;
-							}
-						}
-L4:
-						{
-							n137 = 2;
-						}
-L10:
-						{
-							if (load64u(p63 + 24) != 0)
-								rattle_dealloc(loadptru(p63 + 8));
-							if (load64u(p63 + 48) != 0)
-								rattle_dealloc(loadptru(p63 + 32));
-							if (load64u(p63 + 72) != 0)
-								rattle_dealloc(loadptru(p63 + 56));
-							byte *p138 = loadptru(p62 + 1112);
-							uint64_t n139 = load64u(p62 + 1128);
-							byte *p140 = loadptru(p62 + 1144);
-							uint64_t n141 = load64u(p62 + 1160);
-							if (load64u(p62 + 32) != 0)
-								rattle_dealloc(loadptru(p62 + 16));
-							if (n139 != 0)
-								rattle_dealloc(p138);
-							if (n141 != 0)
-								rattle_dealloc(p140);
-							if (load64u(p62 + 1184) != 0)
-								rattle_dealloc(loadptru(p62 + 1168));
-							if (load64u(p61 + 16) != 0)
-								rattle_dealloc(loadptru(p61));
-							rattle_dealloc(p95);
-							n93 = n137;
-							n94 = 0;
-							goto L9;
-						}
-L8:
-						{
-							uint64_t n142;
-							uint8_t n143, n144;
-							bool b145;
+	ALIGN(8) byte p61[1192];
+	ALIGN(8) byte p62[96];
+	ALIGN(8) byte p63[24];
+	ALIGN(8) byte p64[96];
+	ALIGN(8) byte p65[24];
+	ALIGN(8) byte p66[1176];
+	ALIGN(8) byte p67[56];
+	ALIGN(1) byte p73[7];
+	ALIGN(8) byte p74[40];
+	ALIGN(8) byte p75[136];
+	ALIGN(1) byte p76[127];
+	ALIGN(8) byte p77[96];
+	ALIGN(1) byte p78[127];
+	ALIGN(8) byte p79[96];
+	ALIGN(2) byte p80[390];
+	ALIGN(8) byte p81[32];
+	ALIGN(8) byte p82[40];
+	ALIGN(8) byte p83[240];
+	ALIGN(8) byte p84[40];
+	ALIGN(8) byte p85[240];
+	uint64_t n86, n87;
+	uint8_t n68 = load8(p2);
+	uint64_t n69 = load64u(p2 + 8);
+	uint64_t n70 = load64u(p2 + 16);
+	uint64_t n71 = load64u(p2 + 24);
+	uint64_t n72 = load64u(p2 + 32);
+	memset(p75, 0, 136);
+	memset(p76, 0, 127);
+	memset(p77, 0, 96);
+	memset(p78, 0, 127);
+	memset(p79, 0, 96);
+	memset(p80, 0, 390);
+	memset(p81, 0, 32);
+	memset(p82, 0, 40);
+	memset(p83, 0, 240);
+	memset(p84, 0, 40);
+	memset(p85, 0, 240);
+	memcpy(p73, p2 + 1, 7);
+	if ((n70 - 65) < UINT64_C(18446744073709551552)) {
+		n86 = 0;
+		n87 = 0;
+	} else if ((n71 - 1048577) < UINT64_C(18446744073708503040)) {
+		n86 = 0;
+		n87 = 256;
+	} else if (n72 > UINT64_C(1152921504606846975)) {
+		n86 = 0;
+		n87 = 512;
+	} else if ((n69 - 65537) < UINT64_C(18446744073709486080)) {
+		n86 = 0;
+		n87 = 1;
+	} else {
+		uint64_t n88;
+		switch (MOSTLY_0(n68)) {
+		case 0:
+		case 1:
+		case 2:
+		case 4: {
+			n88 = UINT64_C(1152921504606846975);
+			break;
+		}
+		case 3: {
+			n88 = 8639999;
+			break;
+		}
+		default: {
+			UNREACHABLE();
+		}
+		}
+		if (n88 >= n72) {
+			store64u(p74, n70);
+			store64u(p74 + 8, n71);
+			store64u(p74 + 16, n72);
+			store64u(p74 + 24, 1);
+			store64u(p74 + 32, 1);
+			uint64_t n89 = load64(p3 + 32);
+			switch (MOSTLY_0(n68)) {
+			case 0: {
+				memset(p66, 0, 1176);
+				if (n89 > UINT64_C(1152921504606846975)) {
+					store8(p81, 1);
+					store8(p81 + 1, 0);
+					store64u(p81 + 8, 2);
+					store8(p81 + 16, 2);
+					store8(p81 + 17, 0);
+					store64u(p81 + 24, 0);
+				} else {
+					uint8_t n160, n161, n163;
+					uint64_t n162, n164;
+					store64(p67, n89);
+					store64(p67 + 8, 0);
+					storeptr(p67 + 16, p7);
+					memset(p67 + 24, 0, 32);
+					tp_timer_facility_player_Player_restore_2(p66, p74, p67, p3);
+					if (load8(p66) == 0) {
+						byte *p90 = loadptru(p66 + 24);
+						uint64_t n91 = load64u(p66 + 32);
+						uint64_t n92 = load64u(p66 + 40);
+						byte *p93 = loadptru(p66 + 1120);
+						uint64_t n94 = load64u(p66 + 1128);
+						uint64_t n95 = load64u(p66 + 1136);
+						uint64_t n96 = load64u(p66 + 1144);
+						byte *p97 = loadptru(p66 + 1152);
+						uint64_t n98 = load64u(p66 + 1160);
+						uint64_t n99 = load64u(p66 + 1168);
+						if (b4) {
+							uint8_t n101;
+							uint64_t n102;
 							memset(p60, 0, 24);
-							tp_Cutter_end(p60, p63, p7);
-							if (load8(p60) == 0) {
-								if (load8(p60 + 8) == 1) {
-									n142 = load64u(p60 + 16);
-									n143 = 1;
-									n144 = 3;
-									b145 = true;
+							memset(p61, 0, 1192);
+							memset(p62, 0, 96);
+							memset(p63, 0, 24);
+							memset(p64, 0, 96);
+							memset(p65, 0, 24);
+							of_i64_i64 s100 = rattle_alloc(16384, 1);
+							if ((s100.f0 & 1) == 0) {
+								if (n92 != 0)
+									rattle_dealloc(p90);
+								if (n95 != 0)
+									rattle_dealloc(p93);
+								if (n99 == 0) {
+									n101 = 2;
+									n102 = 0;
 								} else {
-									if (load64(p61 + 8) != 0)
-										store64(p61 + 8, 0);
-									uint8_t n146 = tp_text_push_end(p61, load64(p62), load64(p62 + 24) - load64(p62 + 40));
-									if ((n146 & 1) != 0) {
-										n142 = 0;
-										n143 = 2;
-										n144 = 3;
-										b145 = true;
-									} else {
-										of_i8_i8 s147 = tp_service_send(p6, loadptr(p61), load64(p61 + 8));
-										if (s147.f0 == 0) {
-											n142 = 0;
-											n143 = 0;
-											n144 = (uint8_t)(((load8(p63 + 88) & 1) != 0) ? 0 : 3);
-											b145 = false;
-										} else {
-											n142 = 0;
-											n143 = (uint8_t)((s147.f1 == 0) ? 2 : 3);
-											n144 = 3;
-											b145 = true;
-										}
-									}
+									rattle_dealloc(p97);
+									n101 = 2;
+									n102 = 0;
 								}
 							} else {
-								n142 = 0;
-								n143 = 2;
-								n144 = 3;
-								b145 = true;
-							}
-							if (load64u(p63 + 24) != 0)
-								rattle_dealloc(loadptru(p63 + 8));
-							if (load64u(p63 + 48) != 0)
-								rattle_dealloc(loadptru(p63 + 32));
-							if (load64u(p63 + 72) != 0)
-								rattle_dealloc(loadptru(p63 + 56));
-							byte *p148 = loadptru(p62 + 1112);
-							uint64_t n149 = load64u(p62 + 1128);
-							byte *p150 = loadptru(p62 + 1144);
-							uint64_t n151 = load64u(p62 + 1160);
-							if (load64u(p62 + 32) != 0)
-								rattle_dealloc(loadptru(p62 + 16));
-							if (n149 != 0)
-								rattle_dealloc(p148);
-							if (n151 != 0)
-								rattle_dealloc(p150);
-							if (load64u(p62 + 1184) != 0)
-								rattle_dealloc(loadptru(p62 + 1168));
-							if (load64u(p61 + 16) != 0)
-								rattle_dealloc(loadptru(p61));
-							rattle_dealloc(p95);
-							if (b145) {
-								n152 = 1;
-								n153 = 0;
-								n154 = 2;
-								n155 = n143;
-								n156 = n142;
-								goto L11;
-							}
-							n152 = 0;
-							n153 = n144;
-							n154 = 0;
-							n155 = 0;
-							n156 = 0;
-							goto L11;
-						}
+								uint64_t n108, n115, n128, n131, n133;
+								of_i8_i8 s114;
+								uint8_t n129, n145;
+								byte *p130, *p132;
+								byte *p103 = (byte *)(uintptr_t)s100.f1;
+								uint64_t n104 = 0;
+								while (n104 != 16383) {
+									store8(inside(p103, n104), 0);
+									n104 = n104 + 1;
+								}
+								store8(p103 + 16383, 0);
+								storeptru(p60, p7);
+								memset(p60 + 8, 0, 16);
+								memcpy(p61, p66 + 8, 16);
+								storeptru(p61 + 16, p90);
+								store64u(p61 + 24, n91);
+								store64u(p61 + 32, n92);
+								memcpy(p61 + 40, p66 + 48, 16);
+								memcpy(p61 + 56, p66 + 64, 1056);
+								storeptru(p61 + 1112, p93);
+								store64u(p61 + 1120, n94);
+								store64u(p61 + 1128, n95);
+								store64u(p61 + 1136, n96);
+								storeptru(p61 + 1144, p97);
+								store64u(p61 + 1152, n98);
+								store64u(p61 + 1160, n99);
+								storeptru(p61 + 1168, p7);
+								memset(p61 + 1176, 0, 16);
+								store8(p62, 1);
+								memset(p62 + 1, 0, 7);
+								storeptru(p62 + 8, p7);
+								memset(p62 + 16, 0, 16);
+								storeptru(p62 + 32, p7);
+								memset(p62 + 40, 0, 16);
+								storeptru(p62 + 56, p7);
+								memset(p62 + 64, 0, 16);
+								store64u(p62 + 80, 1);
+								store8(p62 + 88, 1);
+								memset(p62 + 89, 0, 7);
+								uint64_t n105 = 0;
+								for (;;) {
+									uint64_t n116;
+									if (n105 == UINT64_MAX)
+										goto L1;
+									tp_timer_script_service_tell_state_3(p63, p61, p5, p60);
+									if (load8(p63) != 0)
+										break;
+									tp_JournaledPeerPeer_read(p64, p5, p103);
+									if (load8(p64) != 0)
+										goto L2;
+									uint64_t n106 = load64(p64 + 8);
+									tp_Cutter_take_in(p65, p62, p103, n106, p6);
+									if (load8(p65) != 0)
+										goto L3;
+									uint8_t n107 = load8(p65 + 8);
+									n108 = load64u(p65 + 16);
+									byte *p109 = loadptr(p62 + 8);
+									uint64_t n110 = load64(p62 + 16);
+									if (load64(p60 + 8) != 0)
+										store64(p60 + 8, 0);
+									uint64_t n111 = 0;
+									while (n111 != n110) {
+										uint8_t n112 = tp_timer_script_service_answer_one_3(p61, at(p109, n111 * 48), p60);
+										if ((n112 & 1) != 0) {
+											of_i8_i8 s113 = tp_service_send(p5, loadptr(p60), load64(p60 + 8));
+											if (s113.f0 == 0)
+												goto L4;
+											s114 = s113;
+											goto L5;
+										}
+										n111 = n111 + 1;
+									}
+									n115 = load64(p60 + 8);
+									if (n110 == 0) {
+										n116 = n115;
+									} else {
+										byte *p117 = loadptr(p61 + 16);
+										uint64_t n118 = load64(p61 + 24);
+										uint64_t n119 = load64(p61);
+										uint64_t n120 = 0;
+										uint64_t n121 = 0;
+										uint8_t n122 = 0;
+										while (n120 != n118) {
+											uint64_t n124;
+											uint8_t n125;
+											uint64_t n123 = load64(at(p117, n120 * 40) + 24);
+											if (n119 < n123) {
+												if (n122 == 1) {
+													n124 = umin64(n123, n121);
+													n125 = 1;
+												} else {
+													n124 = n123;
+													n125 = 1;
+												}
+											} else {
+												n124 = n121;
+												n125 = n122;
+											}
+											n120 = n120 + 1;
+											n121 = n124;
+											n122 = n125;
+										}
+										uint8_t n126 = tp_render_push_wakeup(p60, n122, n121);
+										if ((n126 & 1) != 0)
+											goto L6;
+										n116 = load64(p60 + 8);
+									}
+									of_i8_i8 s127 = tp_service_send(p5, loadptr(p60), n116);
+									if (s127.f0 != 0) {
+										s114 = s127;
+										goto L5;
+									}
+									if (n107 == 1)
+										goto L7;
+									if (n106 == 0)
+										goto L8;
+									n105 = n105 + 1;
+								}
+								n128 = load64u(p63 + 16);
+								n129 = load8(p63 + 8);
+								if (load64u(p62 + 24) != 0)
+									rattle_dealloc(loadptru(p62 + 8));
+								if (load64u(p62 + 48) != 0)
+									rattle_dealloc(loadptru(p62 + 32));
+								if (load64u(p62 + 72) != 0)
+									rattle_dealloc(loadptru(p62 + 56));
+								p130 = loadptru(p61 + 1112);
+								n131 = load64u(p61 + 1128);
+								p132 = loadptru(p61 + 1144);
+								n133 = load64u(p61 + 1160);
+								if (load64u(p61 + 32) != 0)
+									rattle_dealloc(loadptru(p61 + 16));
+								if (n131 != 0)
+									rattle_dealloc(p130);
+								if (n133 != 0)
+									rattle_dealloc(p132);
+								if (load64u(p61 + 1184) != 0)
+									rattle_dealloc(loadptru(p61 + 1168));
+								if (load64u(p60 + 16) != 0)
+									rattle_dealloc(loadptru(p60));
+								rattle_dealloc(p103);
+								n101 = n129;
+								n102 = n128;
+								goto L9;
+L2:
+								{
+									if (load64u(p62 + 24) != 0)
+										rattle_dealloc(loadptru(p62 + 8));
+									if (load64u(p62 + 48) != 0)
+										rattle_dealloc(loadptru(p62 + 32));
+									if (load64u(p62 + 72) != 0)
+										rattle_dealloc(loadptru(p62 + 56));
+									byte *p134 = loadptru(p61 + 1112);
+									uint64_t n135 = load64u(p61 + 1128);
+									byte *p136 = loadptru(p61 + 1144);
+									uint64_t n137 = load64u(p61 + 1160);
+									if (load64u(p61 + 32) != 0)
+										rattle_dealloc(loadptru(p61 + 16));
+									if (n135 != 0)
+										rattle_dealloc(p134);
+									if (n137 != 0)
+										rattle_dealloc(p136);
+									if (load64u(p61 + 1184) != 0)
+										rattle_dealloc(loadptru(p61 + 1168));
+									if (load64u(p60 + 16) != 0)
+										rattle_dealloc(loadptru(p60));
+									rattle_dealloc(p103);
+									n101 = 0;
+									n102 = 0;
+									goto L9;
+								}
+L3:
+								{
+									if (load64u(p62 + 24) != 0)
+										rattle_dealloc(loadptru(p62 + 8));
+									if (load64u(p62 + 48) != 0)
+										rattle_dealloc(loadptru(p62 + 32));
+									if (load64u(p62 + 72) != 0)
+										rattle_dealloc(loadptru(p62 + 56));
+									byte *p138 = loadptru(p61 + 1112);
+									uint64_t n139 = load64u(p61 + 1128);
+									byte *p140 = loadptru(p61 + 1144);
+									uint64_t n141 = load64u(p61 + 1160);
+									if (load64u(p61 + 32) != 0)
+										rattle_dealloc(loadptru(p61 + 16));
+									if (n139 != 0)
+										rattle_dealloc(p138);
+									if (n141 != 0)
+										rattle_dealloc(p140);
+									if (load64u(p61 + 1184) != 0)
+										rattle_dealloc(loadptru(p61 + 1168));
+									if (load64u(p60 + 16) != 0)
+										rattle_dealloc(loadptru(p60));
+									rattle_dealloc(p103);
+									n101 = 2;
+									n102 = 0;
+									goto L9;
+								}
+L6:
+								{
+									uint64_t n143;
+									uint64_t n142 = load64(p60 + 8);
+									if (n142 > n115) {
+										store64(p60 + 8, n115);
+										n143 = n115;
+									} else {
+										n143 = n142;
+									}
+									of_i8_i8 s144 = tp_service_send(p5, loadptr(p60), n143);
+									if (s144.f0 == 0)
+										goto L4;
+									s114 = s144;
+								}
+L5:
+								{
+									if (of_i8_i8_of(frozen8(s114.f0), frozen8(s114.f1)).f1 != 0) {
+										n145 = 3;
+										goto L10;
+									}
+								}
+L4:
+								{
+									n145 = 2;
+								}
+L10:
+								{
+									if (load64u(p62 + 24) != 0)
+										rattle_dealloc(loadptru(p62 + 8));
+									if (load64u(p62 + 48) != 0)
+										rattle_dealloc(loadptru(p62 + 32));
+									if (load64u(p62 + 72) != 0)
+										rattle_dealloc(loadptru(p62 + 56));
+									byte *p146 = loadptru(p61 + 1112);
+									uint64_t n147 = load64u(p61 + 1128);
+									byte *p148 = loadptru(p61 + 1144);
+									uint64_t n149 = load64u(p61 + 1160);
+									if (load64u(p61 + 32) != 0)
+										rattle_dealloc(loadptru(p61 + 16));
+									if (n147 != 0)
+										rattle_dealloc(p146);
+									if (n149 != 0)
+										rattle_dealloc(p148);
+									if (load64u(p61 + 1184) != 0)
+										rattle_dealloc(loadptru(p61 + 1168));
+									if (load64u(p60 + 16) != 0)
+										rattle_dealloc(loadptru(p60));
+									rattle_dealloc(p103);
+									n101 = n145;
+									n102 = 0;
+									goto L9;
+								}
+L8:
+								{
+									uint64_t n150;
+									uint8_t n151, n152;
+									bool b153;
+									memset(p59, 0, 24);
+									tp_Cutter_end(p59, p62, p6);
+									if (load8(p59) == 0) {
+										if (load8(p59 + 8) == 1) {
+											n150 = load64u(p59 + 16);
+											n151 = 1;
+											n152 = 3;
+											b153 = true;
+										} else {
+											if (load64(p60 + 8) != 0)
+												store64(p60 + 8, 0);
+											uint8_t n154 = tp_text_push_end(p60, load64(p61), load64(p61 + 24) - load64(p61 + 40));
+											if ((n154 & 1) != 0) {
+												n150 = 0;
+												n151 = 2;
+												n152 = 3;
+												b153 = true;
+											} else {
+												of_i8_i8 s155 = tp_service_send(p5, loadptr(p60), load64(p60 + 8));
+												if (s155.f0 == 0) {
+													n150 = 0;
+													n151 = 0;
+													n152 = (uint8_t)(((load8(p62 + 88) & 1) != 0) ? 0 : 3);
+													b153 = false;
+												} else {
+													n150 = 0;
+													n151 = (uint8_t)((s155.f1 == 0) ? 2 : 3);
+													n152 = 3;
+													b153 = true;
+												}
+											}
+										}
+									} else {
+										n150 = 0;
+										n151 = 2;
+										n152 = 3;
+										b153 = true;
+									}
+									if (load64u(p62 + 24) != 0)
+										rattle_dealloc(loadptru(p62 + 8));
+									if (load64u(p62 + 48) != 0)
+										rattle_dealloc(loadptru(p62 + 32));
+									if (load64u(p62 + 72) != 0)
+										rattle_dealloc(loadptru(p62 + 56));
+									byte *p156 = loadptru(p61 + 1112);
+									uint64_t n157 = load64u(p61 + 1128);
+									byte *p158 = loadptru(p61 + 1144);
+									uint64_t n159 = load64u(p61 + 1160);
+									if (load64u(p61 + 32) != 0)
+										rattle_dealloc(loadptru(p61 + 16));
+									if (n157 != 0)
+										rattle_dealloc(p156);
+									if (n159 != 0)
+										rattle_dealloc(p158);
+									if (load64u(p61 + 1184) != 0)
+										rattle_dealloc(loadptru(p61 + 1168));
+									if (load64u(p60 + 16) != 0)
+										rattle_dealloc(loadptru(p60));
+									rattle_dealloc(p103);
+									if (b153) {
+										n160 = 1;
+										n161 = 0;
+										n162 = 2;
+										n163 = n151;
+										n164 = n150;
+										goto L11;
+									}
+									n160 = 0;
+									n161 = n152;
+									n162 = 0;
+									n163 = 0;
+									n164 = 0;
+									goto L11;
+								}
 L7:
-						{
-							if (load64u(p63 + 24) != 0)
-								rattle_dealloc(loadptru(p63 + 8));
-							if (load64u(p63 + 48) != 0)
-								rattle_dealloc(loadptru(p63 + 32));
-							if (load64u(p63 + 72) != 0)
-								rattle_dealloc(loadptru(p63 + 56));
-							byte *p157 = loadptru(p62 + 1112);
-							uint64_t n158 = load64u(p62 + 1128);
-							byte *p159 = loadptru(p62 + 1144);
-							uint64_t n160 = load64u(p62 + 1160);
-							if (load64u(p62 + 32) != 0)
-								rattle_dealloc(loadptru(p62 + 16));
-							if (n158 != 0)
-								rattle_dealloc(p157);
-							if (n160 != 0)
-								rattle_dealloc(p159);
-							if (load64u(p62 + 1184) != 0)
-								rattle_dealloc(loadptru(p62 + 1168));
-							if (load64u(p61 + 16) != 0)
-								rattle_dealloc(loadptru(p61));
-							rattle_dealloc(p95);
-							n93 = 1;
-							n94 = n100;
-							goto L9;
-						}
+								{
+									if (load64u(p62 + 24) != 0)
+										rattle_dealloc(loadptru(p62 + 8));
+									if (load64u(p62 + 48) != 0)
+										rattle_dealloc(loadptru(p62 + 32));
+									if (load64u(p62 + 72) != 0)
+										rattle_dealloc(loadptru(p62 + 56));
+									byte *p165 = loadptru(p61 + 1112);
+									uint64_t n166 = load64u(p61 + 1128);
+									byte *p167 = loadptru(p61 + 1144);
+									uint64_t n168 = load64u(p61 + 1160);
+									if (load64u(p61 + 32) != 0)
+										rattle_dealloc(loadptru(p61 + 16));
+									if (n166 != 0)
+										rattle_dealloc(p165);
+									if (n168 != 0)
+										rattle_dealloc(p167);
+									if (load64u(p61 + 1184) != 0)
+										rattle_dealloc(loadptru(p61 + 1168));
+									if (load64u(p60 + 16) != 0)
+										rattle_dealloc(loadptru(p60));
+									rattle_dealloc(p103);
+									n101 = 1;
+									n102 = n108;
+									goto L9;
+								}
 L1:
-						{
-							if (load64u(p63 + 24) != 0)
-								rattle_dealloc(loadptru(p63 + 8));
-							if (load64u(p63 + 48) != 0)
-								rattle_dealloc(loadptru(p63 + 32));
-							if (load64u(p63 + 72) != 0)
-								rattle_dealloc(loadptru(p63 + 56));
-							byte *p161 = loadptru(p62 + 1112);
-							uint64_t n162 = load64u(p62 + 1128);
-							byte *p163 = loadptru(p62 + 1144);
-							uint64_t n164 = load64u(p62 + 1160);
-							if (load64u(p62 + 32) != 0)
-								rattle_dealloc(loadptru(p62 + 16));
-							if (n162 != 0)
-								rattle_dealloc(p161);
-							if (n164 != 0)
-								rattle_dealloc(p163);
-							if (load64u(p62 + 1184) != 0)
-								rattle_dealloc(loadptru(p62 + 1168));
-							if (load64u(p61 + 16) != 0)
-								rattle_dealloc(loadptru(p61));
-							rattle_dealloc(p95);
-							n93 = 4;
-							n94 = 0;
-						}
-					}
+								{
+									if (load64u(p62 + 24) != 0)
+										rattle_dealloc(loadptru(p62 + 8));
+									if (load64u(p62 + 48) != 0)
+										rattle_dealloc(loadptru(p62 + 32));
+									if (load64u(p62 + 72) != 0)
+										rattle_dealloc(loadptru(p62 + 56));
+									byte *p169 = loadptru(p61 + 1112);
+									uint64_t n170 = load64u(p61 + 1128);
+									byte *p171 = loadptru(p61 + 1144);
+									uint64_t n172 = load64u(p61 + 1160);
+									if (load64u(p61 + 32) != 0)
+										rattle_dealloc(loadptru(p61 + 16));
+									if (n170 != 0)
+										rattle_dealloc(p169);
+									if (n172 != 0)
+										rattle_dealloc(p171);
+									if (load64u(p61 + 1184) != 0)
+										rattle_dealloc(loadptru(p61 + 1168));
+									if (load64u(p60 + 16) != 0)
+										rattle_dealloc(loadptru(p60));
+									rattle_dealloc(p103);
+									n101 = 4;
+									n102 = 0;
+								}
+							}
 L9:
-					{
-						n152 = 1;
-						n153 = 0;
-						n154 = 2;
-						n155 = n93;
-						n156 = n94;
-					}
-				} else {
-					uint8_t n166;
-					uint64_t n167;
-					memset(p54, 0, 24);
-					memset(p55, 0, 1192);
-					memset(p56, 0, 96);
-					memset(p57, 0, 24);
-					memset(p58, 0, 96);
-					memset(p59, 0, 24);
-					of_i64_i64 s165 = rattle_alloc(16384, 1);
-					if ((s165.f0 & 1) == 0) {
-						if (n84 != 0)
-							rattle_dealloc(p82);
-						if (n87 != 0)
-							rattle_dealloc(p85);
-						if (n91 == 0) {
-							n166 = 2;
-							n167 = 0;
+							{
+								n160 = 1;
+								n161 = 0;
+								n162 = 2;
+								n163 = n101;
+								n164 = n102;
+							}
 						} else {
-							rattle_dealloc(p89);
-							n166 = 2;
-							n167 = 0;
-						}
-					} else {
-						uint64_t n173, n181, n184, n186;
-						of_i8_i8 s179;
-						uint8_t n182, n195;
-						byte *p183, *p185;
-						byte *p168 = (byte *)(uintptr_t)s165.f1;
-						uint64_t n169 = 0;
-						while (n169 != 16383) {
-							store8(inside(p168, n169), 0);
-							n169 = n169 + 1;
-						}
-						store8(p168 + 16383, 0);
-						storeptru(p54, p8);
-						memset(p54 + 8, 0, 16);
-						memcpy(p55, p68 + 8, 16);
-						storeptru(p55 + 16, p82);
-						store64u(p55 + 24, n83);
-						store64u(p55 + 32, n84);
-						memcpy(p55 + 40, p68 + 48, 16);
-						memcpy(p55 + 56, p68 + 64, 1056);
-						storeptru(p55 + 1112, p85);
-						store64u(p55 + 1120, n86);
-						store64u(p55 + 1128, n87);
-						store64u(p55 + 1136, n88);
-						storeptru(p55 + 1144, p89);
-						store64u(p55 + 1152, n90);
-						store64u(p55 + 1160, n91);
-						storeptru(p55 + 1168, p8);
-						memset(p55 + 1176, 0, 16);
-						store8(p56, 1);
-						memset(p56 + 1, 0, 7);
-						storeptru(p56 + 8, p8);
-						memset(p56 + 16, 0, 16);
-						storeptru(p56 + 32, p8);
-						memset(p56 + 40, 0, 16);
-						storeptru(p56 + 56, p8);
-						memset(p56 + 64, 0, 16);
-						store64u(p56 + 80, 1);
-						store8(p56 + 88, 1);
-						memset(p56 + 89, 0, 7);
-						uint64_t n170 = 0;
-						for (;;) {
-							if (n170 == UINT64_MAX)
-								goto L12;
-							tp_timer_script_service_tell_state_3(p57, p55, p6, p54);
-							if (load8(p57) != 0)
-								break;
-							tp_JournaledPeerPeer_read(p58, p6, p168);
-							if (load8(p58) != 0)
-								goto L13;
-							uint64_t n171 = load64(p58 + 8);
-							tp_Cutter_take_in(p59, p56, p168, n171, p7);
-							if (load8(p59) != 0)
-								goto L14;
-							uint8_t n172 = load8(p59 + 8);
-							n173 = load64u(p59 + 16);
-							byte *p174 = loadptr(p56 + 8);
-							uint64_t n175 = load64(p56 + 16);
-							if (load64(p54 + 8) != 0)
-								store64(p54 + 8, 0);
-							uint64_t n176 = 0;
-							while (n176 != n175) {
-								uint8_t n177 = tp_timer_script_service_answer_one_3(p55, at(p174, n176 * 48), p54);
-								if ((n177 & 1) != 0) {
-									of_i8_i8 s178 = tp_service_send(p6, loadptr(p54), load64(p54 + 8));
-									if (s178.f0 == 0)
-										goto L15;
-									s179 = s178;
-									goto L16;
-								}
-								n176 = n176 + 1;
-							}
-							of_i8_i8 s180 = tp_service_send(p6, loadptr(p54), load64(p54 + 8));
-							if (s180.f0 != 0) {
-								s179 = s180;
-								goto L16;
-							}
-							if (n172 == 1)
-								goto L17;
-							if (n171 == 0)
-								goto L18;
-							n170 = n170 + 1;
-						}
-						n181 = load64u(p57 + 16);
-						n182 = load8(p57 + 8);
-						if (load64u(p56 + 24) != 0)
-							rattle_dealloc(loadptru(p56 + 8));
-						if (load64u(p56 + 48) != 0)
-							rattle_dealloc(loadptru(p56 + 32));
-						if (load64u(p56 + 72) != 0)
-							rattle_dealloc(loadptru(p56 + 56));
-						p183 = loadptru(p55 + 1112);
-						n184 = load64u(p55 + 1128);
-						p185 = loadptru(p55 + 1144);
-						n186 = load64u(p55 + 1160);
-						if (load64u(p55 + 32) != 0)
-							rattle_dealloc(loadptru(p55 + 16));
-						if (n184 != 0)
-							rattle_dealloc(p183);
-						if (n186 != 0)
-							rattle_dealloc(p185);
-						if (load64u(p55 + 1184) != 0)
-							rattle_dealloc(loadptru(p55 + 1168));
-						if (load64u(p54 + 16) != 0)
-							rattle_dealloc(loadptru(p54));
-						rattle_dealloc(p168);
-						n166 = n182;
-						n167 = n181;
-						goto L19;
-L13:
-						{
-							if (load64u(p56 + 24) != 0)
-								rattle_dealloc(loadptru(p56 + 8));
-							if (load64u(p56 + 48) != 0)
-								rattle_dealloc(loadptru(p56 + 32));
-							if (load64u(p56 + 72) != 0)
-								rattle_dealloc(loadptru(p56 + 56));
-							byte *p187 = loadptru(p55 + 1112);
-							uint64_t n188 = load64u(p55 + 1128);
-							byte *p189 = loadptru(p55 + 1144);
-							uint64_t n190 = load64u(p55 + 1160);
-							if (load64u(p55 + 32) != 0)
-								rattle_dealloc(loadptru(p55 + 16));
-							if (n188 != 0)
-								rattle_dealloc(p187);
-							if (n190 != 0)
-								rattle_dealloc(p189);
-							if (load64u(p55 + 1184) != 0)
-								rattle_dealloc(loadptru(p55 + 1168));
-							if (load64u(p54 + 16) != 0)
-								rattle_dealloc(loadptru(p54));
-							rattle_dealloc(p168);
-							n166 = 0;
-							n167 = 0;
-							goto L19;
-						}
-L14:
-						{
-							if (load64u(p56 + 24) != 0)
-								rattle_dealloc(loadptru(p56 + 8));
-							if (load64u(p56 + 48) != 0)
-								rattle_dealloc(loadptru(p56 + 32));
-							if (load64u(p56 + 72) != 0)
-								rattle_dealloc(loadptru(p56 + 56));
-							byte *p191 = loadptru(p55 + 1112);
-							uint64_t n192 = load64u(p55 + 1128);
-							byte *p193 = loadptru(p55 + 1144);
-							uint64_t n194 = load64u(p55 + 1160);
-							if (load64u(p55 + 32) != 0)
-								rattle_dealloc(loadptru(p55 + 16));
-							if (n192 != 0)
-								rattle_dealloc(p191);
-							if (n194 != 0)
-								rattle_dealloc(p193);
-							if (load64u(p55 + 1184) != 0)
-								rattle_dealloc(loadptru(p55 + 1168));
-							if (load64u(p54 + 16) != 0)
-								rattle_dealloc(loadptru(p54));
-							rattle_dealloc(p168);
-							n166 = 2;
-							n167 = 0;
-							goto L19;
-						}
-L16:
-						{
-							if (of_i8_i8_of(frozen8(s179.f0), frozen8(s179.f1)).f1 != 0) {
-								n195 = 3;
-								goto L20;
-							}
-						}
-L15:
-						{
-							n195 = 2;
-						}
-L20:
-						{
-							if (load64u(p56 + 24) != 0)
-								rattle_dealloc(loadptru(p56 + 8));
-							if (load64u(p56 + 48) != 0)
-								rattle_dealloc(loadptru(p56 + 32));
-							if (load64u(p56 + 72) != 0)
-								rattle_dealloc(loadptru(p56 + 56));
-							byte *p196 = loadptru(p55 + 1112);
-							uint64_t n197 = load64u(p55 + 1128);
-							byte *p198 = loadptru(p55 + 1144);
-							uint64_t n199 = load64u(p55 + 1160);
-							if (load64u(p55 + 32) != 0)
-								rattle_dealloc(loadptru(p55 + 16));
-							if (n197 != 0)
-								rattle_dealloc(p196);
-							if (n199 != 0)
-								rattle_dealloc(p198);
-							if (load64u(p55 + 1184) != 0)
-								rattle_dealloc(loadptru(p55 + 1168));
-							if (load64u(p54 + 16) != 0)
-								rattle_dealloc(loadptru(p54));
-							rattle_dealloc(p168);
-							n166 = n195;
-							n167 = 0;
-							goto L19;
-						}
-L18:
-						{
-							uint64_t n200;
-							uint8_t n201, n202;
-							bool b203;
+							uint8_t n174;
+							uint64_t n175;
 							memset(p53, 0, 24);
-							tp_Cutter_end(p53, p56, p7);
-							if (load8(p53) == 0) {
-								if (load8(p53 + 8) == 1) {
-									n200 = load64u(p53 + 16);
-									n201 = 1;
-									n202 = 3;
-									b203 = true;
+							memset(p54, 0, 1192);
+							memset(p55, 0, 96);
+							memset(p56, 0, 24);
+							memset(p57, 0, 96);
+							memset(p58, 0, 24);
+							of_i64_i64 s173 = rattle_alloc(16384, 1);
+							if ((s173.f0 & 1) == 0) {
+								if (n92 != 0)
+									rattle_dealloc(p90);
+								if (n95 != 0)
+									rattle_dealloc(p93);
+								if (n99 == 0) {
+									n174 = 2;
+									n175 = 0;
 								} else {
-									if (load64(p54 + 8) != 0)
-										store64(p54 + 8, 0);
-									uint8_t n204 = tp_text_push_end(p54, load64(p55), load64(p55 + 24) - load64(p55 + 40));
-									if ((n204 & 1) != 0) {
-										n200 = 0;
-										n201 = 2;
-										n202 = 3;
-										b203 = true;
-									} else {
-										of_i8_i8 s205 = tp_service_send(p6, loadptr(p54), load64(p54 + 8));
-										if (s205.f0 == 0) {
-											n200 = 0;
-											n201 = 0;
-											n202 = (uint8_t)(((load8(p56 + 88) & 1) != 0) ? 0 : 3);
-											b203 = false;
-										} else {
-											n200 = 0;
-											n201 = (uint8_t)((s205.f1 == 0) ? 2 : 3);
-											n202 = 3;
-											b203 = true;
-										}
-									}
+									rattle_dealloc(p97);
+									n174 = 2;
+									n175 = 0;
 								}
 							} else {
-								n200 = 0;
-								n201 = 2;
-								n202 = 3;
-								b203 = true;
-							}
-							if (load64u(p56 + 24) != 0)
-								rattle_dealloc(loadptru(p56 + 8));
-							if (load64u(p56 + 48) != 0)
-								rattle_dealloc(loadptru(p56 + 32));
-							if (load64u(p56 + 72) != 0)
-								rattle_dealloc(loadptru(p56 + 56));
-							byte *p206 = loadptru(p55 + 1112);
-							uint64_t n207 = load64u(p55 + 1128);
-							byte *p208 = loadptru(p55 + 1144);
-							uint64_t n209 = load64u(p55 + 1160);
-							if (load64u(p55 + 32) != 0)
-								rattle_dealloc(loadptru(p55 + 16));
-							if (n207 != 0)
-								rattle_dealloc(p206);
-							if (n209 != 0)
-								rattle_dealloc(p208);
-							if (load64u(p55 + 1184) != 0)
-								rattle_dealloc(loadptru(p55 + 1168));
-							if (load64u(p54 + 16) != 0)
-								rattle_dealloc(loadptru(p54));
-							rattle_dealloc(p168);
-							if (b203) {
-								n152 = 1;
-								n153 = 0;
-								n154 = 2;
-								n155 = n201;
-								n156 = n200;
-								goto L11;
-							}
-							n152 = 0;
-							n153 = n202;
-							n154 = 0;
-							n155 = 0;
-							n156 = 0;
-							goto L11;
-						}
+								uint64_t n181, n189, n192, n194;
+								of_i8_i8 s187;
+								uint8_t n190, n203;
+								byte *p191, *p193;
+								byte *p176 = (byte *)(uintptr_t)s173.f1;
+								uint64_t n177 = 0;
+								while (n177 != 16383) {
+									store8(inside(p176, n177), 0);
+									n177 = n177 + 1;
+								}
+								store8(p176 + 16383, 0);
+								storeptru(p53, p7);
+								memset(p53 + 8, 0, 16);
+								memcpy(p54, p66 + 8, 16);
+								storeptru(p54 + 16, p90);
+								store64u(p54 + 24, n91);
+								store64u(p54 + 32, n92);
+								memcpy(p54 + 40, p66 + 48, 16);
+								memcpy(p54 + 56, p66 + 64, 1056);
+								storeptru(p54 + 1112, p93);
+								store64u(p54 + 1120, n94);
+								store64u(p54 + 1128, n95);
+								store64u(p54 + 1136, n96);
+								storeptru(p54 + 1144, p97);
+								store64u(p54 + 1152, n98);
+								store64u(p54 + 1160, n99);
+								storeptru(p54 + 1168, p7);
+								memset(p54 + 1176, 0, 16);
+								store8(p55, 1);
+								memset(p55 + 1, 0, 7);
+								storeptru(p55 + 8, p7);
+								memset(p55 + 16, 0, 16);
+								storeptru(p55 + 32, p7);
+								memset(p55 + 40, 0, 16);
+								storeptru(p55 + 56, p7);
+								memset(p55 + 64, 0, 16);
+								store64u(p55 + 80, 1);
+								store8(p55 + 88, 1);
+								memset(p55 + 89, 0, 7);
+								uint64_t n178 = 0;
+								for (;;) {
+									if (n178 == UINT64_MAX)
+										goto L12;
+									tp_timer_script_service_tell_state_3(p56, p54, p5, p53);
+									if (load8(p56) != 0)
+										break;
+									tp_JournaledPeerPeer_read(p57, p5, p176);
+									if (load8(p57) != 0)
+										goto L13;
+									uint64_t n179 = load64(p57 + 8);
+									tp_Cutter_take_in(p58, p55, p176, n179, p6);
+									if (load8(p58) != 0)
+										goto L14;
+									uint8_t n180 = load8(p58 + 8);
+									n181 = load64u(p58 + 16);
+									byte *p182 = loadptr(p55 + 8);
+									uint64_t n183 = load64(p55 + 16);
+									if (load64(p53 + 8) != 0)
+										store64(p53 + 8, 0);
+									uint64_t n184 = 0;
+									while (n184 != n183) {
+										uint8_t n185 = tp_timer_script_service_answer_one_3(p54, at(p182, n184 * 48), p53);
+										if ((n185 & 1) != 0) {
+											of_i8_i8 s186 = tp_service_send(p5, loadptr(p53), load64(p53 + 8));
+											if (s186.f0 == 0)
+												goto L15;
+											s187 = s186;
+											goto L16;
+										}
+										n184 = n184 + 1;
+									}
+									of_i8_i8 s188 = tp_service_send(p5, loadptr(p53), load64(p53 + 8));
+									if (s188.f0 != 0) {
+										s187 = s188;
+										goto L16;
+									}
+									if (n180 == 1)
+										goto L17;
+									if (n179 == 0)
+										goto L18;
+									n178 = n178 + 1;
+								}
+								n189 = load64u(p56 + 16);
+								n190 = load8(p56 + 8);
+								if (load64u(p55 + 24) != 0)
+									rattle_dealloc(loadptru(p55 + 8));
+								if (load64u(p55 + 48) != 0)
+									rattle_dealloc(loadptru(p55 + 32));
+								if (load64u(p55 + 72) != 0)
+									rattle_dealloc(loadptru(p55 + 56));
+								p191 = loadptru(p54 + 1112);
+								n192 = load64u(p54 + 1128);
+								p193 = loadptru(p54 + 1144);
+								n194 = load64u(p54 + 1160);
+								if (load64u(p54 + 32) != 0)
+									rattle_dealloc(loadptru(p54 + 16));
+								if (n192 != 0)
+									rattle_dealloc(p191);
+								if (n194 != 0)
+									rattle_dealloc(p193);
+								if (load64u(p54 + 1184) != 0)
+									rattle_dealloc(loadptru(p54 + 1168));
+								if (load64u(p53 + 16) != 0)
+									rattle_dealloc(loadptru(p53));
+								rattle_dealloc(p176);
+								n174 = n190;
+								n175 = n189;
+								goto L19;
+L13:
+								{
+									if (load64u(p55 + 24) != 0)
+										rattle_dealloc(loadptru(p55 + 8));
+									if (load64u(p55 + 48) != 0)
+										rattle_dealloc(loadptru(p55 + 32));
+									if (load64u(p55 + 72) != 0)
+										rattle_dealloc(loadptru(p55 + 56));
+									byte *p195 = loadptru(p54 + 1112);
+									uint64_t n196 = load64u(p54 + 1128);
+									byte *p197 = loadptru(p54 + 1144);
+									uint64_t n198 = load64u(p54 + 1160);
+									if (load64u(p54 + 32) != 0)
+										rattle_dealloc(loadptru(p54 + 16));
+									if (n196 != 0)
+										rattle_dealloc(p195);
+									if (n198 != 0)
+										rattle_dealloc(p197);
+									if (load64u(p54 + 1184) != 0)
+										rattle_dealloc(loadptru(p54 + 1168));
+									if (load64u(p53 + 16) != 0)
+										rattle_dealloc(loadptru(p53));
+									rattle_dealloc(p176);
+									n174 = 0;
+									n175 = 0;
+									goto L19;
+								}
+L14:
+								{
+									if (load64u(p55 + 24) != 0)
+										rattle_dealloc(loadptru(p55 + 8));
+									if (load64u(p55 + 48) != 0)
+										rattle_dealloc(loadptru(p55 + 32));
+									if (load64u(p55 + 72) != 0)
+										rattle_dealloc(loadptru(p55 + 56));
+									byte *p199 = loadptru(p54 + 1112);
+									uint64_t n200 = load64u(p54 + 1128);
+									byte *p201 = loadptru(p54 + 1144);
+									uint64_t n202 = load64u(p54 + 1160);
+									if (load64u(p54 + 32) != 0)
+										rattle_dealloc(loadptru(p54 + 16));
+									if (n200 != 0)
+										rattle_dealloc(p199);
+									if (n202 != 0)
+										rattle_dealloc(p201);
+									if (load64u(p54 + 1184) != 0)
+										rattle_dealloc(loadptru(p54 + 1168));
+									if (load64u(p53 + 16) != 0)
+										rattle_dealloc(loadptru(p53));
+									rattle_dealloc(p176);
+									n174 = 2;
+									n175 = 0;
+									goto L19;
+								}
+L16:
+								{
+									if (of_i8_i8_of(frozen8(s187.f0), frozen8(s187.f1)).f1 != 0) {
+										n203 = 3;
+										goto L20;
+									}
+								}
+L15:
+								{
+									n203 = 2;
+								}
+L20:
+								{
+									if (load64u(p55 + 24) != 0)
+										rattle_dealloc(loadptru(p55 + 8));
+									if (load64u(p55 + 48) != 0)
+										rattle_dealloc(loadptru(p55 + 32));
+									if (load64u(p55 + 72) != 0)
+										rattle_dealloc(loadptru(p55 + 56));
+									byte *p204 = loadptru(p54 + 1112);
+									uint64_t n205 = load64u(p54 + 1128);
+									byte *p206 = loadptru(p54 + 1144);
+									uint64_t n207 = load64u(p54 + 1160);
+									if (load64u(p54 + 32) != 0)
+										rattle_dealloc(loadptru(p54 + 16));
+									if (n205 != 0)
+										rattle_dealloc(p204);
+									if (n207 != 0)
+										rattle_dealloc(p206);
+									if (load64u(p54 + 1184) != 0)
+										rattle_dealloc(loadptru(p54 + 1168));
+									if (load64u(p53 + 16) != 0)
+										rattle_dealloc(loadptru(p53));
+									rattle_dealloc(p176);
+									n174 = n203;
+									n175 = 0;
+									goto L19;
+								}
+L18:
+								{
+									uint64_t n208;
+									uint8_t n209, n210;
+									bool b211;
+									memset(p52, 0, 24);
+									tp_Cutter_end(p52, p55, p6);
+									if (load8(p52) == 0) {
+										if (load8(p52 + 8) == 1) {
+											n208 = load64u(p52 + 16);
+											n209 = 1;
+											n210 = 3;
+											b211 = true;
+										} else {
+											if (load64(p53 + 8) != 0)
+												store64(p53 + 8, 0);
+											uint8_t n212 = tp_text_push_end(p53, load64(p54), load64(p54 + 24) - load64(p54 + 40));
+											if ((n212 & 1) != 0) {
+												n208 = 0;
+												n209 = 2;
+												n210 = 3;
+												b211 = true;
+											} else {
+												of_i8_i8 s213 = tp_service_send(p5, loadptr(p53), load64(p53 + 8));
+												if (s213.f0 == 0) {
+													n208 = 0;
+													n209 = 0;
+													n210 = (uint8_t)(((load8(p55 + 88) & 1) != 0) ? 0 : 3);
+													b211 = false;
+												} else {
+													n208 = 0;
+													n209 = (uint8_t)((s213.f1 == 0) ? 2 : 3);
+													n210 = 3;
+													b211 = true;
+												}
+											}
+										}
+									} else {
+										n208 = 0;
+										n209 = 2;
+										n210 = 3;
+										b211 = true;
+									}
+									if (load64u(p55 + 24) != 0)
+										rattle_dealloc(loadptru(p55 + 8));
+									if (load64u(p55 + 48) != 0)
+										rattle_dealloc(loadptru(p55 + 32));
+									if (load64u(p55 + 72) != 0)
+										rattle_dealloc(loadptru(p55 + 56));
+									byte *p214 = loadptru(p54 + 1112);
+									uint64_t n215 = load64u(p54 + 1128);
+									byte *p216 = loadptru(p54 + 1144);
+									uint64_t n217 = load64u(p54 + 1160);
+									if (load64u(p54 + 32) != 0)
+										rattle_dealloc(loadptru(p54 + 16));
+									if (n215 != 0)
+										rattle_dealloc(p214);
+									if (n217 != 0)
+										rattle_dealloc(p216);
+									if (load64u(p54 + 1184) != 0)
+										rattle_dealloc(loadptru(p54 + 1168));
+									if (load64u(p53 + 16) != 0)
+										rattle_dealloc(loadptru(p53));
+									rattle_dealloc(p176);
+									if (b211) {
+										n160 = 1;
+										n161 = 0;
+										n162 = 2;
+										n163 = n209;
+										n164 = n208;
+										goto L11;
+									}
+									n160 = 0;
+									n161 = n210;
+									n162 = 0;
+									n163 = 0;
+									n164 = 0;
+									goto L11;
+								}
 L17:
-						{
-							if (load64u(p56 + 24) != 0)
-								rattle_dealloc(loadptru(p56 + 8));
-							if (load64u(p56 + 48) != 0)
-								rattle_dealloc(loadptru(p56 + 32));
-							if (load64u(p56 + 72) != 0)
-								rattle_dealloc(loadptru(p56 + 56));
-							byte *p210 = loadptru(p55 + 1112);
-							uint64_t n211 = load64u(p55 + 1128);
-							byte *p212 = loadptru(p55 + 1144);
-							uint64_t n213 = load64u(p55 + 1160);
-							if (load64u(p55 + 32) != 0)
-								rattle_dealloc(loadptru(p55 + 16));
-							if (n211 != 0)
-								rattle_dealloc(p210);
-							if (n213 != 0)
-								rattle_dealloc(p212);
-							if (load64u(p55 + 1184) != 0)
-								rattle_dealloc(loadptru(p55 + 1168));
-							if (load64u(p54 + 16) != 0)
-								rattle_dealloc(loadptru(p54));
-							rattle_dealloc(p168);
-							n166 = 1;
-							n167 = n173;
-							goto L19;
-						}
+								{
+									if (load64u(p55 + 24) != 0)
+										rattle_dealloc(loadptru(p55 + 8));
+									if (load64u(p55 + 48) != 0)
+										rattle_dealloc(loadptru(p55 + 32));
+									if (load64u(p55 + 72) != 0)
+										rattle_dealloc(loadptru(p55 + 56));
+									byte *p218 = loadptru(p54 + 1112);
+									uint64_t n219 = load64u(p54 + 1128);
+									byte *p220 = loadptru(p54 + 1144);
+									uint64_t n221 = load64u(p54 + 1160);
+									if (load64u(p54 + 32) != 0)
+										rattle_dealloc(loadptru(p54 + 16));
+									if (n219 != 0)
+										rattle_dealloc(p218);
+									if (n221 != 0)
+										rattle_dealloc(p220);
+									if (load64u(p54 + 1184) != 0)
+										rattle_dealloc(loadptru(p54 + 1168));
+									if (load64u(p53 + 16) != 0)
+										rattle_dealloc(loadptru(p53));
+									rattle_dealloc(p176);
+									n174 = 1;
+									n175 = n181;
+									goto L19;
+								}
 L12:
-						{
-							if (load64u(p56 + 24) != 0)
-								rattle_dealloc(loadptru(p56 + 8));
-							if (load64u(p56 + 48) != 0)
-								rattle_dealloc(loadptru(p56 + 32));
-							if (load64u(p56 + 72) != 0)
-								rattle_dealloc(loadptru(p56 + 56));
-							byte *p214 = loadptru(p55 + 1112);
-							uint64_t n215 = load64u(p55 + 1128);
-							byte *p216 = loadptru(p55 + 1144);
-							uint64_t n217 = load64u(p55 + 1160);
-							if (load64u(p55 + 32) != 0)
-								rattle_dealloc(loadptru(p55 + 16));
-							if (n215 != 0)
-								rattle_dealloc(p214);
-							if (n217 != 0)
-								rattle_dealloc(p216);
-							if (load64u(p55 + 1184) != 0)
-								rattle_dealloc(loadptru(p55 + 1168));
-							if (load64u(p54 + 16) != 0)
-								rattle_dealloc(loadptru(p54));
-							rattle_dealloc(p168);
-							n166 = 4;
-							n167 = 0;
-						}
-					}
+								{
+									if (load64u(p55 + 24) != 0)
+										rattle_dealloc(loadptru(p55 + 8));
+									if (load64u(p55 + 48) != 0)
+										rattle_dealloc(loadptru(p55 + 32));
+									if (load64u(p55 + 72) != 0)
+										rattle_dealloc(loadptru(p55 + 56));
+									byte *p222 = loadptru(p54 + 1112);
+									uint64_t n223 = load64u(p54 + 1128);
+									byte *p224 = loadptru(p54 + 1144);
+									uint64_t n225 = load64u(p54 + 1160);
+									if (load64u(p54 + 32) != 0)
+										rattle_dealloc(loadptru(p54 + 16));
+									if (n223 != 0)
+										rattle_dealloc(p222);
+									if (n225 != 0)
+										rattle_dealloc(p224);
+									if (load64u(p54 + 1184) != 0)
+										rattle_dealloc(loadptru(p54 + 1168));
+									if (load64u(p53 + 16) != 0)
+										rattle_dealloc(loadptru(p53));
+									rattle_dealloc(p176);
+									n174 = 4;
+									n175 = 0;
+								}
+							}
 L19:
-					{
-						n152 = 1;
-						n153 = 0;
-						n154 = 2;
-						n155 = n166;
-						n156 = n167;
+							{
+								n160 = 1;
+								n161 = 0;
+								n162 = 2;
+								n163 = n174;
+								n164 = n175;
+							}
+						}
+					} else {
+						n160 = 1;
+						n161 = 0;
+						n162 = 2;
+						n163 = 2;
+						n164 = 0;
 					}
-				}
-			} else {
-				n152 = 1;
-				n153 = 0;
-				n154 = 2;
-				n155 = 2;
-				n156 = 0;
-			}
 L11:
-			{
-				store8(p78, n152);
-				store8(p78 + 1, n153);
-				store64u(p78 + 8, n154);
-				store8(p78 + 16, n155);
-				store8(p78 + 17, 0);
-				store64u(p78 + 24, n156);
+					{
+						store8(p81, n160);
+						store8(p81 + 1, n161);
+						store64u(p81 + 8, n162);
+						store8(p81 + 16, n163);
+						store8(p81 + 17, 0);
+						store64u(p81 + 24, n164);
+					}
+				}
+				break;
 			}
-		}
-		break;
-	}
-	case 1: {
-		tp_HashedWheel_new(p72, load64(p70 + 8), n81);
-		uint8_t n218 = load8(p72);
-		memset(p52, 0, 1248);
-		if (n218 == 0) {
-			uint8_t n313, n314, n316;
-			uint64_t n315, n317;
-			tp_timer_facility_player_Player_restore(p52, p71, p72 + 8, p4);
-			if (load8(p52) == 0) {
-				byte *p219 = loadptru(p52 + 40);
-				uint64_t n220 = load64u(p52 + 48);
-				uint64_t n221 = load64u(p52 + 56);
-				byte *p222 = loadptru(p52 + 80);
-				uint64_t n223 = load64u(p52 + 88);
-				uint64_t n224 = load64u(p52 + 96);
-				byte *p225 = loadptru(p52 + 1192);
-				uint64_t n226 = load64u(p52 + 1200);
-				uint64_t n227 = load64u(p52 + 1208);
-				uint64_t n228 = load64u(p52 + 1216);
-				byte *p229 = loadptru(p52 + 1224);
-				uint64_t n230 = load64u(p52 + 1232);
-				uint64_t n231 = load64u(p52 + 1240);
-				if (b5) {
-					uint8_t n233;
-					uint64_t n234;
-					memset(p46, 0, 24);
-					memset(p47, 0, 1264);
-					memset(p48, 0, 96);
-					memset(p49, 0, 24);
-					memset(p50, 0, 96);
-					memset(p51, 0, 24);
-					of_i64_i64 s232 = rattle_alloc(16384, 1);
-					if ((s232.f0 & 1) == 0) {
-						if (n221 != 0)
-							rattle_dealloc(p219);
-						if (n224 != 0)
-							rattle_dealloc(p222);
-						if (n227 != 0)
-							rattle_dealloc(p225);
-						if (n231 == 0) {
-							n233 = 2;
-							n234 = 0;
-						} else {
-							rattle_dealloc(p229);
-							n233 = 2;
-							n234 = 0;
-						}
-					} else {
-						uint64_t n240, n247, n259, n262, n264, n266;
-						of_i8_i8 s246;
-						uint8_t n260, n282;
-						byte *p261, *p263, *p265;
-						byte *p235 = (byte *)(uintptr_t)s232.f1;
-						uint64_t n236 = 0;
-						while (n236 != 16383) {
-							store8(inside(p235, n236), 0);
-							n236 = n236 + 1;
-						}
-						store8(p235 + 16383, 0);
-						storeptru(p46, p8);
-						memset(p46 + 8, 0, 16);
-						memcpy(p47, p52 + 8, 32);
-						storeptru(p47 + 32, p219);
-						store64u(p47 + 40, n220);
-						store64u(p47 + 48, n221);
-						memcpy(p47 + 56, p52 + 64, 16);
-						storeptru(p47 + 72, p222);
-						store64u(p47 + 80, n223);
-						store64u(p47 + 88, n224);
-						memcpy(p47 + 96, p52 + 104, 32);
-						memcpy(p47 + 128, p52 + 136, 1056);
-						storeptru(p47 + 1184, p225);
-						store64u(p47 + 1192, n226);
-						store64u(p47 + 1200, n227);
-						store64u(p47 + 1208, n228);
-						storeptru(p47 + 1216, p229);
-						store64u(p47 + 1224, n230);
-						store64u(p47 + 1232, n231);
-						storeptru(p47 + 1240, p8);
-						memset(p47 + 1248, 0, 16);
-						store8(p48, 1);
-						memset(p48 + 1, 0, 7);
-						storeptru(p48 + 8, p8);
-						memset(p48 + 16, 0, 16);
-						storeptru(p48 + 32, p8);
-						memset(p48 + 40, 0, 16);
-						storeptru(p48 + 56, p8);
-						memset(p48 + 64, 0, 16);
-						store64u(p48 + 80, 1);
-						store8(p48 + 88, 1);
-						memset(p48 + 89, 0, 7);
-						uint64_t n237 = 0;
-						for (;;) {
-							uint64_t n248;
-							if (n237 == UINT64_MAX)
-								goto L21;
-							tp_timer_script_service_tell_state_2(p49, p47, p6, p46);
-							if (load8(p49) != 0)
-								break;
-							tp_JournaledPeerPeer_read(p50, p6, p235);
-							if (load8(p50) != 0)
-								goto L22;
-							uint64_t n238 = load64(p50 + 8);
-							tp_Cutter_take_in(p51, p48, p235, n238, p7);
-							if (load8(p51) != 0)
-								goto L23;
-							uint8_t n239 = load8(p51 + 8);
-							n240 = load64u(p51 + 16);
-							byte *p241 = loadptr(p48 + 8);
-							uint64_t n242 = load64(p48 + 16);
-							if (load64(p46 + 8) != 0)
-								store64(p46 + 8, 0);
-							uint64_t n243 = 0;
-							while (n243 != n242) {
-								uint8_t n244 = tp_timer_script_service_answer_one_2(p47, at(p241, n243 * 48), p46);
-								if ((n244 & 1) != 0) {
-									of_i8_i8 s245 = tp_service_send(p6, loadptr(p46), load64(p46 + 8));
-									if (s245.f0 == 0)
-										goto L24;
-									s246 = s245;
-									goto L25;
-								}
-								n243 = n243 + 1;
-							}
-							n247 = load64(p46 + 8);
-							if (n242 == 0) {
-								n248 = n247;
-							} else {
-								uint64_t n250;
-								uint8_t n251;
-								uint64_t n249 = load64(p47 + 120);
-								if (load64(p47 + 56) == 0) {
-									n250 = 0;
-									n251 = 0;
-								} else {
-									uint64_t n252 = load64(p47 + 24);
-									uint64_t n253 = 0;
-									for (;;) {
-										if (n253 == n252) {
-											n250 = 0;
-											n251 = 0;
-											break;
-										}
-										uint64_t n254 = n253 + 1;
-										uint64_t n255 = n249 + n254;
-										uint64_t n256 = n255 - ((n255 < n252) ? 0 : n252);
-										if (n256 != (uint64_t)load32(at(loadptr(p47 + 72), n256 << 3) + 4)) {
-											n250 = load64(p47 + 8) + n254;
-											n251 = 1;
-											break;
-										}
-										n253 = n254;
-									}
-								}
-								uint8_t n257 = tp_render_push_wakeup(p46, n251, n250);
-								if ((n257 & 1) != 0)
-									goto L26;
-								n248 = load64(p46 + 8);
-							}
-							of_i8_i8 s258 = tp_service_send(p6, loadptr(p46), n248);
-							if (s258.f0 != 0) {
-								s246 = s258;
-								goto L25;
-							}
-							if (n239 == 1)
-								goto L27;
-							if (n238 == 0)
-								goto L28;
-							n237 = n237 + 1;
-						}
-						n259 = load64u(p49 + 16);
-						n260 = load8(p49 + 8);
-						if (load64u(p48 + 24) != 0)
-							rattle_dealloc(loadptru(p48 + 8));
-						if (load64u(p48 + 48) != 0)
-							rattle_dealloc(loadptru(p48 + 32));
-						if (load64u(p48 + 72) != 0)
-							rattle_dealloc(loadptru(p48 + 56));
-						p261 = loadptru(p47 + 72);
-						n262 = load64u(p47 + 88);
-						p263 = loadptru(p47 + 1184);
-						n264 = load64u(p47 + 1200);
-						p265 = loadptru(p47 + 1216);
-						n266 = load64u(p47 + 1232);
-						if (load64u(p47 + 48) != 0)
-							rattle_dealloc(loadptru(p47 + 32));
-						if (n262 != 0)
-							rattle_dealloc(p261);
-						if (n264 != 0)
-							rattle_dealloc(p263);
-						if (n266 != 0)
-							rattle_dealloc(p265);
-						if (load64u(p47 + 1256) != 0)
-							rattle_dealloc(loadptru(p47 + 1240));
-						if (load64u(p46 + 16) != 0)
-							rattle_dealloc(loadptru(p46));
-						rattle_dealloc(p235);
-						n233 = n260;
-						n234 = n259;
-						goto L29;
-L22:
-						{
-							if (load64u(p48 + 24) != 0)
-								rattle_dealloc(loadptru(p48 + 8));
-							if (load64u(p48 + 48) != 0)
-								rattle_dealloc(loadptru(p48 + 32));
-							if (load64u(p48 + 72) != 0)
-								rattle_dealloc(loadptru(p48 + 56));
-							byte *p267 = loadptru(p47 + 72);
-							uint64_t n268 = load64u(p47 + 88);
-							byte *p269 = loadptru(p47 + 1184);
-							uint64_t n270 = load64u(p47 + 1200);
-							byte *p271 = loadptru(p47 + 1216);
-							uint64_t n272 = load64u(p47 + 1232);
-							if (load64u(p47 + 48) != 0)
-								rattle_dealloc(loadptru(p47 + 32));
-							if (n268 != 0)
-								rattle_dealloc(p267);
-							if (n270 != 0)
-								rattle_dealloc(p269);
-							if (n272 != 0)
-								rattle_dealloc(p271);
-							if (load64u(p47 + 1256) != 0)
-								rattle_dealloc(loadptru(p47 + 1240));
-							if (load64u(p46 + 16) != 0)
-								rattle_dealloc(loadptru(p46));
-							rattle_dealloc(p235);
-							n233 = 0;
-							n234 = 0;
-							goto L29;
-						}
-L23:
-						{
-							if (load64u(p48 + 24) != 0)
-								rattle_dealloc(loadptru(p48 + 8));
-							if (load64u(p48 + 48) != 0)
-								rattle_dealloc(loadptru(p48 + 32));
-							if (load64u(p48 + 72) != 0)
-								rattle_dealloc(loadptru(p48 + 56));
-							byte *p273 = loadptru(p47 + 72);
-							uint64_t n274 = load64u(p47 + 88);
-							byte *p275 = loadptru(p47 + 1184);
-							uint64_t n276 = load64u(p47 + 1200);
-							byte *p277 = loadptru(p47 + 1216);
-							uint64_t n278 = load64u(p47 + 1232);
-							if (load64u(p47 + 48) != 0)
-								rattle_dealloc(loadptru(p47 + 32));
-							if (n274 != 0)
-								rattle_dealloc(p273);
-							if (n276 != 0)
-								rattle_dealloc(p275);
-							if (n278 != 0)
-								rattle_dealloc(p277);
-							if (load64u(p47 + 1256) != 0)
-								rattle_dealloc(loadptru(p47 + 1240));
-							if (load64u(p46 + 16) != 0)
-								rattle_dealloc(loadptru(p46));
-							rattle_dealloc(p235);
-							n233 = 2;
-							n234 = 0;
-							goto L29;
-						}
-L26:
-						{
-							uint64_t n280;
-							uint64_t n279 = load64(p46 + 8);
-							if (n279 > n247) {
-								store64(p46 + 8, n247);
-								n280 = n247;
-							} else {
-								n280 = n279;
-							}
-							of_i8_i8 s281 = tp_service_send(p6, loadptr(p46), n280);
-							if (s281.f0 == 0)
-								goto L24;
-							s246 = s281;
-						}
-L25:
-						{
-							if (of_i8_i8_of(frozen8(s246.f0), frozen8(s246.f1)).f1 != 0) {
-								n282 = 3;
-								goto L30;
-							}
-						}
-L24:
-						{
-							n282 = 2;
-						}
-L30:
-						{
-							if (load64u(p48 + 24) != 0)
-								rattle_dealloc(loadptru(p48 + 8));
-							if (load64u(p48 + 48) != 0)
-								rattle_dealloc(loadptru(p48 + 32));
-							if (load64u(p48 + 72) != 0)
-								rattle_dealloc(loadptru(p48 + 56));
-							byte *p283 = loadptru(p47 + 72);
-							uint64_t n284 = load64u(p47 + 88);
-							byte *p285 = loadptru(p47 + 1184);
-							uint64_t n286 = load64u(p47 + 1200);
-							byte *p287 = loadptru(p47 + 1216);
-							uint64_t n288 = load64u(p47 + 1232);
-							if (load64u(p47 + 48) != 0)
-								rattle_dealloc(loadptru(p47 + 32));
-							if (n284 != 0)
-								rattle_dealloc(p283);
-							if (n286 != 0)
-								rattle_dealloc(p285);
-							if (n288 != 0)
-								rattle_dealloc(p287);
-							if (load64u(p47 + 1256) != 0)
-								rattle_dealloc(loadptru(p47 + 1240));
-							if (load64u(p46 + 16) != 0)
-								rattle_dealloc(loadptru(p46));
-							rattle_dealloc(p235);
-							n233 = n282;
-							n234 = 0;
-							goto L29;
-						}
-L28:
-						{
-							uint64_t n289;
-							uint8_t n290, n291;
-							bool b292;
+			case 1: {
+				tp_HashedWheel_new(p75, n69, n89);
+				uint8_t n226 = load8(p75);
+				memset(p51, 0, 1248);
+				if (n226 == 0) {
+					uint8_t n321, n322, n324;
+					uint64_t n323, n325;
+					tp_timer_facility_player_Player_restore(p51, p74, p75 + 8, p3);
+					if (load8(p51) == 0) {
+						byte *p227 = loadptru(p51 + 40);
+						uint64_t n228 = load64u(p51 + 48);
+						uint64_t n229 = load64u(p51 + 56);
+						byte *p230 = loadptru(p51 + 80);
+						uint64_t n231 = load64u(p51 + 88);
+						uint64_t n232 = load64u(p51 + 96);
+						byte *p233 = loadptru(p51 + 1192);
+						uint64_t n234 = load64u(p51 + 1200);
+						uint64_t n235 = load64u(p51 + 1208);
+						uint64_t n236 = load64u(p51 + 1216);
+						byte *p237 = loadptru(p51 + 1224);
+						uint64_t n238 = load64u(p51 + 1232);
+						uint64_t n239 = load64u(p51 + 1240);
+						if (b4) {
+							uint8_t n241;
+							uint64_t n242;
 							memset(p45, 0, 24);
-							tp_Cutter_end(p45, p48, p7);
-							if (load8(p45) == 0) {
-								if (load8(p45 + 8) == 1) {
-									n289 = load64u(p45 + 16);
-									n290 = 1;
-									n291 = 3;
-									b292 = true;
+							memset(p46, 0, 1264);
+							memset(p47, 0, 96);
+							memset(p48, 0, 24);
+							memset(p49, 0, 96);
+							memset(p50, 0, 24);
+							of_i64_i64 s240 = rattle_alloc(16384, 1);
+							if ((s240.f0 & 1) == 0) {
+								if (n229 != 0)
+									rattle_dealloc(p227);
+								if (n232 != 0)
+									rattle_dealloc(p230);
+								if (n235 != 0)
+									rattle_dealloc(p233);
+								if (n239 == 0) {
+									n241 = 2;
+									n242 = 0;
 								} else {
-									uint64_t n303;
-									if (load64(p46 + 8) != 0)
-										store64(p46 + 8, 0);
-									uint64_t n293 = load64(p47 + 8);
-									uint64_t n294 = load64(p47 + 56);
-									uint64_t n295 = load64(p47 + 24);
-									byte *p296 = loadptr(p47 + 72);
-									uint64_t n297 = (uint64_t)load32(at(p296, n295 << 3) + 4);
-									bool b298 = n295 != n297;
-									uint64_t n299 = load64(p47 + 96);
-									uint64_t n300 = b298 ? (n297 - n299) : 0;
-									uint64_t n301 = 0;
-									bool b302 = b298;
-									for (;;) {
-										if (n301 == n294) {
-											n303 = n294;
-											break;
-										}
-										if (!b302) {
-											n303 = n301;
-											break;
-										}
-										uint64_t n304 = (uint64_t)load32(at(p296, (n299 + n300) << 3) + 4);
-										n300 = usub_sat64(n304, n299);
-										n301 = n301 + 1;
-										b302 = n299 <= n304;
-									}
-									uint8_t n305 = tp_text_push_end(p46, n293, n294 - n303);
-									if ((n305 & 1) != 0) {
-										n289 = 0;
-										n290 = 2;
-										n291 = 3;
-										b292 = true;
-									} else {
-										of_i8_i8 s306 = tp_service_send(p6, loadptr(p46), load64(p46 + 8));
-										if (s306.f0 == 0) {
-											n289 = 0;
-											n290 = 0;
-											n291 = (uint8_t)(((load8(p48 + 88) & 1) != 0) ? 0 : 3);
-											b292 = false;
-										} else {
-											n289 = 0;
-											n290 = (uint8_t)((s306.f1 == 0) ? 2 : 3);
-											n291 = 3;
-											b292 = true;
-										}
-									}
+									rattle_dealloc(p237);
+									n241 = 2;
+									n242 = 0;
 								}
 							} else {
-								n289 = 0;
-								n290 = 2;
-								n291 = 3;
-								b292 = true;
-							}
-							if (load64u(p48 + 24) != 0)
-								rattle_dealloc(loadptru(p48 + 8));
-							if (load64u(p48 + 48) != 0)
-								rattle_dealloc(loadptru(p48 + 32));
-							if (load64u(p48 + 72) != 0)
-								rattle_dealloc(loadptru(p48 + 56));
-							byte *p307 = loadptru(p47 + 72);
-							uint64_t n308 = load64u(p47 + 88);
-							byte *p309 = loadptru(p47 + 1184);
-							uint64_t n310 = load64u(p47 + 1200);
-							byte *p311 = loadptru(p47 + 1216);
-							uint64_t n312 = load64u(p47 + 1232);
-							if (load64u(p47 + 48) != 0)
-								rattle_dealloc(loadptru(p47 + 32));
-							if (n308 != 0)
-								rattle_dealloc(p307);
-							if (n310 != 0)
-								rattle_dealloc(p309);
-							if (n312 != 0)
-								rattle_dealloc(p311);
-							if (load64u(p47 + 1256) != 0)
-								rattle_dealloc(loadptru(p47 + 1240));
-							if (load64u(p46 + 16) != 0)
-								rattle_dealloc(loadptru(p46));
-							rattle_dealloc(p235);
-							if (b292) {
-								n313 = 1;
-								n314 = 0;
-								n315 = 2;
-								n316 = n290;
-								n317 = n289;
-								goto L31;
-							}
-							n313 = 0;
-							n314 = n291;
-							n315 = 0;
-							n316 = 0;
-							n317 = 0;
-							goto L31;
-						}
+								uint64_t n248, n255, n267, n270, n272, n274;
+								of_i8_i8 s254;
+								uint8_t n268, n290;
+								byte *p269, *p271, *p273;
+								byte *p243 = (byte *)(uintptr_t)s240.f1;
+								uint64_t n244 = 0;
+								while (n244 != 16383) {
+									store8(inside(p243, n244), 0);
+									n244 = n244 + 1;
+								}
+								store8(p243 + 16383, 0);
+								storeptru(p45, p7);
+								memset(p45 + 8, 0, 16);
+								memcpy(p46, p51 + 8, 32);
+								storeptru(p46 + 32, p227);
+								store64u(p46 + 40, n228);
+								store64u(p46 + 48, n229);
+								memcpy(p46 + 56, p51 + 64, 16);
+								storeptru(p46 + 72, p230);
+								store64u(p46 + 80, n231);
+								store64u(p46 + 88, n232);
+								memcpy(p46 + 96, p51 + 104, 32);
+								memcpy(p46 + 128, p51 + 136, 1056);
+								storeptru(p46 + 1184, p233);
+								store64u(p46 + 1192, n234);
+								store64u(p46 + 1200, n235);
+								store64u(p46 + 1208, n236);
+								storeptru(p46 + 1216, p237);
+								store64u(p46 + 1224, n238);
+								store64u(p46 + 1232, n239);
+								storeptru(p46 + 1240, p7);
+								memset(p46 + 1248, 0, 16);
+								store8(p47, 1);
+								memset(p47 + 1, 0, 7);
+								storeptru(p47 + 8, p7);
+								memset(p47 + 16, 0, 16);
+								storeptru(p47 + 32, p7);
+								memset(p47 + 40, 0, 16);
+								storeptru(p47 + 56, p7);
+								memset(p47 + 64, 0, 16);
+								store64u(p47 + 80, 1);
+								store8(p47 + 88, 1);
+								memset(p47 + 89, 0, 7);
+								uint64_t n245 = 0;
+								for (;;) {
+									uint64_t n256;
+									if (n245 == UINT64_MAX)
+										goto L21;
+									tp_timer_script_service_tell_state_2(p48, p46, p5, p45);
+									if (load8(p48) != 0)
+										break;
+									tp_JournaledPeerPeer_read(p49, p5, p243);
+									if (load8(p49) != 0)
+										goto L22;
+									uint64_t n246 = load64(p49 + 8);
+									tp_Cutter_take_in(p50, p47, p243, n246, p6);
+									if (load8(p50) != 0)
+										goto L23;
+									uint8_t n247 = load8(p50 + 8);
+									n248 = load64u(p50 + 16);
+									byte *p249 = loadptr(p47 + 8);
+									uint64_t n250 = load64(p47 + 16);
+									if (load64(p45 + 8) != 0)
+										store64(p45 + 8, 0);
+									uint64_t n251 = 0;
+									while (n251 != n250) {
+										uint8_t n252 = tp_timer_script_service_answer_one_2(p46, at(p249, n251 * 48), p45);
+										if ((n252 & 1) != 0) {
+											of_i8_i8 s253 = tp_service_send(p5, loadptr(p45), load64(p45 + 8));
+											if (s253.f0 == 0)
+												goto L24;
+											s254 = s253;
+											goto L25;
+										}
+										n251 = n251 + 1;
+									}
+									n255 = load64(p45 + 8);
+									if (n250 == 0) {
+										n256 = n255;
+									} else {
+										uint64_t n258;
+										uint8_t n259;
+										uint64_t n257 = load64(p46 + 120);
+										if (load64(p46 + 56) == 0) {
+											n258 = 0;
+											n259 = 0;
+										} else {
+											uint64_t n260 = load64(p46 + 24);
+											uint64_t n261 = 0;
+											for (;;) {
+												if (n261 == n260) {
+													n258 = 0;
+													n259 = 0;
+													break;
+												}
+												uint64_t n262 = n261 + 1;
+												uint64_t n263 = n257 + n262;
+												uint64_t n264 = n263 - ((n263 < n260) ? 0 : n260);
+												if (n264 != (uint64_t)load32(at(loadptr(p46 + 72), n264 << 3) + 4)) {
+													n258 = load64(p46 + 8) + n262;
+													n259 = 1;
+													break;
+												}
+												n261 = n262;
+											}
+										}
+										uint8_t n265 = tp_render_push_wakeup(p45, n259, n258);
+										if ((n265 & 1) != 0)
+											goto L26;
+										n256 = load64(p45 + 8);
+									}
+									of_i8_i8 s266 = tp_service_send(p5, loadptr(p45), n256);
+									if (s266.f0 != 0) {
+										s254 = s266;
+										goto L25;
+									}
+									if (n247 == 1)
+										goto L27;
+									if (n246 == 0)
+										goto L28;
+									n245 = n245 + 1;
+								}
+								n267 = load64u(p48 + 16);
+								n268 = load8(p48 + 8);
+								if (load64u(p47 + 24) != 0)
+									rattle_dealloc(loadptru(p47 + 8));
+								if (load64u(p47 + 48) != 0)
+									rattle_dealloc(loadptru(p47 + 32));
+								if (load64u(p47 + 72) != 0)
+									rattle_dealloc(loadptru(p47 + 56));
+								p269 = loadptru(p46 + 72);
+								n270 = load64u(p46 + 88);
+								p271 = loadptru(p46 + 1184);
+								n272 = load64u(p46 + 1200);
+								p273 = loadptru(p46 + 1216);
+								n274 = load64u(p46 + 1232);
+								if (load64u(p46 + 48) != 0)
+									rattle_dealloc(loadptru(p46 + 32));
+								if (n270 != 0)
+									rattle_dealloc(p269);
+								if (n272 != 0)
+									rattle_dealloc(p271);
+								if (n274 != 0)
+									rattle_dealloc(p273);
+								if (load64u(p46 + 1256) != 0)
+									rattle_dealloc(loadptru(p46 + 1240));
+								if (load64u(p45 + 16) != 0)
+									rattle_dealloc(loadptru(p45));
+								rattle_dealloc(p243);
+								n241 = n268;
+								n242 = n267;
+								goto L29;
+L22:
+								{
+									if (load64u(p47 + 24) != 0)
+										rattle_dealloc(loadptru(p47 + 8));
+									if (load64u(p47 + 48) != 0)
+										rattle_dealloc(loadptru(p47 + 32));
+									if (load64u(p47 + 72) != 0)
+										rattle_dealloc(loadptru(p47 + 56));
+									byte *p275 = loadptru(p46 + 72);
+									uint64_t n276 = load64u(p46 + 88);
+									byte *p277 = loadptru(p46 + 1184);
+									uint64_t n278 = load64u(p46 + 1200);
+									byte *p279 = loadptru(p46 + 1216);
+									uint64_t n280 = load64u(p46 + 1232);
+									if (load64u(p46 + 48) != 0)
+										rattle_dealloc(loadptru(p46 + 32));
+									if (n276 != 0)
+										rattle_dealloc(p275);
+									if (n278 != 0)
+										rattle_dealloc(p277);
+									if (n280 != 0)
+										rattle_dealloc(p279);
+									if (load64u(p46 + 1256) != 0)
+										rattle_dealloc(loadptru(p46 + 1240));
+									if (load64u(p45 + 16) != 0)
+										rattle_dealloc(loadptru(p45));
+									rattle_dealloc(p243);
+									n241 = 0;
+									n242 = 0;
+									goto L29;
+								}
+L23:
+								{
+									if (load64u(p47 + 24) != 0)
+										rattle_dealloc(loadptru(p47 + 8));
+									if (load64u(p47 + 48) != 0)
+										rattle_dealloc(loadptru(p47 + 32));
+									if (load64u(p47 + 72) != 0)
+										rattle_dealloc(loadptru(p47 + 56));
+									byte *p281 = loadptru(p46 + 72);
+									uint64_t n282 = load64u(p46 + 88);
+									byte *p283 = loadptru(p46 + 1184);
+									uint64_t n284 = load64u(p46 + 1200);
+									byte *p285 = loadptru(p46 + 1216);
+									uint64_t n286 = load64u(p46 + 1232);
+									if (load64u(p46 + 48) != 0)
+										rattle_dealloc(loadptru(p46 + 32));
+									if (n282 != 0)
+										rattle_dealloc(p281);
+									if (n284 != 0)
+										rattle_dealloc(p283);
+									if (n286 != 0)
+										rattle_dealloc(p285);
+									if (load64u(p46 + 1256) != 0)
+										rattle_dealloc(loadptru(p46 + 1240));
+									if (load64u(p45 + 16) != 0)
+										rattle_dealloc(loadptru(p45));
+									rattle_dealloc(p243);
+									n241 = 2;
+									n242 = 0;
+									goto L29;
+								}
+L26:
+								{
+									uint64_t n288;
+									uint64_t n287 = load64(p45 + 8);
+									if (n287 > n255) {
+										store64(p45 + 8, n255);
+										n288 = n255;
+									} else {
+										n288 = n287;
+									}
+									of_i8_i8 s289 = tp_service_send(p5, loadptr(p45), n288);
+									if (s289.f0 == 0)
+										goto L24;
+									s254 = s289;
+								}
+L25:
+								{
+									if (of_i8_i8_of(frozen8(s254.f0), frozen8(s254.f1)).f1 != 0) {
+										n290 = 3;
+										goto L30;
+									}
+								}
+L24:
+								{
+									n290 = 2;
+								}
+L30:
+								{
+									if (load64u(p47 + 24) != 0)
+										rattle_dealloc(loadptru(p47 + 8));
+									if (load64u(p47 + 48) != 0)
+										rattle_dealloc(loadptru(p47 + 32));
+									if (load64u(p47 + 72) != 0)
+										rattle_dealloc(loadptru(p47 + 56));
+									byte *p291 = loadptru(p46 + 72);
+									uint64_t n292 = load64u(p46 + 88);
+									byte *p293 = loadptru(p46 + 1184);
+									uint64_t n294 = load64u(p46 + 1200);
+									byte *p295 = loadptru(p46 + 1216);
+									uint64_t n296 = load64u(p46 + 1232);
+									if (load64u(p46 + 48) != 0)
+										rattle_dealloc(loadptru(p46 + 32));
+									if (n292 != 0)
+										rattle_dealloc(p291);
+									if (n294 != 0)
+										rattle_dealloc(p293);
+									if (n296 != 0)
+										rattle_dealloc(p295);
+									if (load64u(p46 + 1256) != 0)
+										rattle_dealloc(loadptru(p46 + 1240));
+									if (load64u(p45 + 16) != 0)
+										rattle_dealloc(loadptru(p45));
+									rattle_dealloc(p243);
+									n241 = n290;
+									n242 = 0;
+									goto L29;
+								}
+L28:
+								{
+									uint64_t n297;
+									uint8_t n298, n299;
+									bool b300;
+									memset(p44, 0, 24);
+									tp_Cutter_end(p44, p47, p6);
+									if (load8(p44) == 0) {
+										if (load8(p44 + 8) == 1) {
+											n297 = load64u(p44 + 16);
+											n298 = 1;
+											n299 = 3;
+											b300 = true;
+										} else {
+											uint64_t n311;
+											if (load64(p45 + 8) != 0)
+												store64(p45 + 8, 0);
+											uint64_t n301 = load64(p46 + 8);
+											uint64_t n302 = load64(p46 + 56);
+											uint64_t n303 = load64(p46 + 24);
+											byte *p304 = loadptr(p46 + 72);
+											uint64_t n305 = (uint64_t)load32(at(p304, n303 << 3) + 4);
+											bool b306 = n303 != n305;
+											uint64_t n307 = load64(p46 + 96);
+											uint64_t n308 = b306 ? (n305 - n307) : 0;
+											uint64_t n309 = 0;
+											bool b310 = b306;
+											for (;;) {
+												if (n309 == n302) {
+													n311 = n302;
+													break;
+												}
+												if (!b310) {
+													n311 = n309;
+													break;
+												}
+												uint64_t n312 = (uint64_t)load32(at(p304, (n307 + n308) << 3) + 4);
+												n308 = usub_sat64(n312, n307);
+												n309 = n309 + 1;
+												b310 = n307 <= n312;
+											}
+											uint8_t n313 = tp_text_push_end(p45, n301, n302 - n311);
+											if ((n313 & 1) != 0) {
+												n297 = 0;
+												n298 = 2;
+												n299 = 3;
+												b300 = true;
+											} else {
+												of_i8_i8 s314 = tp_service_send(p5, loadptr(p45), load64(p45 + 8));
+												if (s314.f0 == 0) {
+													n297 = 0;
+													n298 = 0;
+													n299 = (uint8_t)(((load8(p47 + 88) & 1) != 0) ? 0 : 3);
+													b300 = false;
+												} else {
+													n297 = 0;
+													n298 = (uint8_t)((s314.f1 == 0) ? 2 : 3);
+													n299 = 3;
+													b300 = true;
+												}
+											}
+										}
+									} else {
+										n297 = 0;
+										n298 = 2;
+										n299 = 3;
+										b300 = true;
+									}
+									if (load64u(p47 + 24) != 0)
+										rattle_dealloc(loadptru(p47 + 8));
+									if (load64u(p47 + 48) != 0)
+										rattle_dealloc(loadptru(p47 + 32));
+									if (load64u(p47 + 72) != 0)
+										rattle_dealloc(loadptru(p47 + 56));
+									byte *p315 = loadptru(p46 + 72);
+									uint64_t n316 = load64u(p46 + 88);
+									byte *p317 = loadptru(p46 + 1184);
+									uint64_t n318 = load64u(p46 + 1200);
+									byte *p319 = loadptru(p46 + 1216);
+									uint64_t n320 = load64u(p46 + 1232);
+									if (load64u(p46 + 48) != 0)
+										rattle_dealloc(loadptru(p46 + 32));
+									if (n316 != 0)
+										rattle_dealloc(p315);
+									if (n318 != 0)
+										rattle_dealloc(p317);
+									if (n320 != 0)
+										rattle_dealloc(p319);
+									if (load64u(p46 + 1256) != 0)
+										rattle_dealloc(loadptru(p46 + 1240));
+									if (load64u(p45 + 16) != 0)
+										rattle_dealloc(loadptru(p45));
+									rattle_dealloc(p243);
+									if (b300) {
+										n321 = 1;
+										n322 = 0;
+										n323 = 2;
+										n324 = n298;
+										n325 = n297;
+										goto L31;
+									}
+									n321 = 0;
+									n322 = n299;
+									n323 = 0;
+									n324 = 0;
+									n325 = 0;
+									goto L31;
+								}
 L27:
-						{
-							if (load64u(p48 + 24) != 0)
-								rattle_dealloc(loadptru(p48 + 8));
-							if (load64u(p48 + 48) != 0)
-								rattle_dealloc(loadptru(p48 + 32));
-							if (load64u(p48 + 72) != 0)
-								rattle_dealloc(loadptru(p48 + 56));
-							byte *p318 = loadptru(p47 + 72);
-							uint64_t n319 = load64u(p47 + 88);
-							byte *p320 = loadptru(p47 + 1184);
-							uint64_t n321 = load64u(p47 + 1200);
-							byte *p322 = loadptru(p47 + 1216);
-							uint64_t n323 = load64u(p47 + 1232);
-							if (load64u(p47 + 48) != 0)
-								rattle_dealloc(loadptru(p47 + 32));
-							if (n319 != 0)
-								rattle_dealloc(p318);
-							if (n321 != 0)
-								rattle_dealloc(p320);
-							if (n323 != 0)
-								rattle_dealloc(p322);
-							if (load64u(p47 + 1256) != 0)
-								rattle_dealloc(loadptru(p47 + 1240));
-							if (load64u(p46 + 16) != 0)
-								rattle_dealloc(loadptru(p46));
-							rattle_dealloc(p235);
-							n233 = 1;
-							n234 = n240;
-							goto L29;
-						}
+								{
+									if (load64u(p47 + 24) != 0)
+										rattle_dealloc(loadptru(p47 + 8));
+									if (load64u(p47 + 48) != 0)
+										rattle_dealloc(loadptru(p47 + 32));
+									if (load64u(p47 + 72) != 0)
+										rattle_dealloc(loadptru(p47 + 56));
+									byte *p326 = loadptru(p46 + 72);
+									uint64_t n327 = load64u(p46 + 88);
+									byte *p328 = loadptru(p46 + 1184);
+									uint64_t n329 = load64u(p46 + 1200);
+									byte *p330 = loadptru(p46 + 1216);
+									uint64_t n331 = load64u(p46 + 1232);
+									if (load64u(p46 + 48) != 0)
+										rattle_dealloc(loadptru(p46 + 32));
+									if (n327 != 0)
+										rattle_dealloc(p326);
+									if (n329 != 0)
+										rattle_dealloc(p328);
+									if (n331 != 0)
+										rattle_dealloc(p330);
+									if (load64u(p46 + 1256) != 0)
+										rattle_dealloc(loadptru(p46 + 1240));
+									if (load64u(p45 + 16) != 0)
+										rattle_dealloc(loadptru(p45));
+									rattle_dealloc(p243);
+									n241 = 1;
+									n242 = n248;
+									goto L29;
+								}
 L21:
-						{
-							if (load64u(p48 + 24) != 0)
-								rattle_dealloc(loadptru(p48 + 8));
-							if (load64u(p48 + 48) != 0)
-								rattle_dealloc(loadptru(p48 + 32));
-							if (load64u(p48 + 72) != 0)
-								rattle_dealloc(loadptru(p48 + 56));
-							byte *p324 = loadptru(p47 + 72);
-							uint64_t n325 = load64u(p47 + 88);
-							byte *p326 = loadptru(p47 + 1184);
-							uint64_t n327 = load64u(p47 + 1200);
-							byte *p328 = loadptru(p47 + 1216);
-							uint64_t n329 = load64u(p47 + 1232);
-							if (load64u(p47 + 48) != 0)
-								rattle_dealloc(loadptru(p47 + 32));
-							if (n325 != 0)
-								rattle_dealloc(p324);
-							if (n327 != 0)
-								rattle_dealloc(p326);
-							if (n329 != 0)
-								rattle_dealloc(p328);
-							if (load64u(p47 + 1256) != 0)
-								rattle_dealloc(loadptru(p47 + 1240));
-							if (load64u(p46 + 16) != 0)
-								rattle_dealloc(loadptru(p46));
-							rattle_dealloc(p235);
-							n233 = 4;
-							n234 = 0;
-						}
-					}
+								{
+									if (load64u(p47 + 24) != 0)
+										rattle_dealloc(loadptru(p47 + 8));
+									if (load64u(p47 + 48) != 0)
+										rattle_dealloc(loadptru(p47 + 32));
+									if (load64u(p47 + 72) != 0)
+										rattle_dealloc(loadptru(p47 + 56));
+									byte *p332 = loadptru(p46 + 72);
+									uint64_t n333 = load64u(p46 + 88);
+									byte *p334 = loadptru(p46 + 1184);
+									uint64_t n335 = load64u(p46 + 1200);
+									byte *p336 = loadptru(p46 + 1216);
+									uint64_t n337 = load64u(p46 + 1232);
+									if (load64u(p46 + 48) != 0)
+										rattle_dealloc(loadptru(p46 + 32));
+									if (n333 != 0)
+										rattle_dealloc(p332);
+									if (n335 != 0)
+										rattle_dealloc(p334);
+									if (n337 != 0)
+										rattle_dealloc(p336);
+									if (load64u(p46 + 1256) != 0)
+										rattle_dealloc(loadptru(p46 + 1240));
+									if (load64u(p45 + 16) != 0)
+										rattle_dealloc(loadptru(p45));
+									rattle_dealloc(p243);
+									n241 = 4;
+									n242 = 0;
+								}
+							}
 L29:
-					{
-						n313 = 1;
-						n314 = 0;
-						n315 = 2;
-						n316 = n233;
-						n317 = n234;
-					}
-				} else {
-					uint8_t n331;
-					uint64_t n332;
-					memset(p39, 0, 24);
-					memset(p40, 0, 1264);
-					memset(p41, 0, 96);
-					memset(p42, 0, 24);
-					memset(p43, 0, 96);
-					memset(p44, 0, 24);
-					of_i64_i64 s330 = rattle_alloc(16384, 1);
-					if ((s330.f0 & 1) == 0) {
-						if (n221 != 0)
-							rattle_dealloc(p219);
-						if (n224 != 0)
-							rattle_dealloc(p222);
-						if (n227 != 0)
-							rattle_dealloc(p225);
-						if (n231 == 0) {
-							n331 = 2;
-							n332 = 0;
+							{
+								n321 = 1;
+								n322 = 0;
+								n323 = 2;
+								n324 = n241;
+								n325 = n242;
+							}
 						} else {
-							rattle_dealloc(p229);
-							n331 = 2;
-							n332 = 0;
-						}
-					} else {
-						uint64_t n338, n346, n349, n351, n353;
-						of_i8_i8 s344;
-						uint8_t n347, n366;
-						byte *p348, *p350, *p352;
-						byte *p333 = (byte *)(uintptr_t)s330.f1;
-						uint64_t n334 = 0;
-						while (n334 != 16383) {
-							store8(inside(p333, n334), 0);
-							n334 = n334 + 1;
-						}
-						store8(p333 + 16383, 0);
-						storeptru(p39, p8);
-						memset(p39 + 8, 0, 16);
-						memcpy(p40, p52 + 8, 32);
-						storeptru(p40 + 32, p219);
-						store64u(p40 + 40, n220);
-						store64u(p40 + 48, n221);
-						memcpy(p40 + 56, p52 + 64, 16);
-						storeptru(p40 + 72, p222);
-						store64u(p40 + 80, n223);
-						store64u(p40 + 88, n224);
-						memcpy(p40 + 96, p52 + 104, 32);
-						memcpy(p40 + 128, p52 + 136, 1056);
-						storeptru(p40 + 1184, p225);
-						store64u(p40 + 1192, n226);
-						store64u(p40 + 1200, n227);
-						store64u(p40 + 1208, n228);
-						storeptru(p40 + 1216, p229);
-						store64u(p40 + 1224, n230);
-						store64u(p40 + 1232, n231);
-						storeptru(p40 + 1240, p8);
-						memset(p40 + 1248, 0, 16);
-						store8(p41, 1);
-						memset(p41 + 1, 0, 7);
-						storeptru(p41 + 8, p8);
-						memset(p41 + 16, 0, 16);
-						storeptru(p41 + 32, p8);
-						memset(p41 + 40, 0, 16);
-						storeptru(p41 + 56, p8);
-						memset(p41 + 64, 0, 16);
-						store64u(p41 + 80, 1);
-						store8(p41 + 88, 1);
-						memset(p41 + 89, 0, 7);
-						uint64_t n335 = 0;
-						for (;;) {
-							if (n335 == UINT64_MAX)
-								goto L32;
-							tp_timer_script_service_tell_state_2(p42, p40, p6, p39);
-							if (load8(p42) != 0)
-								break;
-							tp_JournaledPeerPeer_read(p43, p6, p333);
-							if (load8(p43) != 0)
-								goto L33;
-							uint64_t n336 = load64(p43 + 8);
-							tp_Cutter_take_in(p44, p41, p333, n336, p7);
-							if (load8(p44) != 0)
-								goto L34;
-							uint8_t n337 = load8(p44 + 8);
-							n338 = load64u(p44 + 16);
-							byte *p339 = loadptr(p41 + 8);
-							uint64_t n340 = load64(p41 + 16);
-							if (load64(p39 + 8) != 0)
-								store64(p39 + 8, 0);
-							uint64_t n341 = 0;
-							while (n341 != n340) {
-								uint8_t n342 = tp_timer_script_service_answer_one_2(p40, at(p339, n341 * 48), p39);
-								if ((n342 & 1) != 0) {
-									of_i8_i8 s343 = tp_service_send(p6, loadptr(p39), load64(p39 + 8));
-									if (s343.f0 == 0)
-										goto L35;
-									s344 = s343;
-									goto L36;
-								}
-								n341 = n341 + 1;
-							}
-							of_i8_i8 s345 = tp_service_send(p6, loadptr(p39), load64(p39 + 8));
-							if (s345.f0 != 0) {
-								s344 = s345;
-								goto L36;
-							}
-							if (n337 == 1)
-								goto L37;
-							if (n336 == 0)
-								goto L38;
-							n335 = n335 + 1;
-						}
-						n346 = load64u(p42 + 16);
-						n347 = load8(p42 + 8);
-						if (load64u(p41 + 24) != 0)
-							rattle_dealloc(loadptru(p41 + 8));
-						if (load64u(p41 + 48) != 0)
-							rattle_dealloc(loadptru(p41 + 32));
-						if (load64u(p41 + 72) != 0)
-							rattle_dealloc(loadptru(p41 + 56));
-						p348 = loadptru(p40 + 72);
-						n349 = load64u(p40 + 88);
-						p350 = loadptru(p40 + 1184);
-						n351 = load64u(p40 + 1200);
-						p352 = loadptru(p40 + 1216);
-						n353 = load64u(p40 + 1232);
-						if (load64u(p40 + 48) != 0)
-							rattle_dealloc(loadptru(p40 + 32));
-						if (n349 != 0)
-							rattle_dealloc(p348);
-						if (n351 != 0)
-							rattle_dealloc(p350);
-						if (n353 != 0)
-							rattle_dealloc(p352);
-						if (load64u(p40 + 1256) != 0)
-							rattle_dealloc(loadptru(p40 + 1240));
-						if (load64u(p39 + 16) != 0)
-							rattle_dealloc(loadptru(p39));
-						rattle_dealloc(p333);
-						n331 = n347;
-						n332 = n346;
-						goto L39;
-L33:
-						{
-							if (load64u(p41 + 24) != 0)
-								rattle_dealloc(loadptru(p41 + 8));
-							if (load64u(p41 + 48) != 0)
-								rattle_dealloc(loadptru(p41 + 32));
-							if (load64u(p41 + 72) != 0)
-								rattle_dealloc(loadptru(p41 + 56));
-							byte *p354 = loadptru(p40 + 72);
-							uint64_t n355 = load64u(p40 + 88);
-							byte *p356 = loadptru(p40 + 1184);
-							uint64_t n357 = load64u(p40 + 1200);
-							byte *p358 = loadptru(p40 + 1216);
-							uint64_t n359 = load64u(p40 + 1232);
-							if (load64u(p40 + 48) != 0)
-								rattle_dealloc(loadptru(p40 + 32));
-							if (n355 != 0)
-								rattle_dealloc(p354);
-							if (n357 != 0)
-								rattle_dealloc(p356);
-							if (n359 != 0)
-								rattle_dealloc(p358);
-							if (load64u(p40 + 1256) != 0)
-								rattle_dealloc(loadptru(p40 + 1240));
-							if (load64u(p39 + 16) != 0)
-								rattle_dealloc(loadptru(p39));
-							rattle_dealloc(p333);
-							n331 = 0;
-							n332 = 0;
-							goto L39;
-						}
-L34:
-						{
-							if (load64u(p41 + 24) != 0)
-								rattle_dealloc(loadptru(p41 + 8));
-							if (load64u(p41 + 48) != 0)
-								rattle_dealloc(loadptru(p41 + 32));
-							if (load64u(p41 + 72) != 0)
-								rattle_dealloc(loadptru(p41 + 56));
-							byte *p360 = loadptru(p40 + 72);
-							uint64_t n361 = load64u(p40 + 88);
-							byte *p362 = loadptru(p40 + 1184);
-							uint64_t n363 = load64u(p40 + 1200);
-							byte *p364 = loadptru(p40 + 1216);
-							uint64_t n365 = load64u(p40 + 1232);
-							if (load64u(p40 + 48) != 0)
-								rattle_dealloc(loadptru(p40 + 32));
-							if (n361 != 0)
-								rattle_dealloc(p360);
-							if (n363 != 0)
-								rattle_dealloc(p362);
-							if (n365 != 0)
-								rattle_dealloc(p364);
-							if (load64u(p40 + 1256) != 0)
-								rattle_dealloc(loadptru(p40 + 1240));
-							if (load64u(p39 + 16) != 0)
-								rattle_dealloc(loadptru(p39));
-							rattle_dealloc(p333);
-							n331 = 2;
-							n332 = 0;
-							goto L39;
-						}
-L36:
-						{
-							if (of_i8_i8_of(frozen8(s344.f0), frozen8(s344.f1)).f1 != 0) {
-								n366 = 3;
-								goto L40;
-							}
-						}
-L35:
-						{
-							n366 = 2;
-						}
-L40:
-						{
-							if (load64u(p41 + 24) != 0)
-								rattle_dealloc(loadptru(p41 + 8));
-							if (load64u(p41 + 48) != 0)
-								rattle_dealloc(loadptru(p41 + 32));
-							if (load64u(p41 + 72) != 0)
-								rattle_dealloc(loadptru(p41 + 56));
-							byte *p367 = loadptru(p40 + 72);
-							uint64_t n368 = load64u(p40 + 88);
-							byte *p369 = loadptru(p40 + 1184);
-							uint64_t n370 = load64u(p40 + 1200);
-							byte *p371 = loadptru(p40 + 1216);
-							uint64_t n372 = load64u(p40 + 1232);
-							if (load64u(p40 + 48) != 0)
-								rattle_dealloc(loadptru(p40 + 32));
-							if (n368 != 0)
-								rattle_dealloc(p367);
-							if (n370 != 0)
-								rattle_dealloc(p369);
-							if (n372 != 0)
-								rattle_dealloc(p371);
-							if (load64u(p40 + 1256) != 0)
-								rattle_dealloc(loadptru(p40 + 1240));
-							if (load64u(p39 + 16) != 0)
-								rattle_dealloc(loadptru(p39));
-							rattle_dealloc(p333);
-							n331 = n366;
-							n332 = 0;
-							goto L39;
-						}
-L38:
-						{
-							uint64_t n373;
-							uint8_t n374, n375;
-							bool b376;
+							uint8_t n339;
+							uint64_t n340;
 							memset(p38, 0, 24);
-							tp_Cutter_end(p38, p41, p7);
-							if (load8(p38) == 0) {
-								if (load8(p38 + 8) == 1) {
-									n373 = load64u(p38 + 16);
-									n374 = 1;
-									n375 = 3;
-									b376 = true;
+							memset(p39, 0, 1264);
+							memset(p40, 0, 96);
+							memset(p41, 0, 24);
+							memset(p42, 0, 96);
+							memset(p43, 0, 24);
+							of_i64_i64 s338 = rattle_alloc(16384, 1);
+							if ((s338.f0 & 1) == 0) {
+								if (n229 != 0)
+									rattle_dealloc(p227);
+								if (n232 != 0)
+									rattle_dealloc(p230);
+								if (n235 != 0)
+									rattle_dealloc(p233);
+								if (n239 == 0) {
+									n339 = 2;
+									n340 = 0;
 								} else {
-									uint64_t n387;
-									if (load64(p39 + 8) != 0)
-										store64(p39 + 8, 0);
-									uint64_t n377 = load64(p40 + 8);
-									uint64_t n378 = load64(p40 + 56);
-									uint64_t n379 = load64(p40 + 24);
-									byte *p380 = loadptr(p40 + 72);
-									uint64_t n381 = (uint64_t)load32(at(p380, n379 << 3) + 4);
-									bool b382 = n379 != n381;
-									uint64_t n383 = load64(p40 + 96);
-									uint64_t n384 = b382 ? (n381 - n383) : 0;
-									uint64_t n385 = 0;
-									bool b386 = b382;
-									for (;;) {
-										if (n385 == n378) {
-											n387 = n378;
-											break;
-										}
-										if (!b386) {
-											n387 = n385;
-											break;
-										}
-										uint64_t n388 = (uint64_t)load32(at(p380, (n383 + n384) << 3) + 4);
-										n384 = usub_sat64(n388, n383);
-										n385 = n385 + 1;
-										b386 = n383 <= n388;
-									}
-									uint8_t n389 = tp_text_push_end(p39, n377, n378 - n387);
-									if ((n389 & 1) != 0) {
-										n373 = 0;
-										n374 = 2;
-										n375 = 3;
-										b376 = true;
-									} else {
-										of_i8_i8 s390 = tp_service_send(p6, loadptr(p39), load64(p39 + 8));
-										if (s390.f0 == 0) {
-											n373 = 0;
-											n374 = 0;
-											n375 = (uint8_t)(((load8(p41 + 88) & 1) != 0) ? 0 : 3);
-											b376 = false;
-										} else {
-											n373 = 0;
-											n374 = (uint8_t)((s390.f1 == 0) ? 2 : 3);
-											n375 = 3;
-											b376 = true;
-										}
-									}
+									rattle_dealloc(p237);
+									n339 = 2;
+									n340 = 0;
 								}
 							} else {
-								n373 = 0;
-								n374 = 2;
-								n375 = 3;
-								b376 = true;
-							}
-							if (load64u(p41 + 24) != 0)
-								rattle_dealloc(loadptru(p41 + 8));
-							if (load64u(p41 + 48) != 0)
-								rattle_dealloc(loadptru(p41 + 32));
-							if (load64u(p41 + 72) != 0)
-								rattle_dealloc(loadptru(p41 + 56));
-							byte *p391 = loadptru(p40 + 72);
-							uint64_t n392 = load64u(p40 + 88);
-							byte *p393 = loadptru(p40 + 1184);
-							uint64_t n394 = load64u(p40 + 1200);
-							byte *p395 = loadptru(p40 + 1216);
-							uint64_t n396 = load64u(p40 + 1232);
-							if (load64u(p40 + 48) != 0)
-								rattle_dealloc(loadptru(p40 + 32));
-							if (n392 != 0)
-								rattle_dealloc(p391);
-							if (n394 != 0)
-								rattle_dealloc(p393);
-							if (n396 != 0)
-								rattle_dealloc(p395);
-							if (load64u(p40 + 1256) != 0)
-								rattle_dealloc(loadptru(p40 + 1240));
-							if (load64u(p39 + 16) != 0)
-								rattle_dealloc(loadptru(p39));
-							rattle_dealloc(p333);
-							if (b376) {
-								n313 = 1;
-								n314 = 0;
-								n315 = 2;
-								n316 = n374;
-								n317 = n373;
-								goto L31;
-							}
-							n313 = 0;
-							n314 = n375;
-							n315 = 0;
-							n316 = 0;
-							n317 = 0;
-							goto L31;
-						}
-L37:
-						{
-							if (load64u(p41 + 24) != 0)
-								rattle_dealloc(loadptru(p41 + 8));
-							if (load64u(p41 + 48) != 0)
-								rattle_dealloc(loadptru(p41 + 32));
-							if (load64u(p41 + 72) != 0)
-								rattle_dealloc(loadptru(p41 + 56));
-							byte *p397 = loadptru(p40 + 72);
-							uint64_t n398 = load64u(p40 + 88);
-							byte *p399 = loadptru(p40 + 1184);
-							uint64_t n400 = load64u(p40 + 1200);
-							byte *p401 = loadptru(p40 + 1216);
-							uint64_t n402 = load64u(p40 + 1232);
-							if (load64u(p40 + 48) != 0)
-								rattle_dealloc(loadptru(p40 + 32));
-							if (n398 != 0)
-								rattle_dealloc(p397);
-							if (n400 != 0)
-								rattle_dealloc(p399);
-							if (n402 != 0)
-								rattle_dealloc(p401);
-							if (load64u(p40 + 1256) != 0)
-								rattle_dealloc(loadptru(p40 + 1240));
-							if (load64u(p39 + 16) != 0)
-								rattle_dealloc(loadptru(p39));
-							rattle_dealloc(p333);
-							n331 = 1;
-							n332 = n338;
-							goto L39;
-						}
-L32:
-						{
-							if (load64u(p41 + 24) != 0)
-								rattle_dealloc(loadptru(p41 + 8));
-							if (load64u(p41 + 48) != 0)
-								rattle_dealloc(loadptru(p41 + 32));
-							if (load64u(p41 + 72) != 0)
-								rattle_dealloc(loadptru(p41 + 56));
-							byte *p403 = loadptru(p40 + 72);
-							uint64_t n404 = load64u(p40 + 88);
-							byte *p405 = loadptru(p40 + 1184);
-							uint64_t n406 = load64u(p40 + 1200);
-							byte *p407 = loadptru(p40 + 1216);
-							uint64_t n408 = load64u(p40 + 1232);
-							if (load64u(p40 + 48) != 0)
-								rattle_dealloc(loadptru(p40 + 32));
-							if (n404 != 0)
-								rattle_dealloc(p403);
-							if (n406 != 0)
-								rattle_dealloc(p405);
-							if (n408 != 0)
-								rattle_dealloc(p407);
-							if (load64u(p40 + 1256) != 0)
-								rattle_dealloc(loadptru(p40 + 1240));
-							if (load64u(p39 + 16) != 0)
-								rattle_dealloc(loadptru(p39));
-							rattle_dealloc(p333);
-							n331 = 4;
-							n332 = 0;
-						}
-					}
-L39:
-					{
-						n313 = 1;
-						n314 = 0;
-						n315 = 2;
-						n316 = n331;
-						n317 = n332;
-					}
-				}
-			} else {
-				n313 = 1;
-				n314 = 0;
-				n315 = 2;
-				n316 = 2;
-				n317 = 0;
-			}
-L31:
-			{
-				store8(p78, n313);
-				store8(p78 + 1, n314);
-				store64u(p78 + 8, n315);
-				store8(p78 + 16, n316);
-				store8(p78 + 17, 0);
-				store64u(p78 + 24, n317);
-			}
-		} else {
-			store8(p78, 1);
-			store8(p78 + 1, 0);
-			store64u(p78 + 8, 2);
-			store8(p78 + 16, 2);
-			store8(p78 + 17, 0);
-			store64u(p78 + 24, 0);
-		}
-		break;
-	}
-	case 2: {
-		uint8_t n409, n410;
-		uint64_t n411;
-		if (n81 > UINT64_C(1152921504606846975)) {
-			memset(p36, 0, 127);
-			memset(p37, 0, 96);
-			n409 = 1;
-			n410 = 1;
-			n411 = 0;
-		} else {
-			memset(p34, 0, 128);
-			memset(p35, 0, 7);
-			tp_Buckets_new(p34, 640, UINT64_C(1152921504606846975), n81);
-			if (load8(p34) == 0) {
-				memcpy(p35 + 7, p34 + 8, 120);
-				memcpy(p36, p35, 127);
-				memset(p37, 0, 96);
-				n409 = 0;
-				n410 = 0;
-				n411 = n81;
-			} else {
-				memset(p36, 0, 127);
-				memset(p37, 0, 96);
-				n409 = 1;
-				n410 = 2;
-				n411 = 0;
-			}
-		}
-		memcpy(p73, p36, 127);
-		memcpy(p74, p37, 96);
-		store8(p79, n409);
-		store8(p79 + 1, n410);
-		store8(p79 + 8, 0);
-		memcpy(p79 + 9, p73, 127);
-		memcpy(p79 + 136, p74, 96);
-		store64u(p79 + 232, n411);
-		tp_resuming_over_wheel(p78, p71, p4, p79, b5, p6, p7);
-		break;
-	}
-	case 3: {
-		uint8_t n412, n413, n414;
-		uint64_t n415;
-		if (n81 > 8639999) {
-			memset(p32, 0, 127);
-			memset(p33, 0, 96);
-			n412 = 1;
-			n413 = 1;
-			n414 = 0;
-			n415 = 0;
-		} else {
-			memset(p30, 0, 128);
-			memset(p31, 0, 7);
-			tp_Buckets_new(p30, 244, 8639999, n81);
-			if (load8(p30) == 0) {
-				memcpy(p31 + 7, p30 + 8, 120);
-				memcpy(p32, p31, 127);
-				memset(p33, 0, 96);
-				n412 = 0;
-				n413 = 0;
-				n414 = 1;
-				n415 = n81;
-			} else {
-				memset(p32, 0, 127);
-				memset(p33, 0, 96);
-				n412 = 1;
-				n413 = 2;
-				n414 = 0;
-				n415 = 0;
-			}
-		}
-		memcpy(p75, p32, 127);
-		memcpy(p76, p33, 96);
-		store8(p80, n412);
-		store8(p80 + 1, n413);
-		store8(p80 + 8, n414);
-		memcpy(p80 + 9, p75, 127);
-		memcpy(p80 + 136, p76, 96);
-		store64u(p80 + 232, n415);
-		tp_resuming_over_wheel(p78, p71, p4, p80, b5, p6, p7);
-		break;
-	}
-	case 4: {
-		memset(p29, 0, 390);
-		if (n81 > UINT64_C(1152921504606846975)) {
-			memset(p29 + 6, 0, 384);
-		} else {
-			memset(p25, 0, 128);
-			tp_Buckets_new(p25, 1280, UINT64_C(1152921504606846975), n81);
-			if (load8(p25) == 0) {
-				uint8_t n503, n504, n506;
-				uint64_t n505, n507;
-				memcpy(p26, p25 + 8, 120);
-				memset(p26 + 120, 0, 160);
-				memcpy(p27 + 7, p26, 280);
-				memcpy(p28, p27 + 7, 280);
-				memset(p28 + 280, 0, 80);
-				memcpy(p29 + 6, p28, 360);
-				memset(p29 + 366, 0, 24);
-				memcpy(p77 + 6, p29 + 6, 384);
-				memset(p23, 0, 1504);
-				memcpy(p24, p77 + 6, 384);
-				tp_Player_restore(p23, p71, p24, p4);
-				if (load8(p23) == 0) {
-					byte *p416 = loadptru(p23 + 40);
-					uint64_t n417 = load64u(p23 + 48);
-					uint64_t n418 = load64u(p23 + 56);
-					byte *p419 = loadptru(p23 + 80);
-					uint64_t n420 = load64u(p23 + 88);
-					uint64_t n421 = load64u(p23 + 96);
-					byte *p422 = loadptru(p23 + 1448);
-					uint64_t n423 = load64u(p23 + 1456);
-					uint64_t n424 = load64u(p23 + 1464);
-					uint64_t n425 = load64u(p23 + 1472);
-					byte *p426 = loadptru(p23 + 1480);
-					uint64_t n427 = load64u(p23 + 1488);
-					uint64_t n428 = load64u(p23 + 1496);
-					if (b5) {
-						uint8_t n430;
-						uint64_t n431;
-						memset(p17, 0, 24);
-						memset(p18, 0, 1520);
-						memset(p19, 0, 96);
-						memset(p20, 0, 24);
-						memset(p21, 0, 96);
-						memset(p22, 0, 24);
-						of_i64_i64 s429 = rattle_alloc(16384, 1);
-						if ((s429.f0 & 1) == 0) {
-							if (n418 != 0)
-								rattle_dealloc(p416);
-							if (n421 != 0)
-								rattle_dealloc(p419);
-							if (n424 != 0)
-								rattle_dealloc(p422);
-							if (n428 == 0) {
-								n430 = 2;
-								n431 = 0;
-							} else {
-								rattle_dealloc(p426);
-								n430 = 2;
-								n431 = 0;
-							}
-						} else {
-							uint64_t n437, n444, n449, n452, n454, n456;
-							of_i8_i8 s443;
-							uint8_t n450, n472;
-							byte *p451, *p453, *p455;
-							byte *p432 = (byte *)(uintptr_t)s429.f1;
-							uint64_t n433 = 0;
-							while (n433 != 16383) {
-								store8(inside(p432, n433), 0);
-								n433 = n433 + 1;
-							}
-							store8(p432 + 16383, 0);
-							storeptru(p17, p8);
-							memset(p17 + 8, 0, 16);
-							memcpy(p18, p23 + 8, 32);
-							storeptru(p18 + 32, p416);
-							store64u(p18 + 40, n417);
-							store64u(p18 + 48, n418);
-							memcpy(p18 + 56, p23 + 64, 16);
-							storeptru(p18 + 72, p419);
-							store64u(p18 + 80, n420);
-							store64u(p18 + 88, n421);
-							memcpy(p18 + 96, p23 + 104, 288);
-							memcpy(p18 + 384, p23 + 392, 1056);
-							storeptru(p18 + 1440, p422);
-							store64u(p18 + 1448, n423);
-							store64u(p18 + 1456, n424);
-							store64u(p18 + 1464, n425);
-							storeptru(p18 + 1472, p426);
-							store64u(p18 + 1480, n427);
-							store64u(p18 + 1488, n428);
-							storeptru(p18 + 1496, p8);
-							memset(p18 + 1504, 0, 16);
-							store8(p19, 1);
-							memset(p19 + 1, 0, 7);
-							storeptru(p19 + 8, p8);
-							memset(p19 + 16, 0, 16);
-							storeptru(p19 + 32, p8);
-							memset(p19 + 40, 0, 16);
-							storeptru(p19 + 56, p8);
-							memset(p19 + 64, 0, 16);
-							store64u(p19 + 80, 1);
-							store8(p19 + 88, 1);
-							memset(p19 + 89, 0, 7);
-							uint64_t n434 = 0;
-							for (;;) {
-								uint64_t n445;
-								if (n434 == UINT64_MAX)
-									goto L41;
-								tp_service_tell_state(p20, p18, p6, p17);
-								if (load8(p20) != 0)
-									break;
-								tp_JournaledPeerPeer_read(p21, p6, p432);
-								if (load8(p21) != 0)
-									goto L42;
-								uint64_t n435 = load64(p21 + 8);
-								tp_Cutter_take_in(p22, p19, p432, n435, p7);
-								if (load8(p22) != 0)
-									goto L43;
-								uint8_t n436 = load8(p22 + 8);
-								n437 = load64u(p22 + 16);
-								byte *p438 = loadptr(p19 + 8);
-								uint64_t n439 = load64(p19 + 16);
-								if (load64(p17 + 8) != 0)
-									store64(p17 + 8, 0);
-								uint64_t n440 = 0;
-								while (n440 != n439) {
-									uint8_t n441 = tp_service_answer_one(p18, at(p438, n440 * 48), p17);
-									if ((n441 & 1) != 0) {
-										of_i8_i8 s442 = tp_service_send(p6, loadptr(p17), load64(p17 + 8));
-										if (s442.f0 == 0)
-											goto L44;
-										s443 = s442;
-										goto L45;
-									}
-									n440 = n440 + 1;
+								uint64_t n346, n354, n357, n359, n361;
+								of_i8_i8 s352;
+								uint8_t n355, n374;
+								byte *p356, *p358, *p360;
+								byte *p341 = (byte *)(uintptr_t)s338.f1;
+								uint64_t n342 = 0;
+								while (n342 != 16383) {
+									store8(inside(p341, n342), 0);
+									n342 = n342 + 1;
 								}
-								n444 = load64(p17 + 8);
-								if (n439 == 0) {
-									n445 = n444;
-								} else {
-									of_i8_i64 s446 = tp_SmoothWheelWheel_quiet_until(p18);
-									uint8_t n447 = tp_render_push_wakeup(p17, s446.f0, s446.f1);
-									if ((n447 & 1) != 0)
-										goto L46;
-									n445 = load64(p17 + 8);
-								}
-								of_i8_i8 s448 = tp_service_send(p6, loadptr(p17), n445);
-								if (s448.f0 != 0) {
-									s443 = s448;
-									goto L45;
-								}
-								if (n436 == 1)
-									goto L47;
-								if (n435 == 0)
-									goto L48;
-								n434 = n434 + 1;
-							}
-							n449 = load64u(p20 + 16);
-							n450 = load8(p20 + 8);
-							if (load64u(p19 + 24) != 0)
-								rattle_dealloc(loadptru(p19 + 8));
-							if (load64u(p19 + 48) != 0)
-								rattle_dealloc(loadptru(p19 + 32));
-							if (load64u(p19 + 72) != 0)
-								rattle_dealloc(loadptru(p19 + 56));
-							p451 = loadptru(p18 + 72);
-							n452 = load64u(p18 + 88);
-							p453 = loadptru(p18 + 1440);
-							n454 = load64u(p18 + 1456);
-							p455 = loadptru(p18 + 1472);
-							n456 = load64u(p18 + 1488);
-							if (load64u(p18 + 48) != 0)
-								rattle_dealloc(loadptru(p18 + 32));
-							if (n452 != 0)
-								rattle_dealloc(p451);
-							if (n454 != 0)
-								rattle_dealloc(p453);
-							if (n456 != 0)
-								rattle_dealloc(p455);
-							if (load64u(p18 + 1512) != 0)
-								rattle_dealloc(loadptru(p18 + 1496));
-							if (load64u(p17 + 16) != 0)
-								rattle_dealloc(loadptru(p17));
-							rattle_dealloc(p432);
-							n430 = n450;
-							n431 = n449;
-							goto L49;
-L42:
-							{
-								if (load64u(p19 + 24) != 0)
-									rattle_dealloc(loadptru(p19 + 8));
-								if (load64u(p19 + 48) != 0)
-									rattle_dealloc(loadptru(p19 + 32));
-								if (load64u(p19 + 72) != 0)
-									rattle_dealloc(loadptru(p19 + 56));
-								byte *p457 = loadptru(p18 + 72);
-								uint64_t n458 = load64u(p18 + 88);
-								byte *p459 = loadptru(p18 + 1440);
-								uint64_t n460 = load64u(p18 + 1456);
-								byte *p461 = loadptru(p18 + 1472);
-								uint64_t n462 = load64u(p18 + 1488);
-								if (load64u(p18 + 48) != 0)
-									rattle_dealloc(loadptru(p18 + 32));
-								if (n458 != 0)
-									rattle_dealloc(p457);
-								if (n460 != 0)
-									rattle_dealloc(p459);
-								if (n462 != 0)
-									rattle_dealloc(p461);
-								if (load64u(p18 + 1512) != 0)
-									rattle_dealloc(loadptru(p18 + 1496));
-								if (load64u(p17 + 16) != 0)
-									rattle_dealloc(loadptru(p17));
-								rattle_dealloc(p432);
-								n430 = 0;
-								n431 = 0;
-								goto L49;
-							}
-L43:
-							{
-								if (load64u(p19 + 24) != 0)
-									rattle_dealloc(loadptru(p19 + 8));
-								if (load64u(p19 + 48) != 0)
-									rattle_dealloc(loadptru(p19 + 32));
-								if (load64u(p19 + 72) != 0)
-									rattle_dealloc(loadptru(p19 + 56));
-								byte *p463 = loadptru(p18 + 72);
-								uint64_t n464 = load64u(p18 + 88);
-								byte *p465 = loadptru(p18 + 1440);
-								uint64_t n466 = load64u(p18 + 1456);
-								byte *p467 = loadptru(p18 + 1472);
-								uint64_t n468 = load64u(p18 + 1488);
-								if (load64u(p18 + 48) != 0)
-									rattle_dealloc(loadptru(p18 + 32));
-								if (n464 != 0)
-									rattle_dealloc(p463);
-								if (n466 != 0)
-									rattle_dealloc(p465);
-								if (n468 != 0)
-									rattle_dealloc(p467);
-								if (load64u(p18 + 1512) != 0)
-									rattle_dealloc(loadptru(p18 + 1496));
-								if (load64u(p17 + 16) != 0)
-									rattle_dealloc(loadptru(p17));
-								rattle_dealloc(p432);
-								n430 = 2;
-								n431 = 0;
-								goto L49;
-							}
-L46:
-							{
-								uint64_t n470;
-								uint64_t n469 = load64(p17 + 8);
-								if (n469 > n444) {
-									store64(p17 + 8, n444);
-									n470 = n444;
-								} else {
-									n470 = n469;
-								}
-								of_i8_i8 s471 = tp_service_send(p6, loadptr(p17), n470);
-								if (s471.f0 == 0)
-									goto L44;
-								s443 = s471;
-							}
-L45:
-							{
-								if (of_i8_i8_of(frozen8(s443.f0), frozen8(s443.f1)).f1 != 0) {
-									n472 = 3;
-									goto L50;
-								}
-							}
-L44:
-							{
-								n472 = 2;
-							}
-L50:
-							{
-								if (load64u(p19 + 24) != 0)
-									rattle_dealloc(loadptru(p19 + 8));
-								if (load64u(p19 + 48) != 0)
-									rattle_dealloc(loadptru(p19 + 32));
-								if (load64u(p19 + 72) != 0)
-									rattle_dealloc(loadptru(p19 + 56));
-								byte *p473 = loadptru(p18 + 72);
-								uint64_t n474 = load64u(p18 + 88);
-								byte *p475 = loadptru(p18 + 1440);
-								uint64_t n476 = load64u(p18 + 1456);
-								byte *p477 = loadptru(p18 + 1472);
-								uint64_t n478 = load64u(p18 + 1488);
-								if (load64u(p18 + 48) != 0)
-									rattle_dealloc(loadptru(p18 + 32));
-								if (n474 != 0)
-									rattle_dealloc(p473);
-								if (n476 != 0)
-									rattle_dealloc(p475);
-								if (n478 != 0)
-									rattle_dealloc(p477);
-								if (load64u(p18 + 1512) != 0)
-									rattle_dealloc(loadptru(p18 + 1496));
-								if (load64u(p17 + 16) != 0)
-									rattle_dealloc(loadptru(p17));
-								rattle_dealloc(p432);
-								n430 = n472;
-								n431 = 0;
-								goto L49;
-							}
-L48:
-							{
-								uint64_t n479;
-								uint8_t n480, n481;
-								bool b482;
-								memset(p16, 0, 24);
-								tp_Cutter_end(p16, p19, p7);
-								if (load8(p16) == 0) {
-									if (load8(p16 + 8) == 1) {
-										n479 = load64u(p16 + 16);
-										n480 = 1;
-										n481 = 3;
-										b482 = true;
-									} else {
-										uint64_t n493;
-										if (load64(p17 + 8) != 0)
-											store64(p17 + 8, 0);
-										uint64_t n483 = load64(p18 + 8);
-										uint64_t n484 = load64(p18 + 56);
-										uint64_t n485 = load64(p18 + 24);
-										byte *p486 = loadptr(p18 + 72);
-										uint64_t n487 = (uint64_t)load32(at(p486, n485 << 3) + 4);
-										bool b488 = n485 != n487;
-										uint64_t n489 = load64(p18 + 96);
-										uint64_t n490 = b488 ? (n487 - n489) : 0;
-										uint64_t n491 = 0;
-										bool b492 = b488;
-										for (;;) {
-											if (n491 == n484) {
-												n493 = n484;
-												break;
-											}
-											if (!b492) {
-												n493 = n491;
-												break;
-											}
-											uint64_t n494 = (uint64_t)load32(at(p486, (n489 + n490) << 3) + 4);
-											n490 = usub_sat64(n494, n489);
-											n491 = n491 + 1;
-											b492 = n489 <= n494;
+								store8(p341 + 16383, 0);
+								storeptru(p38, p7);
+								memset(p38 + 8, 0, 16);
+								memcpy(p39, p51 + 8, 32);
+								storeptru(p39 + 32, p227);
+								store64u(p39 + 40, n228);
+								store64u(p39 + 48, n229);
+								memcpy(p39 + 56, p51 + 64, 16);
+								storeptru(p39 + 72, p230);
+								store64u(p39 + 80, n231);
+								store64u(p39 + 88, n232);
+								memcpy(p39 + 96, p51 + 104, 32);
+								memcpy(p39 + 128, p51 + 136, 1056);
+								storeptru(p39 + 1184, p233);
+								store64u(p39 + 1192, n234);
+								store64u(p39 + 1200, n235);
+								store64u(p39 + 1208, n236);
+								storeptru(p39 + 1216, p237);
+								store64u(p39 + 1224, n238);
+								store64u(p39 + 1232, n239);
+								storeptru(p39 + 1240, p7);
+								memset(p39 + 1248, 0, 16);
+								store8(p40, 1);
+								memset(p40 + 1, 0, 7);
+								storeptru(p40 + 8, p7);
+								memset(p40 + 16, 0, 16);
+								storeptru(p40 + 32, p7);
+								memset(p40 + 40, 0, 16);
+								storeptru(p40 + 56, p7);
+								memset(p40 + 64, 0, 16);
+								store64u(p40 + 80, 1);
+								store8(p40 + 88, 1);
+								memset(p40 + 89, 0, 7);
+								uint64_t n343 = 0;
+								for (;;) {
+									if (n343 == UINT64_MAX)
+										goto L32;
+									tp_timer_script_service_tell_state_2(p41, p39, p5, p38);
+									if (load8(p41) != 0)
+										break;
+									tp_JournaledPeerPeer_read(p42, p5, p341);
+									if (load8(p42) != 0)
+										goto L33;
+									uint64_t n344 = load64(p42 + 8);
+									tp_Cutter_take_in(p43, p40, p341, n344, p6);
+									if (load8(p43) != 0)
+										goto L34;
+									uint8_t n345 = load8(p43 + 8);
+									n346 = load64u(p43 + 16);
+									byte *p347 = loadptr(p40 + 8);
+									uint64_t n348 = load64(p40 + 16);
+									if (load64(p38 + 8) != 0)
+										store64(p38 + 8, 0);
+									uint64_t n349 = 0;
+									while (n349 != n348) {
+										uint8_t n350 = tp_timer_script_service_answer_one_2(p39, at(p347, n349 * 48), p38);
+										if ((n350 & 1) != 0) {
+											of_i8_i8 s351 = tp_service_send(p5, loadptr(p38), load64(p38 + 8));
+											if (s351.f0 == 0)
+												goto L35;
+											s352 = s351;
+											goto L36;
 										}
-										uint8_t n495 = tp_text_push_end(p17, n483, n484 - n493);
-										if ((n495 & 1) != 0) {
-											n479 = 0;
-											n480 = 2;
-											n481 = 3;
-											b482 = true;
+										n349 = n349 + 1;
+									}
+									of_i8_i8 s353 = tp_service_send(p5, loadptr(p38), load64(p38 + 8));
+									if (s353.f0 != 0) {
+										s352 = s353;
+										goto L36;
+									}
+									if (n345 == 1)
+										goto L37;
+									if (n344 == 0)
+										goto L38;
+									n343 = n343 + 1;
+								}
+								n354 = load64u(p41 + 16);
+								n355 = load8(p41 + 8);
+								if (load64u(p40 + 24) != 0)
+									rattle_dealloc(loadptru(p40 + 8));
+								if (load64u(p40 + 48) != 0)
+									rattle_dealloc(loadptru(p40 + 32));
+								if (load64u(p40 + 72) != 0)
+									rattle_dealloc(loadptru(p40 + 56));
+								p356 = loadptru(p39 + 72);
+								n357 = load64u(p39 + 88);
+								p358 = loadptru(p39 + 1184);
+								n359 = load64u(p39 + 1200);
+								p360 = loadptru(p39 + 1216);
+								n361 = load64u(p39 + 1232);
+								if (load64u(p39 + 48) != 0)
+									rattle_dealloc(loadptru(p39 + 32));
+								if (n357 != 0)
+									rattle_dealloc(p356);
+								if (n359 != 0)
+									rattle_dealloc(p358);
+								if (n361 != 0)
+									rattle_dealloc(p360);
+								if (load64u(p39 + 1256) != 0)
+									rattle_dealloc(loadptru(p39 + 1240));
+								if (load64u(p38 + 16) != 0)
+									rattle_dealloc(loadptru(p38));
+								rattle_dealloc(p341);
+								n339 = n355;
+								n340 = n354;
+								goto L39;
+L33:
+								{
+									if (load64u(p40 + 24) != 0)
+										rattle_dealloc(loadptru(p40 + 8));
+									if (load64u(p40 + 48) != 0)
+										rattle_dealloc(loadptru(p40 + 32));
+									if (load64u(p40 + 72) != 0)
+										rattle_dealloc(loadptru(p40 + 56));
+									byte *p362 = loadptru(p39 + 72);
+									uint64_t n363 = load64u(p39 + 88);
+									byte *p364 = loadptru(p39 + 1184);
+									uint64_t n365 = load64u(p39 + 1200);
+									byte *p366 = loadptru(p39 + 1216);
+									uint64_t n367 = load64u(p39 + 1232);
+									if (load64u(p39 + 48) != 0)
+										rattle_dealloc(loadptru(p39 + 32));
+									if (n363 != 0)
+										rattle_dealloc(p362);
+									if (n365 != 0)
+										rattle_dealloc(p364);
+									if (n367 != 0)
+										rattle_dealloc(p366);
+									if (load64u(p39 + 1256) != 0)
+										rattle_dealloc(loadptru(p39 + 1240));
+									if (load64u(p38 + 16) != 0)
+										rattle_dealloc(loadptru(p38));
+									rattle_dealloc(p341);
+									n339 = 0;
+									n340 = 0;
+									goto L39;
+								}
+L34:
+								{
+									if (load64u(p40 + 24) != 0)
+										rattle_dealloc(loadptru(p40 + 8));
+									if (load64u(p40 + 48) != 0)
+										rattle_dealloc(loadptru(p40 + 32));
+									if (load64u(p40 + 72) != 0)
+										rattle_dealloc(loadptru(p40 + 56));
+									byte *p368 = loadptru(p39 + 72);
+									uint64_t n369 = load64u(p39 + 88);
+									byte *p370 = loadptru(p39 + 1184);
+									uint64_t n371 = load64u(p39 + 1200);
+									byte *p372 = loadptru(p39 + 1216);
+									uint64_t n373 = load64u(p39 + 1232);
+									if (load64u(p39 + 48) != 0)
+										rattle_dealloc(loadptru(p39 + 32));
+									if (n369 != 0)
+										rattle_dealloc(p368);
+									if (n371 != 0)
+										rattle_dealloc(p370);
+									if (n373 != 0)
+										rattle_dealloc(p372);
+									if (load64u(p39 + 1256) != 0)
+										rattle_dealloc(loadptru(p39 + 1240));
+									if (load64u(p38 + 16) != 0)
+										rattle_dealloc(loadptru(p38));
+									rattle_dealloc(p341);
+									n339 = 2;
+									n340 = 0;
+									goto L39;
+								}
+L36:
+								{
+									if (of_i8_i8_of(frozen8(s352.f0), frozen8(s352.f1)).f1 != 0) {
+										n374 = 3;
+										goto L40;
+									}
+								}
+L35:
+								{
+									n374 = 2;
+								}
+L40:
+								{
+									if (load64u(p40 + 24) != 0)
+										rattle_dealloc(loadptru(p40 + 8));
+									if (load64u(p40 + 48) != 0)
+										rattle_dealloc(loadptru(p40 + 32));
+									if (load64u(p40 + 72) != 0)
+										rattle_dealloc(loadptru(p40 + 56));
+									byte *p375 = loadptru(p39 + 72);
+									uint64_t n376 = load64u(p39 + 88);
+									byte *p377 = loadptru(p39 + 1184);
+									uint64_t n378 = load64u(p39 + 1200);
+									byte *p379 = loadptru(p39 + 1216);
+									uint64_t n380 = load64u(p39 + 1232);
+									if (load64u(p39 + 48) != 0)
+										rattle_dealloc(loadptru(p39 + 32));
+									if (n376 != 0)
+										rattle_dealloc(p375);
+									if (n378 != 0)
+										rattle_dealloc(p377);
+									if (n380 != 0)
+										rattle_dealloc(p379);
+									if (load64u(p39 + 1256) != 0)
+										rattle_dealloc(loadptru(p39 + 1240));
+									if (load64u(p38 + 16) != 0)
+										rattle_dealloc(loadptru(p38));
+									rattle_dealloc(p341);
+									n339 = n374;
+									n340 = 0;
+									goto L39;
+								}
+L38:
+								{
+									uint64_t n381;
+									uint8_t n382, n383;
+									bool b384;
+									memset(p37, 0, 24);
+									tp_Cutter_end(p37, p40, p6);
+									if (load8(p37) == 0) {
+										if (load8(p37 + 8) == 1) {
+											n381 = load64u(p37 + 16);
+											n382 = 1;
+											n383 = 3;
+											b384 = true;
 										} else {
-											of_i8_i8 s496 = tp_service_send(p6, loadptr(p17), load64(p17 + 8));
-											if (s496.f0 == 0) {
-												n479 = 0;
-												n480 = 0;
-												n481 = (uint8_t)(((load8(p19 + 88) & 1) != 0) ? 0 : 3);
-												b482 = false;
+											uint64_t n395;
+											if (load64(p38 + 8) != 0)
+												store64(p38 + 8, 0);
+											uint64_t n385 = load64(p39 + 8);
+											uint64_t n386 = load64(p39 + 56);
+											uint64_t n387 = load64(p39 + 24);
+											byte *p388 = loadptr(p39 + 72);
+											uint64_t n389 = (uint64_t)load32(at(p388, n387 << 3) + 4);
+											bool b390 = n387 != n389;
+											uint64_t n391 = load64(p39 + 96);
+											uint64_t n392 = b390 ? (n389 - n391) : 0;
+											uint64_t n393 = 0;
+											bool b394 = b390;
+											for (;;) {
+												if (n393 == n386) {
+													n395 = n386;
+													break;
+												}
+												if (!b394) {
+													n395 = n393;
+													break;
+												}
+												uint64_t n396 = (uint64_t)load32(at(p388, (n391 + n392) << 3) + 4);
+												n392 = usub_sat64(n396, n391);
+												n393 = n393 + 1;
+												b394 = n391 <= n396;
+											}
+											uint8_t n397 = tp_text_push_end(p38, n385, n386 - n395);
+											if ((n397 & 1) != 0) {
+												n381 = 0;
+												n382 = 2;
+												n383 = 3;
+												b384 = true;
 											} else {
-												n479 = 0;
-												n480 = (uint8_t)((s496.f1 == 0) ? 2 : 3);
-												n481 = 3;
-												b482 = true;
+												of_i8_i8 s398 = tp_service_send(p5, loadptr(p38), load64(p38 + 8));
+												if (s398.f0 == 0) {
+													n381 = 0;
+													n382 = 0;
+													n383 = (uint8_t)(((load8(p40 + 88) & 1) != 0) ? 0 : 3);
+													b384 = false;
+												} else {
+													n381 = 0;
+													n382 = (uint8_t)((s398.f1 == 0) ? 2 : 3);
+													n383 = 3;
+													b384 = true;
+												}
 											}
 										}
+									} else {
+										n381 = 0;
+										n382 = 2;
+										n383 = 3;
+										b384 = true;
 									}
-								} else {
-									n479 = 0;
-									n480 = 2;
-									n481 = 3;
-									b482 = true;
+									if (load64u(p40 + 24) != 0)
+										rattle_dealloc(loadptru(p40 + 8));
+									if (load64u(p40 + 48) != 0)
+										rattle_dealloc(loadptru(p40 + 32));
+									if (load64u(p40 + 72) != 0)
+										rattle_dealloc(loadptru(p40 + 56));
+									byte *p399 = loadptru(p39 + 72);
+									uint64_t n400 = load64u(p39 + 88);
+									byte *p401 = loadptru(p39 + 1184);
+									uint64_t n402 = load64u(p39 + 1200);
+									byte *p403 = loadptru(p39 + 1216);
+									uint64_t n404 = load64u(p39 + 1232);
+									if (load64u(p39 + 48) != 0)
+										rattle_dealloc(loadptru(p39 + 32));
+									if (n400 != 0)
+										rattle_dealloc(p399);
+									if (n402 != 0)
+										rattle_dealloc(p401);
+									if (n404 != 0)
+										rattle_dealloc(p403);
+									if (load64u(p39 + 1256) != 0)
+										rattle_dealloc(loadptru(p39 + 1240));
+									if (load64u(p38 + 16) != 0)
+										rattle_dealloc(loadptru(p38));
+									rattle_dealloc(p341);
+									if (b384) {
+										n321 = 1;
+										n322 = 0;
+										n323 = 2;
+										n324 = n382;
+										n325 = n381;
+										goto L31;
+									}
+									n321 = 0;
+									n322 = n383;
+									n323 = 0;
+									n324 = 0;
+									n325 = 0;
+									goto L31;
 								}
-								if (load64u(p19 + 24) != 0)
-									rattle_dealloc(loadptru(p19 + 8));
-								if (load64u(p19 + 48) != 0)
-									rattle_dealloc(loadptru(p19 + 32));
-								if (load64u(p19 + 72) != 0)
-									rattle_dealloc(loadptru(p19 + 56));
-								byte *p497 = loadptru(p18 + 72);
-								uint64_t n498 = load64u(p18 + 88);
-								byte *p499 = loadptru(p18 + 1440);
-								uint64_t n500 = load64u(p18 + 1456);
-								byte *p501 = loadptru(p18 + 1472);
-								uint64_t n502 = load64u(p18 + 1488);
-								if (load64u(p18 + 48) != 0)
-									rattle_dealloc(loadptru(p18 + 32));
-								if (n498 != 0)
-									rattle_dealloc(p497);
-								if (n500 != 0)
-									rattle_dealloc(p499);
-								if (n502 != 0)
-									rattle_dealloc(p501);
-								if (load64u(p18 + 1512) != 0)
-									rattle_dealloc(loadptru(p18 + 1496));
-								if (load64u(p17 + 16) != 0)
-									rattle_dealloc(loadptru(p17));
-								rattle_dealloc(p432);
-								if (b482) {
-									n503 = 1;
-									n504 = 0;
-									n505 = 2;
-									n506 = n480;
-									n507 = n479;
-									goto L51;
+L37:
+								{
+									if (load64u(p40 + 24) != 0)
+										rattle_dealloc(loadptru(p40 + 8));
+									if (load64u(p40 + 48) != 0)
+										rattle_dealloc(loadptru(p40 + 32));
+									if (load64u(p40 + 72) != 0)
+										rattle_dealloc(loadptru(p40 + 56));
+									byte *p405 = loadptru(p39 + 72);
+									uint64_t n406 = load64u(p39 + 88);
+									byte *p407 = loadptru(p39 + 1184);
+									uint64_t n408 = load64u(p39 + 1200);
+									byte *p409 = loadptru(p39 + 1216);
+									uint64_t n410 = load64u(p39 + 1232);
+									if (load64u(p39 + 48) != 0)
+										rattle_dealloc(loadptru(p39 + 32));
+									if (n406 != 0)
+										rattle_dealloc(p405);
+									if (n408 != 0)
+										rattle_dealloc(p407);
+									if (n410 != 0)
+										rattle_dealloc(p409);
+									if (load64u(p39 + 1256) != 0)
+										rattle_dealloc(loadptru(p39 + 1240));
+									if (load64u(p38 + 16) != 0)
+										rattle_dealloc(loadptru(p38));
+									rattle_dealloc(p341);
+									n339 = 1;
+									n340 = n346;
+									goto L39;
 								}
-								n503 = 0;
-								n504 = n481;
-								n505 = 0;
-								n506 = 0;
-								n507 = 0;
-								goto L51;
+L32:
+								{
+									if (load64u(p40 + 24) != 0)
+										rattle_dealloc(loadptru(p40 + 8));
+									if (load64u(p40 + 48) != 0)
+										rattle_dealloc(loadptru(p40 + 32));
+									if (load64u(p40 + 72) != 0)
+										rattle_dealloc(loadptru(p40 + 56));
+									byte *p411 = loadptru(p39 + 72);
+									uint64_t n412 = load64u(p39 + 88);
+									byte *p413 = loadptru(p39 + 1184);
+									uint64_t n414 = load64u(p39 + 1200);
+									byte *p415 = loadptru(p39 + 1216);
+									uint64_t n416 = load64u(p39 + 1232);
+									if (load64u(p39 + 48) != 0)
+										rattle_dealloc(loadptru(p39 + 32));
+									if (n412 != 0)
+										rattle_dealloc(p411);
+									if (n414 != 0)
+										rattle_dealloc(p413);
+									if (n416 != 0)
+										rattle_dealloc(p415);
+									if (load64u(p39 + 1256) != 0)
+										rattle_dealloc(loadptru(p39 + 1240));
+									if (load64u(p38 + 16) != 0)
+										rattle_dealloc(loadptru(p38));
+									rattle_dealloc(p341);
+									n339 = 4;
+									n340 = 0;
+								}
 							}
-L47:
+L39:
 							{
-								if (load64u(p19 + 24) != 0)
-									rattle_dealloc(loadptru(p19 + 8));
-								if (load64u(p19 + 48) != 0)
-									rattle_dealloc(loadptru(p19 + 32));
-								if (load64u(p19 + 72) != 0)
-									rattle_dealloc(loadptru(p19 + 56));
-								byte *p508 = loadptru(p18 + 72);
-								uint64_t n509 = load64u(p18 + 88);
-								byte *p510 = loadptru(p18 + 1440);
-								uint64_t n511 = load64u(p18 + 1456);
-								byte *p512 = loadptru(p18 + 1472);
-								uint64_t n513 = load64u(p18 + 1488);
-								if (load64u(p18 + 48) != 0)
-									rattle_dealloc(loadptru(p18 + 32));
-								if (n509 != 0)
-									rattle_dealloc(p508);
-								if (n511 != 0)
-									rattle_dealloc(p510);
-								if (n513 != 0)
-									rattle_dealloc(p512);
-								if (load64u(p18 + 1512) != 0)
-									rattle_dealloc(loadptru(p18 + 1496));
-								if (load64u(p17 + 16) != 0)
-									rattle_dealloc(loadptru(p17));
-								rattle_dealloc(p432);
-								n430 = 1;
-								n431 = n437;
-								goto L49;
+								n321 = 1;
+								n322 = 0;
+								n323 = 2;
+								n324 = n339;
+								n325 = n340;
 							}
-L41:
-							{
-								if (load64u(p19 + 24) != 0)
-									rattle_dealloc(loadptru(p19 + 8));
-								if (load64u(p19 + 48) != 0)
-									rattle_dealloc(loadptru(p19 + 32));
-								if (load64u(p19 + 72) != 0)
-									rattle_dealloc(loadptru(p19 + 56));
-								byte *p514 = loadptru(p18 + 72);
-								uint64_t n515 = load64u(p18 + 88);
-								byte *p516 = loadptru(p18 + 1440);
-								uint64_t n517 = load64u(p18 + 1456);
-								byte *p518 = loadptru(p18 + 1472);
-								uint64_t n519 = load64u(p18 + 1488);
-								if (load64u(p18 + 48) != 0)
-									rattle_dealloc(loadptru(p18 + 32));
-								if (n515 != 0)
-									rattle_dealloc(p514);
-								if (n517 != 0)
-									rattle_dealloc(p516);
-								if (n519 != 0)
-									rattle_dealloc(p518);
-								if (load64u(p18 + 1512) != 0)
-									rattle_dealloc(loadptru(p18 + 1496));
-								if (load64u(p17 + 16) != 0)
-									rattle_dealloc(loadptru(p17));
-								rattle_dealloc(p432);
-								n430 = 4;
-								n431 = 0;
-							}
-						}
-L49:
-						{
-							n503 = 1;
-							n504 = 0;
-							n505 = 2;
-							n506 = n430;
-							n507 = n431;
 						}
 					} else {
-						uint8_t n521;
-						uint64_t n522;
-						memset(p10, 0, 24);
-						memset(p11, 0, 1520);
-						memset(p12, 0, 96);
-						memset(p13, 0, 24);
-						memset(p14, 0, 96);
-						memset(p15, 0, 24);
-						of_i64_i64 s520 = rattle_alloc(16384, 1);
-						if ((s520.f0 & 1) == 0) {
-							if (n418 != 0)
-								rattle_dealloc(p416);
-							if (n421 != 0)
-								rattle_dealloc(p419);
-							if (n424 != 0)
-								rattle_dealloc(p422);
-							if (n428 == 0) {
-								n521 = 2;
-								n522 = 0;
-							} else {
-								rattle_dealloc(p426);
-								n521 = 2;
-								n522 = 0;
-							}
-						} else {
-							uint64_t n528, n536, n539, n541, n543;
-							of_i8_i8 s534;
-							uint8_t n537, n556;
-							byte *p538, *p540, *p542;
-							byte *p523 = (byte *)(uintptr_t)s520.f1;
-							uint64_t n524 = 0;
-							while (n524 != 16383) {
-								store8(inside(p523, n524), 0);
-								n524 = n524 + 1;
-							}
-							store8(p523 + 16383, 0);
-							storeptru(p10, p8);
-							memset(p10 + 8, 0, 16);
-							memcpy(p11, p23 + 8, 32);
-							storeptru(p11 + 32, p416);
-							store64u(p11 + 40, n417);
-							store64u(p11 + 48, n418);
-							memcpy(p11 + 56, p23 + 64, 16);
-							storeptru(p11 + 72, p419);
-							store64u(p11 + 80, n420);
-							store64u(p11 + 88, n421);
-							memcpy(p11 + 96, p23 + 104, 288);
-							memcpy(p11 + 384, p23 + 392, 1056);
-							storeptru(p11 + 1440, p422);
-							store64u(p11 + 1448, n423);
-							store64u(p11 + 1456, n424);
-							store64u(p11 + 1464, n425);
-							storeptru(p11 + 1472, p426);
-							store64u(p11 + 1480, n427);
-							store64u(p11 + 1488, n428);
-							storeptru(p11 + 1496, p8);
-							memset(p11 + 1504, 0, 16);
-							store8(p12, 1);
-							memset(p12 + 1, 0, 7);
-							storeptru(p12 + 8, p8);
-							memset(p12 + 16, 0, 16);
-							storeptru(p12 + 32, p8);
-							memset(p12 + 40, 0, 16);
-							storeptru(p12 + 56, p8);
-							memset(p12 + 64, 0, 16);
-							store64u(p12 + 80, 1);
-							store8(p12 + 88, 1);
-							memset(p12 + 89, 0, 7);
-							uint64_t n525 = 0;
-							for (;;) {
-								if (n525 == UINT64_MAX)
-									goto L52;
-								tp_service_tell_state(p13, p11, p6, p10);
-								if (load8(p13) != 0)
-									break;
-								tp_JournaledPeerPeer_read(p14, p6, p523);
-								if (load8(p14) != 0)
-									goto L53;
-								uint64_t n526 = load64(p14 + 8);
-								tp_Cutter_take_in(p15, p12, p523, n526, p7);
-								if (load8(p15) != 0)
-									goto L54;
-								uint8_t n527 = load8(p15 + 8);
-								n528 = load64u(p15 + 16);
-								byte *p529 = loadptr(p12 + 8);
-								uint64_t n530 = load64(p12 + 16);
-								if (load64(p10 + 8) != 0)
-									store64(p10 + 8, 0);
-								uint64_t n531 = 0;
-								while (n531 != n530) {
-									uint8_t n532 = tp_service_answer_one(p11, at(p529, n531 * 48), p10);
-									if ((n532 & 1) != 0) {
-										of_i8_i8 s533 = tp_service_send(p6, loadptr(p10), load64(p10 + 8));
-										if (s533.f0 == 0)
-											goto L55;
-										s534 = s533;
-										goto L56;
-									}
-									n531 = n531 + 1;
-								}
-								of_i8_i8 s535 = tp_service_send(p6, loadptr(p10), load64(p10 + 8));
-								if (s535.f0 != 0) {
-									s534 = s535;
-									goto L56;
-								}
-								if (n527 == 1)
-									goto L57;
-								if (n526 == 0)
-									goto L58;
-								n525 = n525 + 1;
-							}
-							n536 = load64u(p13 + 16);
-							n537 = load8(p13 + 8);
-							if (load64u(p12 + 24) != 0)
-								rattle_dealloc(loadptru(p12 + 8));
-							if (load64u(p12 + 48) != 0)
-								rattle_dealloc(loadptru(p12 + 32));
-							if (load64u(p12 + 72) != 0)
-								rattle_dealloc(loadptru(p12 + 56));
-							p538 = loadptru(p11 + 72);
-							n539 = load64u(p11 + 88);
-							p540 = loadptru(p11 + 1440);
-							n541 = load64u(p11 + 1456);
-							p542 = loadptru(p11 + 1472);
-							n543 = load64u(p11 + 1488);
-							if (load64u(p11 + 48) != 0)
-								rattle_dealloc(loadptru(p11 + 32));
-							if (n539 != 0)
-								rattle_dealloc(p538);
-							if (n541 != 0)
-								rattle_dealloc(p540);
-							if (n543 != 0)
-								rattle_dealloc(p542);
-							if (load64u(p11 + 1512) != 0)
-								rattle_dealloc(loadptru(p11 + 1496));
-							if (load64u(p10 + 16) != 0)
-								rattle_dealloc(loadptru(p10));
-							rattle_dealloc(p523);
-							n521 = n537;
-							n522 = n536;
-							goto L59;
-L53:
-							{
-								if (load64u(p12 + 24) != 0)
-									rattle_dealloc(loadptru(p12 + 8));
-								if (load64u(p12 + 48) != 0)
-									rattle_dealloc(loadptru(p12 + 32));
-								if (load64u(p12 + 72) != 0)
-									rattle_dealloc(loadptru(p12 + 56));
-								byte *p544 = loadptru(p11 + 72);
-								uint64_t n545 = load64u(p11 + 88);
-								byte *p546 = loadptru(p11 + 1440);
-								uint64_t n547 = load64u(p11 + 1456);
-								byte *p548 = loadptru(p11 + 1472);
-								uint64_t n549 = load64u(p11 + 1488);
-								if (load64u(p11 + 48) != 0)
-									rattle_dealloc(loadptru(p11 + 32));
-								if (n545 != 0)
-									rattle_dealloc(p544);
-								if (n547 != 0)
-									rattle_dealloc(p546);
-								if (n549 != 0)
-									rattle_dealloc(p548);
-								if (load64u(p11 + 1512) != 0)
-									rattle_dealloc(loadptru(p11 + 1496));
-								if (load64u(p10 + 16) != 0)
-									rattle_dealloc(loadptru(p10));
-								rattle_dealloc(p523);
-								n521 = 0;
-								n522 = 0;
-								goto L59;
-							}
-L54:
-							{
-								if (load64u(p12 + 24) != 0)
-									rattle_dealloc(loadptru(p12 + 8));
-								if (load64u(p12 + 48) != 0)
-									rattle_dealloc(loadptru(p12 + 32));
-								if (load64u(p12 + 72) != 0)
-									rattle_dealloc(loadptru(p12 + 56));
-								byte *p550 = loadptru(p11 + 72);
-								uint64_t n551 = load64u(p11 + 88);
-								byte *p552 = loadptru(p11 + 1440);
-								uint64_t n553 = load64u(p11 + 1456);
-								byte *p554 = loadptru(p11 + 1472);
-								uint64_t n555 = load64u(p11 + 1488);
-								if (load64u(p11 + 48) != 0)
-									rattle_dealloc(loadptru(p11 + 32));
-								if (n551 != 0)
-									rattle_dealloc(p550);
-								if (n553 != 0)
-									rattle_dealloc(p552);
-								if (n555 != 0)
-									rattle_dealloc(p554);
-								if (load64u(p11 + 1512) != 0)
-									rattle_dealloc(loadptru(p11 + 1496));
-								if (load64u(p10 + 16) != 0)
-									rattle_dealloc(loadptru(p10));
-								rattle_dealloc(p523);
-								n521 = 2;
-								n522 = 0;
-								goto L59;
-							}
-L56:
-							{
-								if (of_i8_i8_of(frozen8(s534.f0), frozen8(s534.f1)).f1 != 0) {
-									n556 = 3;
-									goto L60;
-								}
-							}
-L55:
-							{
-								n556 = 2;
-							}
-L60:
-							{
-								if (load64u(p12 + 24) != 0)
-									rattle_dealloc(loadptru(p12 + 8));
-								if (load64u(p12 + 48) != 0)
-									rattle_dealloc(loadptru(p12 + 32));
-								if (load64u(p12 + 72) != 0)
-									rattle_dealloc(loadptru(p12 + 56));
-								byte *p557 = loadptru(p11 + 72);
-								uint64_t n558 = load64u(p11 + 88);
-								byte *p559 = loadptru(p11 + 1440);
-								uint64_t n560 = load64u(p11 + 1456);
-								byte *p561 = loadptru(p11 + 1472);
-								uint64_t n562 = load64u(p11 + 1488);
-								if (load64u(p11 + 48) != 0)
-									rattle_dealloc(loadptru(p11 + 32));
-								if (n558 != 0)
-									rattle_dealloc(p557);
-								if (n560 != 0)
-									rattle_dealloc(p559);
-								if (n562 != 0)
-									rattle_dealloc(p561);
-								if (load64u(p11 + 1512) != 0)
-									rattle_dealloc(loadptru(p11 + 1496));
-								if (load64u(p10 + 16) != 0)
-									rattle_dealloc(loadptru(p10));
-								rattle_dealloc(p523);
-								n521 = n556;
-								n522 = 0;
-								goto L59;
-							}
-L58:
-							{
-								uint64_t n563;
-								uint8_t n564, n565;
-								bool b566;
-								memset(p9, 0, 24);
-								tp_Cutter_end(p9, p12, p7);
-								if (load8(p9) == 0) {
-									if (load8(p9 + 8) == 1) {
-										n563 = load64u(p9 + 16);
-										n564 = 1;
-										n565 = 3;
-										b566 = true;
-									} else {
-										uint64_t n577;
-										if (load64(p10 + 8) != 0)
-											store64(p10 + 8, 0);
-										uint64_t n567 = load64(p11 + 8);
-										uint64_t n568 = load64(p11 + 56);
-										uint64_t n569 = load64(p11 + 24);
-										byte *p570 = loadptr(p11 + 72);
-										uint64_t n571 = (uint64_t)load32(at(p570, n569 << 3) + 4);
-										bool b572 = n569 != n571;
-										uint64_t n573 = load64(p11 + 96);
-										uint64_t n574 = b572 ? (n571 - n573) : 0;
-										uint64_t n575 = 0;
-										bool b576 = b572;
-										for (;;) {
-											if (n575 == n568) {
-												n577 = n568;
-												break;
-											}
-											if (!b576) {
-												n577 = n575;
-												break;
-											}
-											uint64_t n578 = (uint64_t)load32(at(p570, (n573 + n574) << 3) + 4);
-											n574 = usub_sat64(n578, n573);
-											n575 = n575 + 1;
-											b576 = n573 <= n578;
-										}
-										uint8_t n579 = tp_text_push_end(p10, n567, n568 - n577);
-										if ((n579 & 1) != 0) {
-											n563 = 0;
-											n564 = 2;
-											n565 = 3;
-											b566 = true;
-										} else {
-											of_i8_i8 s580 = tp_service_send(p6, loadptr(p10), load64(p10 + 8));
-											if (s580.f0 == 0) {
-												n563 = 0;
-												n564 = 0;
-												n565 = (uint8_t)(((load8(p12 + 88) & 1) != 0) ? 0 : 3);
-												b566 = false;
-											} else {
-												n563 = 0;
-												n564 = (uint8_t)((s580.f1 == 0) ? 2 : 3);
-												n565 = 3;
-												b566 = true;
-											}
-										}
-									}
-								} else {
-									n563 = 0;
-									n564 = 2;
-									n565 = 3;
-									b566 = true;
-								}
-								if (load64u(p12 + 24) != 0)
-									rattle_dealloc(loadptru(p12 + 8));
-								if (load64u(p12 + 48) != 0)
-									rattle_dealloc(loadptru(p12 + 32));
-								if (load64u(p12 + 72) != 0)
-									rattle_dealloc(loadptru(p12 + 56));
-								byte *p581 = loadptru(p11 + 72);
-								uint64_t n582 = load64u(p11 + 88);
-								byte *p583 = loadptru(p11 + 1440);
-								uint64_t n584 = load64u(p11 + 1456);
-								byte *p585 = loadptru(p11 + 1472);
-								uint64_t n586 = load64u(p11 + 1488);
-								if (load64u(p11 + 48) != 0)
-									rattle_dealloc(loadptru(p11 + 32));
-								if (n582 != 0)
-									rattle_dealloc(p581);
-								if (n584 != 0)
-									rattle_dealloc(p583);
-								if (n586 != 0)
-									rattle_dealloc(p585);
-								if (load64u(p11 + 1512) != 0)
-									rattle_dealloc(loadptru(p11 + 1496));
-								if (load64u(p10 + 16) != 0)
-									rattle_dealloc(loadptru(p10));
-								rattle_dealloc(p523);
-								if (b566) {
-									n503 = 1;
-									n504 = 0;
-									n505 = 2;
-									n506 = n564;
-									n507 = n563;
-									goto L51;
-								}
-								n503 = 0;
-								n504 = n565;
-								n505 = 0;
-								n506 = 0;
-								n507 = 0;
-								goto L51;
-							}
-L57:
-							{
-								if (load64u(p12 + 24) != 0)
-									rattle_dealloc(loadptru(p12 + 8));
-								if (load64u(p12 + 48) != 0)
-									rattle_dealloc(loadptru(p12 + 32));
-								if (load64u(p12 + 72) != 0)
-									rattle_dealloc(loadptru(p12 + 56));
-								byte *p587 = loadptru(p11 + 72);
-								uint64_t n588 = load64u(p11 + 88);
-								byte *p589 = loadptru(p11 + 1440);
-								uint64_t n590 = load64u(p11 + 1456);
-								byte *p591 = loadptru(p11 + 1472);
-								uint64_t n592 = load64u(p11 + 1488);
-								if (load64u(p11 + 48) != 0)
-									rattle_dealloc(loadptru(p11 + 32));
-								if (n588 != 0)
-									rattle_dealloc(p587);
-								if (n590 != 0)
-									rattle_dealloc(p589);
-								if (n592 != 0)
-									rattle_dealloc(p591);
-								if (load64u(p11 + 1512) != 0)
-									rattle_dealloc(loadptru(p11 + 1496));
-								if (load64u(p10 + 16) != 0)
-									rattle_dealloc(loadptru(p10));
-								rattle_dealloc(p523);
-								n521 = 1;
-								n522 = n528;
-								goto L59;
-							}
-L52:
-							{
-								if (load64u(p12 + 24) != 0)
-									rattle_dealloc(loadptru(p12 + 8));
-								if (load64u(p12 + 48) != 0)
-									rattle_dealloc(loadptru(p12 + 32));
-								if (load64u(p12 + 72) != 0)
-									rattle_dealloc(loadptru(p12 + 56));
-								byte *p593 = loadptru(p11 + 72);
-								uint64_t n594 = load64u(p11 + 88);
-								byte *p595 = loadptru(p11 + 1440);
-								uint64_t n596 = load64u(p11 + 1456);
-								byte *p597 = loadptru(p11 + 1472);
-								uint64_t n598 = load64u(p11 + 1488);
-								if (load64u(p11 + 48) != 0)
-									rattle_dealloc(loadptru(p11 + 32));
-								if (n594 != 0)
-									rattle_dealloc(p593);
-								if (n596 != 0)
-									rattle_dealloc(p595);
-								if (n598 != 0)
-									rattle_dealloc(p597);
-								if (load64u(p11 + 1512) != 0)
-									rattle_dealloc(loadptru(p11 + 1496));
-								if (load64u(p10 + 16) != 0)
-									rattle_dealloc(loadptru(p10));
-								rattle_dealloc(p523);
-								n521 = 4;
-								n522 = 0;
-							}
-						}
-L59:
-						{
-							n503 = 1;
-							n504 = 0;
-							n505 = 2;
-							n506 = n521;
-							n507 = n522;
-						}
+						n321 = 1;
+						n322 = 0;
+						n323 = 2;
+						n324 = 2;
+						n325 = 0;
+					}
+L31:
+					{
+						store8(p81, n321);
+						store8(p81 + 1, n322);
+						store64u(p81 + 8, n323);
+						store8(p81 + 16, n324);
+						store8(p81 + 17, 0);
+						store64u(p81 + 24, n325);
 					}
 				} else {
-					n503 = 1;
-					n504 = 0;
-					n505 = 2;
-					n506 = 2;
-					n507 = 0;
+					store8(p81, 1);
+					store8(p81 + 1, 0);
+					store64u(p81 + 8, 2);
+					store8(p81 + 16, 2);
+					store8(p81 + 17, 0);
+					store64u(p81 + 24, 0);
 				}
-L51:
-				{
-					store8(p78, n503);
-					store8(p78 + 1, n504);
-					store64u(p78 + 8, n505);
-					store8(p78 + 16, n506);
-					store8(p78 + 17, 0);
-					store64u(p78 + 24, n507);
-					goto L61;
-				}
+				break;
 			}
-			memset(p29 + 6, 0, 384);
-		}
-		store8(p78, 1);
-		store8(p78 + 1, 0);
-		store64u(p78 + 8, 2);
-		store8(p78 + 16, 2);
-		store8(p78 + 17, 0);
-		store64u(p78 + 24, 0);
+			case 2: {
+				uint8_t n417, n418;
+				uint64_t n419;
+				if (n89 > UINT64_C(1152921504606846975)) {
+					memset(p35, 0, 127);
+					memset(p36, 0, 96);
+					n417 = 1;
+					n418 = 1;
+					n419 = 0;
+				} else {
+					memset(p33, 0, 128);
+					memset(p34, 0, 7);
+					tp_Buckets_new(p33, 640, UINT64_C(1152921504606846975), n89);
+					if (load8(p33) == 0) {
+						memcpy(p34 + 7, p33 + 8, 120);
+						memcpy(p35, p34, 127);
+						memset(p36, 0, 96);
+						n417 = 0;
+						n418 = 0;
+						n419 = n89;
+					} else {
+						memset(p35, 0, 127);
+						memset(p36, 0, 96);
+						n417 = 1;
+						n418 = 2;
+						n419 = 0;
+					}
+				}
+				memcpy(p76, p35, 127);
+				memcpy(p77, p36, 96);
+				store8(p82, 2);
+				memcpy(p82 + 1, p73, 7);
+				store64u(p82 + 8, n69);
+				store64u(p82 + 16, n70);
+				store64u(p82 + 24, n71);
+				store64u(p82 + 32, n72);
+				store8(p83, n417);
+				store8(p83 + 1, n418);
+				store8(p83 + 8, 0);
+				memcpy(p83 + 9, p76, 127);
+				memcpy(p83 + 136, p77, 96);
+				store64u(p83 + 232, n419);
+				tp_resuming_over_wheel(p81, p74, p3, p83, b4, p5, p6);
+				break;
+			}
+			case 3: {
+				uint8_t n420, n421, n422;
+				uint64_t n423;
+				if (n89 > 8639999) {
+					memset(p31, 0, 127);
+					memset(p32, 0, 96);
+					n420 = 1;
+					n421 = 1;
+					n422 = 0;
+					n423 = 0;
+				} else {
+					memset(p29, 0, 128);
+					memset(p30, 0, 7);
+					tp_Buckets_new(p29, 244, 8639999, n89);
+					if (load8(p29) == 0) {
+						memcpy(p30 + 7, p29 + 8, 120);
+						memcpy(p31, p30, 127);
+						memset(p32, 0, 96);
+						n420 = 0;
+						n421 = 0;
+						n422 = 1;
+						n423 = n89;
+					} else {
+						memset(p31, 0, 127);
+						memset(p32, 0, 96);
+						n420 = 1;
+						n421 = 2;
+						n422 = 0;
+						n423 = 0;
+					}
+				}
+				memcpy(p78, p31, 127);
+				memcpy(p79, p32, 96);
+				store8(p84, 3);
+				memcpy(p84 + 1, p73, 7);
+				store64u(p84 + 8, n69);
+				store64u(p84 + 16, n70);
+				store64u(p84 + 24, n71);
+				store64u(p84 + 32, n72);
+				store8(p85, n420);
+				store8(p85 + 1, n421);
+				store8(p85 + 8, n422);
+				memcpy(p85 + 9, p78, 127);
+				memcpy(p85 + 136, p79, 96);
+				store64u(p85 + 232, n423);
+				tp_resuming_over_wheel(p81, p74, p3, p85, b4, p5, p6);
+				break;
+			}
+			case 4: {
+				memset(p28, 0, 390);
+				if (n89 > UINT64_C(1152921504606846975)) {
+					memset(p28 + 6, 0, 384);
+				} else {
+					memset(p24, 0, 128);
+					tp_Buckets_new(p24, 1280, UINT64_C(1152921504606846975), n89);
+					if (load8(p24) == 0) {
+						uint8_t n511, n512, n514;
+						uint64_t n513, n515;
+						memcpy(p25, p24 + 8, 120);
+						memset(p25 + 120, 0, 160);
+						memcpy(p26 + 7, p25, 280);
+						memcpy(p27, p26 + 7, 280);
+						memset(p27 + 280, 0, 80);
+						memcpy(p28 + 6, p27, 360);
+						memset(p28 + 366, 0, 24);
+						memcpy(p80 + 6, p28 + 6, 384);
+						memset(p22, 0, 1504);
+						memcpy(p23, p80 + 6, 384);
+						tp_Player_restore(p22, p74, p23, p3);
+						if (load8(p22) == 0) {
+							byte *p424 = loadptru(p22 + 40);
+							uint64_t n425 = load64u(p22 + 48);
+							uint64_t n426 = load64u(p22 + 56);
+							byte *p427 = loadptru(p22 + 80);
+							uint64_t n428 = load64u(p22 + 88);
+							uint64_t n429 = load64u(p22 + 96);
+							byte *p430 = loadptru(p22 + 1448);
+							uint64_t n431 = load64u(p22 + 1456);
+							uint64_t n432 = load64u(p22 + 1464);
+							uint64_t n433 = load64u(p22 + 1472);
+							byte *p434 = loadptru(p22 + 1480);
+							uint64_t n435 = load64u(p22 + 1488);
+							uint64_t n436 = load64u(p22 + 1496);
+							if (b4) {
+								uint8_t n438;
+								uint64_t n439;
+								memset(p16, 0, 24);
+								memset(p17, 0, 1520);
+								memset(p18, 0, 96);
+								memset(p19, 0, 24);
+								memset(p20, 0, 96);
+								memset(p21, 0, 24);
+								of_i64_i64 s437 = rattle_alloc(16384, 1);
+								if ((s437.f0 & 1) == 0) {
+									if (n426 != 0)
+										rattle_dealloc(p424);
+									if (n429 != 0)
+										rattle_dealloc(p427);
+									if (n432 != 0)
+										rattle_dealloc(p430);
+									if (n436 == 0) {
+										n438 = 2;
+										n439 = 0;
+									} else {
+										rattle_dealloc(p434);
+										n438 = 2;
+										n439 = 0;
+									}
+								} else {
+									uint64_t n445, n452, n457, n460, n462, n464;
+									of_i8_i8 s451;
+									uint8_t n458, n480;
+									byte *p459, *p461, *p463;
+									byte *p440 = (byte *)(uintptr_t)s437.f1;
+									uint64_t n441 = 0;
+									while (n441 != 16383) {
+										store8(inside(p440, n441), 0);
+										n441 = n441 + 1;
+									}
+									store8(p440 + 16383, 0);
+									storeptru(p16, p7);
+									memset(p16 + 8, 0, 16);
+									memcpy(p17, p22 + 8, 32);
+									storeptru(p17 + 32, p424);
+									store64u(p17 + 40, n425);
+									store64u(p17 + 48, n426);
+									memcpy(p17 + 56, p22 + 64, 16);
+									storeptru(p17 + 72, p427);
+									store64u(p17 + 80, n428);
+									store64u(p17 + 88, n429);
+									memcpy(p17 + 96, p22 + 104, 288);
+									memcpy(p17 + 384, p22 + 392, 1056);
+									storeptru(p17 + 1440, p430);
+									store64u(p17 + 1448, n431);
+									store64u(p17 + 1456, n432);
+									store64u(p17 + 1464, n433);
+									storeptru(p17 + 1472, p434);
+									store64u(p17 + 1480, n435);
+									store64u(p17 + 1488, n436);
+									storeptru(p17 + 1496, p7);
+									memset(p17 + 1504, 0, 16);
+									store8(p18, 1);
+									memset(p18 + 1, 0, 7);
+									storeptru(p18 + 8, p7);
+									memset(p18 + 16, 0, 16);
+									storeptru(p18 + 32, p7);
+									memset(p18 + 40, 0, 16);
+									storeptru(p18 + 56, p7);
+									memset(p18 + 64, 0, 16);
+									store64u(p18 + 80, 1);
+									store8(p18 + 88, 1);
+									memset(p18 + 89, 0, 7);
+									uint64_t n442 = 0;
+									for (;;) {
+										uint64_t n453;
+										if (n442 == UINT64_MAX)
+											goto L41;
+										tp_service_tell_state(p19, p17, p5, p16);
+										if (load8(p19) != 0)
+											break;
+										tp_JournaledPeerPeer_read(p20, p5, p440);
+										if (load8(p20) != 0)
+											goto L42;
+										uint64_t n443 = load64(p20 + 8);
+										tp_Cutter_take_in(p21, p18, p440, n443, p6);
+										if (load8(p21) != 0)
+											goto L43;
+										uint8_t n444 = load8(p21 + 8);
+										n445 = load64u(p21 + 16);
+										byte *p446 = loadptr(p18 + 8);
+										uint64_t n447 = load64(p18 + 16);
+										if (load64(p16 + 8) != 0)
+											store64(p16 + 8, 0);
+										uint64_t n448 = 0;
+										while (n448 != n447) {
+											uint8_t n449 = tp_service_answer_one(p17, at(p446, n448 * 48), p16);
+											if ((n449 & 1) != 0) {
+												of_i8_i8 s450 = tp_service_send(p5, loadptr(p16), load64(p16 + 8));
+												if (s450.f0 == 0)
+													goto L44;
+												s451 = s450;
+												goto L45;
+											}
+											n448 = n448 + 1;
+										}
+										n452 = load64(p16 + 8);
+										if (n447 == 0) {
+											n453 = n452;
+										} else {
+											of_i8_i64 s454 = tp_SmoothWheelWheel_quiet_until(p17);
+											uint8_t n455 = tp_render_push_wakeup(p16, s454.f0, s454.f1);
+											if ((n455 & 1) != 0)
+												goto L46;
+											n453 = load64(p16 + 8);
+										}
+										of_i8_i8 s456 = tp_service_send(p5, loadptr(p16), n453);
+										if (s456.f0 != 0) {
+											s451 = s456;
+											goto L45;
+										}
+										if (n444 == 1)
+											goto L47;
+										if (n443 == 0)
+											goto L48;
+										n442 = n442 + 1;
+									}
+									n457 = load64u(p19 + 16);
+									n458 = load8(p19 + 8);
+									if (load64u(p18 + 24) != 0)
+										rattle_dealloc(loadptru(p18 + 8));
+									if (load64u(p18 + 48) != 0)
+										rattle_dealloc(loadptru(p18 + 32));
+									if (load64u(p18 + 72) != 0)
+										rattle_dealloc(loadptru(p18 + 56));
+									p459 = loadptru(p17 + 72);
+									n460 = load64u(p17 + 88);
+									p461 = loadptru(p17 + 1440);
+									n462 = load64u(p17 + 1456);
+									p463 = loadptru(p17 + 1472);
+									n464 = load64u(p17 + 1488);
+									if (load64u(p17 + 48) != 0)
+										rattle_dealloc(loadptru(p17 + 32));
+									if (n460 != 0)
+										rattle_dealloc(p459);
+									if (n462 != 0)
+										rattle_dealloc(p461);
+									if (n464 != 0)
+										rattle_dealloc(p463);
+									if (load64u(p17 + 1512) != 0)
+										rattle_dealloc(loadptru(p17 + 1496));
+									if (load64u(p16 + 16) != 0)
+										rattle_dealloc(loadptru(p16));
+									rattle_dealloc(p440);
+									n438 = n458;
+									n439 = n457;
+									goto L49;
+L42:
+									{
+										if (load64u(p18 + 24) != 0)
+											rattle_dealloc(loadptru(p18 + 8));
+										if (load64u(p18 + 48) != 0)
+											rattle_dealloc(loadptru(p18 + 32));
+										if (load64u(p18 + 72) != 0)
+											rattle_dealloc(loadptru(p18 + 56));
+										byte *p465 = loadptru(p17 + 72);
+										uint64_t n466 = load64u(p17 + 88);
+										byte *p467 = loadptru(p17 + 1440);
+										uint64_t n468 = load64u(p17 + 1456);
+										byte *p469 = loadptru(p17 + 1472);
+										uint64_t n470 = load64u(p17 + 1488);
+										if (load64u(p17 + 48) != 0)
+											rattle_dealloc(loadptru(p17 + 32));
+										if (n466 != 0)
+											rattle_dealloc(p465);
+										if (n468 != 0)
+											rattle_dealloc(p467);
+										if (n470 != 0)
+											rattle_dealloc(p469);
+										if (load64u(p17 + 1512) != 0)
+											rattle_dealloc(loadptru(p17 + 1496));
+										if (load64u(p16 + 16) != 0)
+											rattle_dealloc(loadptru(p16));
+										rattle_dealloc(p440);
+										n438 = 0;
+										n439 = 0;
+										goto L49;
+									}
+L43:
+									{
+										if (load64u(p18 + 24) != 0)
+											rattle_dealloc(loadptru(p18 + 8));
+										if (load64u(p18 + 48) != 0)
+											rattle_dealloc(loadptru(p18 + 32));
+										if (load64u(p18 + 72) != 0)
+											rattle_dealloc(loadptru(p18 + 56));
+										byte *p471 = loadptru(p17 + 72);
+										uint64_t n472 = load64u(p17 + 88);
+										byte *p473 = loadptru(p17 + 1440);
+										uint64_t n474 = load64u(p17 + 1456);
+										byte *p475 = loadptru(p17 + 1472);
+										uint64_t n476 = load64u(p17 + 1488);
+										if (load64u(p17 + 48) != 0)
+											rattle_dealloc(loadptru(p17 + 32));
+										if (n472 != 0)
+											rattle_dealloc(p471);
+										if (n474 != 0)
+											rattle_dealloc(p473);
+										if (n476 != 0)
+											rattle_dealloc(p475);
+										if (load64u(p17 + 1512) != 0)
+											rattle_dealloc(loadptru(p17 + 1496));
+										if (load64u(p16 + 16) != 0)
+											rattle_dealloc(loadptru(p16));
+										rattle_dealloc(p440);
+										n438 = 2;
+										n439 = 0;
+										goto L49;
+									}
+L46:
+									{
+										uint64_t n478;
+										uint64_t n477 = load64(p16 + 8);
+										if (n477 > n452) {
+											store64(p16 + 8, n452);
+											n478 = n452;
+										} else {
+											n478 = n477;
+										}
+										of_i8_i8 s479 = tp_service_send(p5, loadptr(p16), n478);
+										if (s479.f0 == 0)
+											goto L44;
+										s451 = s479;
+									}
+L45:
+									{
+										if (of_i8_i8_of(frozen8(s451.f0), frozen8(s451.f1)).f1 != 0) {
+											n480 = 3;
+											goto L50;
+										}
+									}
+L44:
+									{
+										n480 = 2;
+									}
+L50:
+									{
+										if (load64u(p18 + 24) != 0)
+											rattle_dealloc(loadptru(p18 + 8));
+										if (load64u(p18 + 48) != 0)
+											rattle_dealloc(loadptru(p18 + 32));
+										if (load64u(p18 + 72) != 0)
+											rattle_dealloc(loadptru(p18 + 56));
+										byte *p481 = loadptru(p17 + 72);
+										uint64_t n482 = load64u(p17 + 88);
+										byte *p483 = loadptru(p17 + 1440);
+										uint64_t n484 = load64u(p17 + 1456);
+										byte *p485 = loadptru(p17 + 1472);
+										uint64_t n486 = load64u(p17 + 1488);
+										if (load64u(p17 + 48) != 0)
+											rattle_dealloc(loadptru(p17 + 32));
+										if (n482 != 0)
+											rattle_dealloc(p481);
+										if (n484 != 0)
+											rattle_dealloc(p483);
+										if (n486 != 0)
+											rattle_dealloc(p485);
+										if (load64u(p17 + 1512) != 0)
+											rattle_dealloc(loadptru(p17 + 1496));
+										if (load64u(p16 + 16) != 0)
+											rattle_dealloc(loadptru(p16));
+										rattle_dealloc(p440);
+										n438 = n480;
+										n439 = 0;
+										goto L49;
+									}
+L48:
+									{
+										uint64_t n487;
+										uint8_t n488, n489;
+										bool b490;
+										memset(p15, 0, 24);
+										tp_Cutter_end(p15, p18, p6);
+										if (load8(p15) == 0) {
+											if (load8(p15 + 8) == 1) {
+												n487 = load64u(p15 + 16);
+												n488 = 1;
+												n489 = 3;
+												b490 = true;
+											} else {
+												uint64_t n501;
+												if (load64(p16 + 8) != 0)
+													store64(p16 + 8, 0);
+												uint64_t n491 = load64(p17 + 8);
+												uint64_t n492 = load64(p17 + 56);
+												uint64_t n493 = load64(p17 + 24);
+												byte *p494 = loadptr(p17 + 72);
+												uint64_t n495 = (uint64_t)load32(at(p494, n493 << 3) + 4);
+												bool b496 = n493 != n495;
+												uint64_t n497 = load64(p17 + 96);
+												uint64_t n498 = b496 ? (n495 - n497) : 0;
+												uint64_t n499 = 0;
+												bool b500 = b496;
+												for (;;) {
+													if (n499 == n492) {
+														n501 = n492;
+														break;
+													}
+													if (!b500) {
+														n501 = n499;
+														break;
+													}
+													uint64_t n502 = (uint64_t)load32(at(p494, (n497 + n498) << 3) + 4);
+													n498 = usub_sat64(n502, n497);
+													n499 = n499 + 1;
+													b500 = n497 <= n502;
+												}
+												uint8_t n503 = tp_text_push_end(p16, n491, n492 - n501);
+												if ((n503 & 1) != 0) {
+													n487 = 0;
+													n488 = 2;
+													n489 = 3;
+													b490 = true;
+												} else {
+													of_i8_i8 s504 = tp_service_send(p5, loadptr(p16), load64(p16 + 8));
+													if (s504.f0 == 0) {
+														n487 = 0;
+														n488 = 0;
+														n489 = (uint8_t)(((load8(p18 + 88) & 1) != 0) ? 0 : 3);
+														b490 = false;
+													} else {
+														n487 = 0;
+														n488 = (uint8_t)((s504.f1 == 0) ? 2 : 3);
+														n489 = 3;
+														b490 = true;
+													}
+												}
+											}
+										} else {
+											n487 = 0;
+											n488 = 2;
+											n489 = 3;
+											b490 = true;
+										}
+										if (load64u(p18 + 24) != 0)
+											rattle_dealloc(loadptru(p18 + 8));
+										if (load64u(p18 + 48) != 0)
+											rattle_dealloc(loadptru(p18 + 32));
+										if (load64u(p18 + 72) != 0)
+											rattle_dealloc(loadptru(p18 + 56));
+										byte *p505 = loadptru(p17 + 72);
+										uint64_t n506 = load64u(p17 + 88);
+										byte *p507 = loadptru(p17 + 1440);
+										uint64_t n508 = load64u(p17 + 1456);
+										byte *p509 = loadptru(p17 + 1472);
+										uint64_t n510 = load64u(p17 + 1488);
+										if (load64u(p17 + 48) != 0)
+											rattle_dealloc(loadptru(p17 + 32));
+										if (n506 != 0)
+											rattle_dealloc(p505);
+										if (n508 != 0)
+											rattle_dealloc(p507);
+										if (n510 != 0)
+											rattle_dealloc(p509);
+										if (load64u(p17 + 1512) != 0)
+											rattle_dealloc(loadptru(p17 + 1496));
+										if (load64u(p16 + 16) != 0)
+											rattle_dealloc(loadptru(p16));
+										rattle_dealloc(p440);
+										if (b490) {
+											n511 = 1;
+											n512 = 0;
+											n513 = 2;
+											n514 = n488;
+											n515 = n487;
+											goto L51;
+										}
+										n511 = 0;
+										n512 = n489;
+										n513 = 0;
+										n514 = 0;
+										n515 = 0;
+										goto L51;
+									}
+L47:
+									{
+										if (load64u(p18 + 24) != 0)
+											rattle_dealloc(loadptru(p18 + 8));
+										if (load64u(p18 + 48) != 0)
+											rattle_dealloc(loadptru(p18 + 32));
+										if (load64u(p18 + 72) != 0)
+											rattle_dealloc(loadptru(p18 + 56));
+										byte *p516 = loadptru(p17 + 72);
+										uint64_t n517 = load64u(p17 + 88);
+										byte *p518 = loadptru(p17 + 1440);
+										uint64_t n519 = load64u(p17 + 1456);
+										byte *p520 = loadptru(p17 + 1472);
+										uint64_t n521 = load64u(p17 + 1488);
+										if (load64u(p17 + 48) != 0)
+											rattle_dealloc(loadptru(p17 + 32));
+										if (n517 != 0)
+											rattle_dealloc(p516);
+										if (n519 != 0)
+											rattle_dealloc(p518);
+										if (n521 != 0)
+											rattle_dealloc(p520);
+										if (load64u(p17 + 1512) != 0)
+											rattle_dealloc(loadptru(p17 + 1496));
+										if (load64u(p16 + 16) != 0)
+											rattle_dealloc(loadptru(p16));
+										rattle_dealloc(p440);
+										n438 = 1;
+										n439 = n445;
+										goto L49;
+									}
+L41:
+									{
+										if (load64u(p18 + 24) != 0)
+											rattle_dealloc(loadptru(p18 + 8));
+										if (load64u(p18 + 48) != 0)
+											rattle_dealloc(loadptru(p18 + 32));
+										if (load64u(p18 + 72) != 0)
+											rattle_dealloc(loadptru(p18 + 56));
+										byte *p522 = loadptru(p17 + 72);
+										uint64_t n523 = load64u(p17 + 88);
+										byte *p524 = loadptru(p17 + 1440);
+										uint64_t n525 = load64u(p17 + 1456);
+										byte *p526 = loadptru(p17 + 1472);
+										uint64_t n527 = load64u(p17 + 1488);
+										if (load64u(p17 + 48) != 0)
+											rattle_dealloc(loadptru(p17 + 32));
+										if (n523 != 0)
+											rattle_dealloc(p522);
+										if (n525 != 0)
+											rattle_dealloc(p524);
+										if (n527 != 0)
+											rattle_dealloc(p526);
+										if (load64u(p17 + 1512) != 0)
+											rattle_dealloc(loadptru(p17 + 1496));
+										if (load64u(p16 + 16) != 0)
+											rattle_dealloc(loadptru(p16));
+										rattle_dealloc(p440);
+										n438 = 4;
+										n439 = 0;
+									}
+								}
+L49:
+								{
+									n511 = 1;
+									n512 = 0;
+									n513 = 2;
+									n514 = n438;
+									n515 = n439;
+								}
+							} else {
+								uint8_t n529;
+								uint64_t n530;
+								memset(p9, 0, 24);
+								memset(p10, 0, 1520);
+								memset(p11, 0, 96);
+								memset(p12, 0, 24);
+								memset(p13, 0, 96);
+								memset(p14, 0, 24);
+								of_i64_i64 s528 = rattle_alloc(16384, 1);
+								if ((s528.f0 & 1) == 0) {
+									if (n426 != 0)
+										rattle_dealloc(p424);
+									if (n429 != 0)
+										rattle_dealloc(p427);
+									if (n432 != 0)
+										rattle_dealloc(p430);
+									if (n436 == 0) {
+										n529 = 2;
+										n530 = 0;
+									} else {
+										rattle_dealloc(p434);
+										n529 = 2;
+										n530 = 0;
+									}
+								} else {
+									uint64_t n536, n544, n547, n549, n551;
+									of_i8_i8 s542;
+									uint8_t n545, n564;
+									byte *p546, *p548, *p550;
+									byte *p531 = (byte *)(uintptr_t)s528.f1;
+									uint64_t n532 = 0;
+									while (n532 != 16383) {
+										store8(inside(p531, n532), 0);
+										n532 = n532 + 1;
+									}
+									store8(p531 + 16383, 0);
+									storeptru(p9, p7);
+									memset(p9 + 8, 0, 16);
+									memcpy(p10, p22 + 8, 32);
+									storeptru(p10 + 32, p424);
+									store64u(p10 + 40, n425);
+									store64u(p10 + 48, n426);
+									memcpy(p10 + 56, p22 + 64, 16);
+									storeptru(p10 + 72, p427);
+									store64u(p10 + 80, n428);
+									store64u(p10 + 88, n429);
+									memcpy(p10 + 96, p22 + 104, 288);
+									memcpy(p10 + 384, p22 + 392, 1056);
+									storeptru(p10 + 1440, p430);
+									store64u(p10 + 1448, n431);
+									store64u(p10 + 1456, n432);
+									store64u(p10 + 1464, n433);
+									storeptru(p10 + 1472, p434);
+									store64u(p10 + 1480, n435);
+									store64u(p10 + 1488, n436);
+									storeptru(p10 + 1496, p7);
+									memset(p10 + 1504, 0, 16);
+									store8(p11, 1);
+									memset(p11 + 1, 0, 7);
+									storeptru(p11 + 8, p7);
+									memset(p11 + 16, 0, 16);
+									storeptru(p11 + 32, p7);
+									memset(p11 + 40, 0, 16);
+									storeptru(p11 + 56, p7);
+									memset(p11 + 64, 0, 16);
+									store64u(p11 + 80, 1);
+									store8(p11 + 88, 1);
+									memset(p11 + 89, 0, 7);
+									uint64_t n533 = 0;
+									for (;;) {
+										if (n533 == UINT64_MAX)
+											goto L52;
+										tp_service_tell_state(p12, p10, p5, p9);
+										if (load8(p12) != 0)
+											break;
+										tp_JournaledPeerPeer_read(p13, p5, p531);
+										if (load8(p13) != 0)
+											goto L53;
+										uint64_t n534 = load64(p13 + 8);
+										tp_Cutter_take_in(p14, p11, p531, n534, p6);
+										if (load8(p14) != 0)
+											goto L54;
+										uint8_t n535 = load8(p14 + 8);
+										n536 = load64u(p14 + 16);
+										byte *p537 = loadptr(p11 + 8);
+										uint64_t n538 = load64(p11 + 16);
+										if (load64(p9 + 8) != 0)
+											store64(p9 + 8, 0);
+										uint64_t n539 = 0;
+										while (n539 != n538) {
+											uint8_t n540 = tp_service_answer_one(p10, at(p537, n539 * 48), p9);
+											if ((n540 & 1) != 0) {
+												of_i8_i8 s541 = tp_service_send(p5, loadptr(p9), load64(p9 + 8));
+												if (s541.f0 == 0)
+													goto L55;
+												s542 = s541;
+												goto L56;
+											}
+											n539 = n539 + 1;
+										}
+										of_i8_i8 s543 = tp_service_send(p5, loadptr(p9), load64(p9 + 8));
+										if (s543.f0 != 0) {
+											s542 = s543;
+											goto L56;
+										}
+										if (n535 == 1)
+											goto L57;
+										if (n534 == 0)
+											goto L58;
+										n533 = n533 + 1;
+									}
+									n544 = load64u(p12 + 16);
+									n545 = load8(p12 + 8);
+									if (load64u(p11 + 24) != 0)
+										rattle_dealloc(loadptru(p11 + 8));
+									if (load64u(p11 + 48) != 0)
+										rattle_dealloc(loadptru(p11 + 32));
+									if (load64u(p11 + 72) != 0)
+										rattle_dealloc(loadptru(p11 + 56));
+									p546 = loadptru(p10 + 72);
+									n547 = load64u(p10 + 88);
+									p548 = loadptru(p10 + 1440);
+									n549 = load64u(p10 + 1456);
+									p550 = loadptru(p10 + 1472);
+									n551 = load64u(p10 + 1488);
+									if (load64u(p10 + 48) != 0)
+										rattle_dealloc(loadptru(p10 + 32));
+									if (n547 != 0)
+										rattle_dealloc(p546);
+									if (n549 != 0)
+										rattle_dealloc(p548);
+									if (n551 != 0)
+										rattle_dealloc(p550);
+									if (load64u(p10 + 1512) != 0)
+										rattle_dealloc(loadptru(p10 + 1496));
+									if (load64u(p9 + 16) != 0)
+										rattle_dealloc(loadptru(p9));
+									rattle_dealloc(p531);
+									n529 = n545;
+									n530 = n544;
+									goto L59;
+L53:
+									{
+										if (load64u(p11 + 24) != 0)
+											rattle_dealloc(loadptru(p11 + 8));
+										if (load64u(p11 + 48) != 0)
+											rattle_dealloc(loadptru(p11 + 32));
+										if (load64u(p11 + 72) != 0)
+											rattle_dealloc(loadptru(p11 + 56));
+										byte *p552 = loadptru(p10 + 72);
+										uint64_t n553 = load64u(p10 + 88);
+										byte *p554 = loadptru(p10 + 1440);
+										uint64_t n555 = load64u(p10 + 1456);
+										byte *p556 = loadptru(p10 + 1472);
+										uint64_t n557 = load64u(p10 + 1488);
+										if (load64u(p10 + 48) != 0)
+											rattle_dealloc(loadptru(p10 + 32));
+										if (n553 != 0)
+											rattle_dealloc(p552);
+										if (n555 != 0)
+											rattle_dealloc(p554);
+										if (n557 != 0)
+											rattle_dealloc(p556);
+										if (load64u(p10 + 1512) != 0)
+											rattle_dealloc(loadptru(p10 + 1496));
+										if (load64u(p9 + 16) != 0)
+											rattle_dealloc(loadptru(p9));
+										rattle_dealloc(p531);
+										n529 = 0;
+										n530 = 0;
+										goto L59;
+									}
+L54:
+									{
+										if (load64u(p11 + 24) != 0)
+											rattle_dealloc(loadptru(p11 + 8));
+										if (load64u(p11 + 48) != 0)
+											rattle_dealloc(loadptru(p11 + 32));
+										if (load64u(p11 + 72) != 0)
+											rattle_dealloc(loadptru(p11 + 56));
+										byte *p558 = loadptru(p10 + 72);
+										uint64_t n559 = load64u(p10 + 88);
+										byte *p560 = loadptru(p10 + 1440);
+										uint64_t n561 = load64u(p10 + 1456);
+										byte *p562 = loadptru(p10 + 1472);
+										uint64_t n563 = load64u(p10 + 1488);
+										if (load64u(p10 + 48) != 0)
+											rattle_dealloc(loadptru(p10 + 32));
+										if (n559 != 0)
+											rattle_dealloc(p558);
+										if (n561 != 0)
+											rattle_dealloc(p560);
+										if (n563 != 0)
+											rattle_dealloc(p562);
+										if (load64u(p10 + 1512) != 0)
+											rattle_dealloc(loadptru(p10 + 1496));
+										if (load64u(p9 + 16) != 0)
+											rattle_dealloc(loadptru(p9));
+										rattle_dealloc(p531);
+										n529 = 2;
+										n530 = 0;
+										goto L59;
+									}
+L56:
+									{
+										if (of_i8_i8_of(frozen8(s542.f0), frozen8(s542.f1)).f1 != 0) {
+											n564 = 3;
+											goto L60;
+										}
+									}
+L55:
+									{
+										n564 = 2;
+									}
+L60:
+									{
+										if (load64u(p11 + 24) != 0)
+											rattle_dealloc(loadptru(p11 + 8));
+										if (load64u(p11 + 48) != 0)
+											rattle_dealloc(loadptru(p11 + 32));
+										if (load64u(p11 + 72) != 0)
+											rattle_dealloc(loadptru(p11 + 56));
+										byte *p565 = loadptru(p10 + 72);
+										uint64_t n566 = load64u(p10 + 88);
+										byte *p567 = loadptru(p10 + 1440);
+										uint64_t n568 = load64u(p10 + 1456);
+										byte *p569 = loadptru(p10 + 1472);
+										uint64_t n570 = load64u(p10 + 1488);
+										if (load64u(p10 + 48) != 0)
+											rattle_dealloc(loadptru(p10 + 32));
+										if (n566 != 0)
+											rattle_dealloc(p565);
+										if (n568 != 0)
+											rattle_dealloc(p567);
+										if (n570 != 0)
+											rattle_dealloc(p569);
+										if (load64u(p10 + 1512) != 0)
+											rattle_dealloc(loadptru(p10 + 1496));
+										if (load64u(p9 + 16) != 0)
+											rattle_dealloc(loadptru(p9));
+										rattle_dealloc(p531);
+										n529 = n564;
+										n530 = 0;
+										goto L59;
+									}
+L58:
+									{
+										uint64_t n571;
+										uint8_t n572, n573;
+										bool b574;
+										memset(p8, 0, 24);
+										tp_Cutter_end(p8, p11, p6);
+										if (load8(p8) == 0) {
+											if (load8(p8 + 8) == 1) {
+												n571 = load64u(p8 + 16);
+												n572 = 1;
+												n573 = 3;
+												b574 = true;
+											} else {
+												uint64_t n585;
+												if (load64(p9 + 8) != 0)
+													store64(p9 + 8, 0);
+												uint64_t n575 = load64(p10 + 8);
+												uint64_t n576 = load64(p10 + 56);
+												uint64_t n577 = load64(p10 + 24);
+												byte *p578 = loadptr(p10 + 72);
+												uint64_t n579 = (uint64_t)load32(at(p578, n577 << 3) + 4);
+												bool b580 = n577 != n579;
+												uint64_t n581 = load64(p10 + 96);
+												uint64_t n582 = b580 ? (n579 - n581) : 0;
+												uint64_t n583 = 0;
+												bool b584 = b580;
+												for (;;) {
+													if (n583 == n576) {
+														n585 = n576;
+														break;
+													}
+													if (!b584) {
+														n585 = n583;
+														break;
+													}
+													uint64_t n586 = (uint64_t)load32(at(p578, (n581 + n582) << 3) + 4);
+													n582 = usub_sat64(n586, n581);
+													n583 = n583 + 1;
+													b584 = n581 <= n586;
+												}
+												uint8_t n587 = tp_text_push_end(p9, n575, n576 - n585);
+												if ((n587 & 1) != 0) {
+													n571 = 0;
+													n572 = 2;
+													n573 = 3;
+													b574 = true;
+												} else {
+													of_i8_i8 s588 = tp_service_send(p5, loadptr(p9), load64(p9 + 8));
+													if (s588.f0 == 0) {
+														n571 = 0;
+														n572 = 0;
+														n573 = (uint8_t)(((load8(p11 + 88) & 1) != 0) ? 0 : 3);
+														b574 = false;
+													} else {
+														n571 = 0;
+														n572 = (uint8_t)((s588.f1 == 0) ? 2 : 3);
+														n573 = 3;
+														b574 = true;
+													}
+												}
+											}
+										} else {
+											n571 = 0;
+											n572 = 2;
+											n573 = 3;
+											b574 = true;
+										}
+										if (load64u(p11 + 24) != 0)
+											rattle_dealloc(loadptru(p11 + 8));
+										if (load64u(p11 + 48) != 0)
+											rattle_dealloc(loadptru(p11 + 32));
+										if (load64u(p11 + 72) != 0)
+											rattle_dealloc(loadptru(p11 + 56));
+										byte *p589 = loadptru(p10 + 72);
+										uint64_t n590 = load64u(p10 + 88);
+										byte *p591 = loadptru(p10 + 1440);
+										uint64_t n592 = load64u(p10 + 1456);
+										byte *p593 = loadptru(p10 + 1472);
+										uint64_t n594 = load64u(p10 + 1488);
+										if (load64u(p10 + 48) != 0)
+											rattle_dealloc(loadptru(p10 + 32));
+										if (n590 != 0)
+											rattle_dealloc(p589);
+										if (n592 != 0)
+											rattle_dealloc(p591);
+										if (n594 != 0)
+											rattle_dealloc(p593);
+										if (load64u(p10 + 1512) != 0)
+											rattle_dealloc(loadptru(p10 + 1496));
+										if (load64u(p9 + 16) != 0)
+											rattle_dealloc(loadptru(p9));
+										rattle_dealloc(p531);
+										if (b574) {
+											n511 = 1;
+											n512 = 0;
+											n513 = 2;
+											n514 = n572;
+											n515 = n571;
+											goto L51;
+										}
+										n511 = 0;
+										n512 = n573;
+										n513 = 0;
+										n514 = 0;
+										n515 = 0;
+										goto L51;
+									}
+L57:
+									{
+										if (load64u(p11 + 24) != 0)
+											rattle_dealloc(loadptru(p11 + 8));
+										if (load64u(p11 + 48) != 0)
+											rattle_dealloc(loadptru(p11 + 32));
+										if (load64u(p11 + 72) != 0)
+											rattle_dealloc(loadptru(p11 + 56));
+										byte *p595 = loadptru(p10 + 72);
+										uint64_t n596 = load64u(p10 + 88);
+										byte *p597 = loadptru(p10 + 1440);
+										uint64_t n598 = load64u(p10 + 1456);
+										byte *p599 = loadptru(p10 + 1472);
+										uint64_t n600 = load64u(p10 + 1488);
+										if (load64u(p10 + 48) != 0)
+											rattle_dealloc(loadptru(p10 + 32));
+										if (n596 != 0)
+											rattle_dealloc(p595);
+										if (n598 != 0)
+											rattle_dealloc(p597);
+										if (n600 != 0)
+											rattle_dealloc(p599);
+										if (load64u(p10 + 1512) != 0)
+											rattle_dealloc(loadptru(p10 + 1496));
+										if (load64u(p9 + 16) != 0)
+											rattle_dealloc(loadptru(p9));
+										rattle_dealloc(p531);
+										n529 = 1;
+										n530 = n536;
+										goto L59;
+									}
+L52:
+									{
+										if (load64u(p11 + 24) != 0)
+											rattle_dealloc(loadptru(p11 + 8));
+										if (load64u(p11 + 48) != 0)
+											rattle_dealloc(loadptru(p11 + 32));
+										if (load64u(p11 + 72) != 0)
+											rattle_dealloc(loadptru(p11 + 56));
+										byte *p601 = loadptru(p10 + 72);
+										uint64_t n602 = load64u(p10 + 88);
+										byte *p603 = loadptru(p10 + 1440);
+										uint64_t n604 = load64u(p10 + 1456);
+										byte *p605 = loadptru(p10 + 1472);
+										uint64_t n606 = load64u(p10 + 1488);
+										if (load64u(p10 + 48) != 0)
+											rattle_dealloc(loadptru(p10 + 32));
+										if (n602 != 0)
+											rattle_dealloc(p601);
+										if (n604 != 0)
+											rattle_dealloc(p603);
+										if (n606 != 0)
+											rattle_dealloc(p605);
+										if (load64u(p10 + 1512) != 0)
+											rattle_dealloc(loadptru(p10 + 1496));
+										if (load64u(p9 + 16) != 0)
+											rattle_dealloc(loadptru(p9));
+										rattle_dealloc(p531);
+										n529 = 4;
+										n530 = 0;
+									}
+								}
+L59:
+								{
+									n511 = 1;
+									n512 = 0;
+									n513 = 2;
+									n514 = n529;
+									n515 = n530;
+								}
+							}
+						} else {
+							n511 = 1;
+							n512 = 0;
+							n513 = 2;
+							n514 = 2;
+							n515 = 0;
+						}
+L51:
+						{
+							store8(p81, n511);
+							store8(p81 + 1, n512);
+							store64u(p81 + 8, n513);
+							store8(p81 + 16, n514);
+							store8(p81 + 17, 0);
+							store64u(p81 + 24, n515);
+							goto L61;
+						}
+					}
+					memset(p28 + 6, 0, 384);
+				}
+				store8(p81, 1);
+				store8(p81 + 1, 0);
+				store64u(p81 + 8, 2);
+				store8(p81 + 16, 2);
+				store8(p81 + 17, 0);
+				store64u(p81 + 24, 0);
 L61: ;
-		break;
+				break;
+			}
+			default: {
+				UNREACHABLE();
+			}
+			}
+			uint8_t n607 = load8(p81 + 1);
+			uint64_t n608 = (uint64_t)load8(p81 + 8);
+			uint8_t n609 = load8(p81 + 16);
+			uint8_t n610 = load8(p81 + 17);
+			uint64_t n611 = load64u(p81 + 24);
+			store8(p1, load8(p81));
+			store8(p1 + 1, n607);
+			store64u(p1 + 8, n608);
+			store8(p1 + 16, n609);
+			store8(p1 + 17, n610);
+			store64u(p1 + 24, n611);
+			return;
+		}
+		n86 = n88;
+		n87 = 2;
 	}
-	default: {
-		UNREACHABLE();
-	}
-	}
-	uint8_t n599 = load8(p78 + 1);
-	uint64_t n600 = (uint64_t)load8(p78 + 8);
-	uint8_t n601 = load8(p78 + 16);
-	uint8_t n602 = load8(p78 + 17);
-	uint64_t n603 = load64(p78 + 24);
-	store8(p1, load8(p78));
-	store8(p1 + 1, n599);
-	store64u(p1 + 8, n600);
-	store8(p1 + 16, n601);
-	store8(p1 + 17, n602);
-	store64u(p1 + 24, n603);
+	store8(p1, 1);
+	store8(p1 + 1, 0);
+	store64u(p1 + 8, 0);
+	store8(p1 + 16, (uint8_t)n87);
+	store8(p1 + 17, (uint8_t)(n87 >> 8));
+	store64u(p1 + 24, n86);
 	return;
 }
 
@@ -85016,469 +85081,461 @@ OWN void tp_kept_stream_run_over(byte *p1, byte *p2, byte *p3, uint64_t n4, byte
 	ALIGN(8) byte p26[32];
 	ALIGN(8) byte p27[24];
 	ALIGN(8) byte p28[16];
-	ALIGN(8) byte p29[40];
+	ALIGN(8) byte p29[16];
 	ALIGN(8) byte p30[32];
-	ALIGN(8) byte p31[40];
-	ALIGN(8) byte p32[16];
-	ALIGN(8) byte p33[32];
-	ALIGN(8) byte p34[24];
-	ALIGN(8) byte p35[24];
-	ALIGN(8) byte p36[56];
-	ALIGN(8) byte p37[112];
+	ALIGN(8) byte p31[24];
+	ALIGN(8) byte p32[24];
+	ALIGN(8) byte p33[56];
+	ALIGN(8) byte p34[112];
+	ALIGN(8) byte p35[56];
+	ALIGN(8) byte p36[120];
+	ALIGN(8) byte p37[24];
 	ALIGN(8) byte p38[56];
 	ALIGN(8) byte p39[120];
 	ALIGN(8) byte p40[24];
 	ALIGN(8) byte p41[56];
-	ALIGN(8) byte p42[120];
-	ALIGN(8) byte p43[24];
-	ALIGN(8) byte p44[56];
-	ALIGN(8) byte p45[32];
-	ALIGN(1) byte p46[41];
+	ALIGN(8) byte p42[32];
+	ALIGN(1) byte p43[41];
+	ALIGN(8) byte p44[96];
+	ALIGN(8) byte p45[16];
+	ALIGN(8) byte p46[24];
 	ALIGN(8) byte p47[96];
-	ALIGN(8) byte p48[16];
-	ALIGN(8) byte p49[24];
-	ALIGN(8) byte p50[96];
-	ALIGN(8) byte p51[24];
-	ALIGN(8) byte p52[56];
-	ALIGN(1) byte p53[7];
-	ALIGN(4) byte p54[16];
-	ALIGN(8) byte p55[112];
-	ALIGN(8) byte p56[368];
-	ALIGN(4) byte p57[16];
-	ALIGN(8) byte p58[56];
-	ALIGN(8) byte p59[16];
+	ALIGN(8) byte p48[24];
+	ALIGN(8) byte p49[56];
+	ALIGN(8) byte p50[40];
+	ALIGN(4) byte p51[16];
+	ALIGN(8) byte p52[112];
+	ALIGN(8) byte p53[368];
+	ALIGN(8) byte p54[32];
+	ALIGN(8) byte p55[56];
+	ALIGN(8) byte p56[16];
+	ALIGN(8) byte p57[16];
+	ALIGN(1) byte p58[41];
+	ALIGN(8) byte p59[96];
 	ALIGN(8) byte p60[16];
-	ALIGN(1) byte p61[41];
-	ALIGN(8) byte p62[96];
-	ALIGN(8) byte p63[16];
-	ALIGN(8) byte p64[24];
-	ALIGN(8) byte p65[88];
-	ALIGN(8) byte p66[176];
-	ALIGN(8) byte p67[176];
-	ALIGN(8) byte p68[24];
+	ALIGN(8) byte p61[24];
+	ALIGN(8) byte p62[88];
+	ALIGN(8) byte p63[176];
+	ALIGN(8) byte p64[176];
+	ALIGN(8) byte p65[24];
+	ALIGN(8) byte p66[88];
+	ALIGN(1) byte p67[4096];
+	ALIGN(1) byte p68[4096];
 	ALIGN(8) byte p69[88];
 	ALIGN(1) byte p70[4096];
-	ALIGN(1) byte p71[4096];
-	ALIGN(8) byte p72[88];
-	ALIGN(1) byte p73[4096];
-	ALIGN(8) byte p74[24];
+	ALIGN(8) byte p71[24];
+	ALIGN(8) byte p72[96];
+	ALIGN(8) byte p73[32];
+	ALIGN(8) byte p74[176];
 	ALIGN(8) byte p75[96];
-	ALIGN(8) byte p76[32];
-	ALIGN(8) byte p77[176];
-	ALIGN(8) byte p78[96];
-	ALIGN(4) byte p79[4];
-	ALIGN(8) byte p80[56];
-	ALIGN(8) byte p81[24];
-	ALIGN(4) byte p82[12];
-	ALIGN(8) byte p83[104];
-	ALIGN(8) byte p84[96];
-	ALIGN(8) byte p85[96];
-	ALIGN(1) byte p86[19];
-	ALIGN(1) byte p94[7];
-	ALIGN(4) byte p103[16];
-	ALIGN(4) byte p104[16];
-	ALIGN(8) byte p105[16];
-	uint64_t n133, n750, n753;
-	byte *p134;
-	uint8_t n87 = load8(p2);
-	uint8_t n88 = load8(p2 + 8);
-	uint8_t n89 = load8(p2 + 10);
-	uint8_t n90 = load8(p2 + 200);
-	uint64_t n91 = load64u(p2 + 208);
-	uint8_t n92 = load8(p2 + 216);
-	uint64_t n93 = load64u(p2 + 224);
-	uint8_t n95 = load8(p7);
-	memcpy(p94, p7 + 1, 7);
-	uint64_t n96 = load64u(p7 + 8);
-	uint64_t n97 = load64u(p7 + 16);
-	uint64_t n98 = load64u(p7 + 24);
-	uint64_t n99 = load64u(p7 + 32);
-	uint8_t n100 = load8(p8);
-	byte *p101 = loadptru(p8 + 8);
-	uint64_t n102 = load64u(p8 + 16);
-	memcpy(p103, p9, 16);
-	memset(p86, 0, 19);
-	memset(p104, 0, 16);
-	memset(p105, 0, 16);
-	memset(p80, 0, 56);
-	memset(p81, 0, 24);
-	memset(p83, 0, 104);
-	memset(p84, 0, 96);
-	memset(p85, 0, 96);
-	store64u(p82, UINT64_C(4294967553));
-	store32u(p82 + 8, 438);
-	memset(p78, 0, 96);
-	tp_LibcRuntimeFiles_open_file(p78, p82, p3, n4);
-	uint32_t n106 = load32(p78 + 4);
-	if (load8(p78) == 0) {
-		store32u(p79, n106);
-		memset(p77, 0, 176);
-		tp_stat_stat_at(p77, n106, (byte *)tp_static_2, 0, 4096);
-		uint64_t n107 = load64(p77 + 8);
-		if (load8(p77) == 0) {
-			uint8_t n109;
-			uint64_t n120;
-			if ((n107 & 61440) != 32768) {
-				(void)os_close(n106);
-				n133 = 18;
-				p134 = (byte *)tp_static_256;
+	ALIGN(4) byte p76[4];
+	ALIGN(8) byte p77[56];
+	ALIGN(8) byte p78[24];
+	ALIGN(4) byte p79[12];
+	ALIGN(8) byte p80[104];
+	ALIGN(8) byte p81[96];
+	ALIGN(8) byte p82[96];
+	ALIGN(1) byte p83[19];
+	ALIGN(8) byte p91[40];
+	ALIGN(4) byte p95[16];
+	ALIGN(4) byte p96[16];
+	ALIGN(8) byte p97[16];
+	uint64_t n125, n740, n743;
+	byte *p126;
+	uint8_t n84 = load8(p2);
+	uint8_t n85 = load8(p2 + 8);
+	uint8_t n86 = load8(p2 + 10);
+	uint8_t n87 = load8(p2 + 200);
+	uint64_t n88 = load64u(p2 + 208);
+	uint8_t n89 = load8(p2 + 216);
+	uint64_t n90 = load64u(p2 + 224);
+	memcpy(p91, p7, 40);
+	uint8_t n92 = load8(p8);
+	byte *p93 = loadptru(p8 + 8);
+	uint64_t n94 = load64u(p8 + 16);
+	memcpy(p95, p9, 16);
+	memset(p83, 0, 19);
+	memset(p96, 0, 16);
+	memset(p97, 0, 16);
+	memset(p77, 0, 56);
+	memset(p78, 0, 24);
+	memset(p80, 0, 104);
+	memset(p81, 0, 96);
+	memset(p82, 0, 96);
+	store64u(p79, UINT64_C(4294967553));
+	store32u(p79 + 8, 438);
+	memset(p75, 0, 96);
+	tp_LibcRuntimeFiles_open_file(p75, p79, p3, n4);
+	uint32_t n98 = load32(p75 + 4);
+	if (load8(p75) == 0) {
+		store32u(p76, n98);
+		memset(p74, 0, 176);
+		tp_stat_stat_at(p74, n98, (byte *)tp_static_2, 0, 4096);
+		uint64_t n99 = load64(p74 + 8);
+		if (load8(p74) == 0) {
+			uint8_t n101;
+			uint64_t n112;
+			if ((n99 & 61440) != 32768) {
+				(void)os_close(n98);
+				n125 = 18;
+				p126 = (byte *)tp_static_256;
 				goto L1;
 			}
-			tp_File_try_lock(p83, n106);
-			if (load8(p83) != 0) {
-				if (load8(p83 + 8) == 1) {
-					(void)os_close(n106);
-					n133 = 25;
-					p134 = (byte *)tp_static_255;
+			tp_File_try_lock(p80, n98);
+			if (load8(p80) != 0) {
+				if (load8(p80 + 8) == 1) {
+					(void)os_close(n98);
+					n125 = 25;
+					p126 = (byte *)tp_static_255;
 					goto L1;
 				}
-				uint64_t n752 = load64u(p83 + 16);
-				(void)os_close(n106);
-				n753 = n752;
+				uint64_t n742 = load64u(p80 + 16);
+				(void)os_close(n98);
+				n743 = n742;
 				goto L2;
 			}
-			memset(p74, 0, 24);
-			memset(p75, 0, 96);
-			memset(p76, 0, 32);
-			memset(p73, 0, 4096);
-			uint64_t n108 = 0;
+			memset(p71, 0, 24);
+			memset(p72, 0, 96);
+			memset(p73, 0, 32);
+			memset(p70, 0, 4096);
+			uint64_t n100 = 0;
 			for (;;) {
-				if (n108 == n4)
+				if (n100 == n4)
 					goto L3;
-				if (load8(inside(p3, n108)) == 0)
+				if (load8(inside(p3, n100)) == 0)
 					break;
-				n108 = n108 + 1;
+				n100 = n100 + 1;
 			}
-			if (n108 < n4) {
-				tp_Error_from_bytes(p72, 2, 20, (byte *)tp_static_243, 42, 42);
-				n109 = (uint8_t)((uint64_t)(uintptr_t)loadptr(p72) >> 8);
+			if (n100 < n4) {
+				tp_Error_from_bytes(p69, 2, 20, (byte *)tp_static_243, 42, 42);
+				n101 = (uint8_t)((uint64_t)(uintptr_t)loadptr(p69) >> 8);
 				goto L4;
 			}
 L3:
 			{
-				uint64_t n110;
+				uint64_t n102;
 				if (n4 > 4095) {
 					rattle_set_errno(36);
 					goto L5;
 				}
-				n110 = 0;
+				n102 = 0;
 				for (;;) {
-					if (n110 == n4)
+					if (n102 == n4)
 						goto L6;
-					if (load8(inside(p3, n110)) == 0)
+					if (load8(inside(p3, n102)) == 0)
 						break;
-					n110 = n110 + 1;
+					n102 = n102 + 1;
 				}
-				if (n110 < n4) {
+				if (n102 < n4) {
 					rattle_set_errno(22);
 					goto L5;
 				}
 L6:
 				{
-					uint64_t n114;
-					byte *p118;
-					memset(p70, 0, 4095);
-					uint64_t n111 = 0;
-					while (n111 != n4) {
-						store8(inside(p70, n111), load8(inside(p3, n111)));
-						n111 = n111 + 1;
+					uint64_t n106;
+					byte *p110;
+					memset(p67, 0, 4095);
+					uint64_t n103 = 0;
+					while (n103 != n4) {
+						store8(inside(p67, n103), load8(inside(p3, n103)));
+						n103 = n103 + 1;
 					}
+					store8(p67 + 4095, 0);
+					memcpy(p68, p67, 4096);
 					store8(p70 + 4095, 0);
-					memcpy(p71, p70, 4096);
-					store8(p73 + 4095, 0);
-					byte *p112 = os_realpath(p71, p73);
-					if (p112 == NULL)
+					byte *p104 = os_realpath(p68, p70);
+					if (p104 == NULL)
 						goto L7;
-					uint64_t n113 = 0;
+					uint64_t n105 = 0;
 					for (;;) {
-						if (n113 == 4096) {
-							n114 = 4096;
+						if (n105 == 4096) {
+							n106 = 4096;
 							break;
 						}
-						if (load8(inside(p73, n113)) == 0) {
-							n114 = n113;
+						if (load8(inside(p70, n105)) == 0) {
+							n106 = n105;
 							break;
 						}
-						n113 = n113 + 1;
+						n105 = n105 + 1;
 					}
-					memset(p68, 0, 24);
-					tp_utf8_from_utf8(p68, p73, n114);
-					if (load8(p68) != 0) {
-						n120 = 8449;
+					memset(p65, 0, 24);
+					tp_utf8_from_utf8(p65, p70, n106);
+					if (load8(p65) != 0) {
+						n112 = 8449;
 						goto L8;
 					}
-					byte *p115 = loadptru(p68 + 8);
-					uint64_t n116 = load64u(p68 + 16);
-					bool b117 = n116 == 0;
-					if (!b117) {
-						if ((int64_t)n116 >= (int64_t)0) {
-							of_i64_i64 s119 = rattle_alloc(n116, 1);
-							if ((s119.f0 & 1) != 0) {
-								p118 = (byte *)(uintptr_t)s119.f1;
+					byte *p107 = loadptru(p65 + 8);
+					uint64_t n108 = load64u(p65 + 16);
+					bool b109 = n108 == 0;
+					if (!b109) {
+						if ((int64_t)n108 >= (int64_t)0) {
+							of_i64_i64 s111 = rattle_alloc(n108, 1);
+							if ((s111.f0 & 1) != 0) {
+								p110 = (byte *)(uintptr_t)s111.f1;
 								goto L9;
 							}
 						}
-						n120 = 9729;
+						n112 = 9729;
 						goto L8;
 					}
-					p118 = p11;
+					p110 = p11;
 L9:
 					{
-						uint64_t n121;
-						if (((uint64_t)(uintptr_t)p118 - (uint64_t)(uintptr_t)p115) >= n116) {
-							memmove(p118, p115, (size_t)n116);
+						uint64_t n113;
+						if (((uint64_t)(uintptr_t)p110 - (uint64_t)(uintptr_t)p107) >= n108) {
+							memmove(p110, p107, (size_t)n108);
 							goto L10;
 						}
-						n121 = 0;
-						while (n121 != n116) {
-							store8(inside(p118, n121), load8(inside(p115, n121)));
-							n121 = n121 + 1;
+						n113 = 0;
+						while (n113 != n108) {
+							store8(inside(p110, n113), load8(inside(p107, n113)));
+							n113 = n113 + 1;
 						}
 L10:
 						{
-							uint64_t n122 = (uint64_t)(uintptr_t)p118;
-							memset(p67, 0, 176);
-							tp_stat_stat_at(p67, n106, (byte *)tp_static_2, 0, 4096);
-							uint64_t n123 = load64(p67 + 8);
-							uint64_t n124 = load64(p67 + 120);
-							uint64_t n125 = load64(p67 + 128);
-							if (load8(p67) == 0) {
-								uint64_t n128;
-								uint32_t n126 = (uint32_t)n123;
-								memset(p66, 0, 176);
-								uint64_t n127 = 0;
+							uint64_t n114 = (uint64_t)(uintptr_t)p110;
+							memset(p64, 0, 176);
+							tp_stat_stat_at(p64, n98, (byte *)tp_static_2, 0, 4096);
+							uint64_t n115 = load64(p64 + 8);
+							uint64_t n116 = load64(p64 + 120);
+							uint64_t n117 = load64(p64 + 128);
+							if (load8(p64) == 0) {
+								uint64_t n120;
+								uint32_t n118 = (uint32_t)n115;
+								memset(p63, 0, 176);
+								uint64_t n119 = 0;
 								for (;;) {
-									if (n127 == n116)
+									if (n119 == n108)
 										goto L11;
-									if (load8(inside(p118, n127)) == 0)
+									if (load8(inside(p110, n119)) == 0)
 										break;
-									n127 = n127 + 1;
+									n119 = n119 + 1;
 								}
-								if (n127 < n116) {
-									tp_Error_from_bytes(p65, 2, 20, (byte *)tp_static_243, 42, 42);
-									n128 = (uint64_t)(uintptr_t)loadptr(p65);
+								if (n119 < n108) {
+									tp_Error_from_bytes(p62, 2, 20, (byte *)tp_static_243, 42, 42);
+									n120 = (uint64_t)(uintptr_t)loadptr(p62);
 									goto L12;
 								}
 L11:
 								{
-									tp_stat_stat_at(p66, 4294967196u, p118, n116, 0);
-									uint64_t n129 = load64(p66 + 8);
-									uint64_t n130 = load64(p66 + 120);
-									uint64_t n131 = load64(p66 + 128);
-									if (load8(p66) == 0) {
-										uint64_t n136;
-										if (!((n124 == n130) && (n125 == n131))) {
-											if (!b117)
-												rattle_dealloc(p118);
-											(void)os_close(n106);
-											n133 = 25;
-											p134 = (byte *)tp_static_255;
+									tp_stat_stat_at(p63, 4294967196u, p110, n108, 0);
+									uint64_t n121 = load64(p63 + 8);
+									uint64_t n122 = load64(p63 + 120);
+									uint64_t n123 = load64(p63 + 128);
+									if (load8(p63) == 0) {
+										uint64_t n128;
+										if (!((n116 == n122) && (n117 == n123))) {
+											if (!b109)
+												rattle_dealloc(p110);
+											(void)os_close(n98);
+											n125 = 25;
+											p126 = (byte *)tp_static_255;
 											goto L1;
 										}
-										uint64_t n132 = n116;
+										uint64_t n124 = n108;
 										for (;;) {
-											if (n132 == 0)
+											if (n124 == 0)
 												goto L13;
-											uint64_t n135 = n132 - 1;
-											if (n135 == 0) {
-												n136 = 1;
+											uint64_t n127 = n124 - 1;
+											if (n127 == 0) {
+												n128 = 1;
 												break;
 											}
-											byte *p137 = at(p118, n135);
-											switch (load8(p137)) {
+											byte *p129 = at(p110, n127);
+											switch (load8(p129)) {
 											case 47: {
 												break;
 											}
 											case 46: {
-												if (load8(at(p137, UINT64_MAX)) != 47) {
-													n136 = n132;
+												if (load8(at(p129, UINT64_MAX)) != 47) {
+													n128 = n124;
 													goto L14;
 												}
 												break;
 											}
 											default: {
-												n136 = n132;
+												n128 = n124;
 												goto L14;
 											}
 											}
-											n132 = n135;
+											n124 = n127;
 										}
 L14:
 										{
-											bool b138 = tp_bytes_equal(p118, n136, (byte *)tp_static_253, 1);
-											if (!b138) {
-												byte *p140;
-												uint64_t n141;
-												memset(p64, 0, 24);
-												tp_CharPattern_last_in(p64, p118, n136);
-												if (load8(p64) == 1) {
-													uint64_t n139 = load64u(p64 + 8);
-													if (n139 == 0) {
-														p140 = (byte *)tp_static_253;
-														n141 = 1;
+											bool b130 = tp_bytes_equal(p110, n128, (byte *)tp_static_253, 1);
+											if (!b130) {
+												byte *p132;
+												uint64_t n133;
+												memset(p61, 0, 24);
+												tp_CharPattern_last_in(p61, p110, n128);
+												if (load8(p61) == 1) {
+													uint64_t n131 = load64u(p61 + 8);
+													if (n131 == 0) {
+														p132 = (byte *)tp_static_253;
+														n133 = 1;
 														goto L15;
 													}
-													uint64_t n142 = n139;
+													uint64_t n134 = n131;
 													for (;;) {
-														uint64_t n143 = n142 - 1;
-														if (n143 == 0) {
-															p140 = p118;
-															n141 = 1;
+														uint64_t n135 = n134 - 1;
+														if (n135 == 0) {
+															p132 = p110;
+															n133 = 1;
 															break;
 														}
-														byte *p144 = at(p118, n143);
-														switch (load8(p144)) {
+														byte *p136 = at(p110, n135);
+														switch (load8(p136)) {
 														case 47: {
 															break;
 														}
 														case 46: {
-															if (load8(at(p144, UINT64_MAX)) != 47) {
-																p140 = p118;
-																n141 = n142;
+															if (load8(at(p136, UINT64_MAX)) != 47) {
+																p132 = p110;
+																n133 = n134;
 																goto L15;
 															}
 															break;
 														}
 														default: {
-															p140 = p118;
-															n141 = n142;
+															p132 = p110;
+															n133 = n134;
 															goto L15;
 														}
 														}
-														n142 = n143;
+														n134 = n135;
 													}
 												} else {
-													p140 = (byte *)tp_static_2;
-													n141 = 0;
+													p132 = (byte *)tp_static_2;
+													n133 = 0;
 												}
 L15:
 												{
-													bool b168;
-													uint64_t n171, n590, n591, n592, n595, n596, n597, n599, n611, n612, n613;
-													byte *p172;
-													uint8_t n589, n593, n594, n598, n610;
-													tp_File_open(p75, p140, n141);
-													uint32_t n145 = load32u(p75 + 4);
-													if (load8(p75) != 0) {
-														uint64_t n751 = load64u(p75 + 8);
-														if (b117) {
-															n120 = n751;
+													bool b160;
+													uint64_t n168, n580, n581, n582, n585, n586, n587, n589, n601, n602, n603;
+													byte *p169;
+													uint8_t n579, n583, n584, n588, n600;
+													tp_File_open(p72, p132, n133);
+													uint32_t n137 = load32u(p72 + 4);
+													if (load8(p72) != 0) {
+														uint64_t n741 = load64u(p72 + 8);
+														if (b109) {
+															n112 = n741;
 															goto L8;
 														}
-														rattle_dealloc(p118);
-														n120 = n751;
+														rattle_dealloc(p110);
+														n112 = n741;
 														goto L8;
 													}
-													tp_String_from_str(p76, p118, n116);
-													if (load8(p76) != 0) {
-														(void)os_close(n145);
-														if (b117) {
-															n120 = 9729;
+													tp_String_from_str(p73, p110, n108);
+													if (load8(p73) != 0) {
+														(void)os_close(n137);
+														if (b109) {
+															n112 = 9729;
 															goto L8;
 														}
-														rattle_dealloc(p118);
-														n120 = 9729;
+														rattle_dealloc(p110);
+														n112 = 9729;
 														goto L8;
 													}
-													memcpy(p74, p76 + 8, 24);
-													uint8_t n146 = tp_String_push_str(p74);
-													if ((n146 & 1) != 0) {
-														if (load64u(p74 + 16) != 0)
-															rattle_dealloc(loadptru(p74));
-														(void)os_close(n145);
-														if (b117) {
-															n120 = 9729;
+													memcpy(p71, p73 + 8, 24);
+													uint8_t n138 = tp_String_push_str(p71);
+													if ((n138 & 1) != 0) {
+														if (load64u(p71 + 16) != 0)
+															rattle_dealloc(loadptru(p71));
+														(void)os_close(n137);
+														if (b109) {
+															n112 = 9729;
 															goto L8;
 														}
-														rattle_dealloc(p118);
-														n120 = 9729;
+														rattle_dealloc(p110);
+														n112 = 9729;
 														goto L8;
 													}
-													uint64_t n147 = load64(p74);
-													uint64_t n148 = load64(p74 + 8);
-													uint32_t n149 = load32(p74 + 16);
-													uint32_t n150 = load32(p74 + 20);
-													store64u(p80, n122);
-													store64u(p80 + 8, n116);
-													store64u(p80 + 16, n116);
-													store64(p80 + 24, n147);
-													store64(p80 + 32, n148);
-													store32(p80 + 40, n149);
-													store32(p80 + 44, n150);
-													store32u(p80 + 48, n145);
-													store32u(p80 + 52, n126 & 511);
-													storeptru(p81, p11);
-													memset(p81 + 8, 0, 16);
-													tp_Read_read_to_end(p84, p79, p81);
-													uint64_t n151 = load64u(p84 + 8);
-													if (load8(p84) != 0) {
-														if (load64u(p81 + 16) != 0)
-															rattle_dealloc(loadptru(p81));
-														if (!b117)
-															rattle_dealloc(p118);
-														if (load64u(p80 + 40) != 0)
-															rattle_dealloc(loadptru(p80 + 24));
-														(void)os_close(n145);
-														(void)os_close(load32u(p79));
-														n750 = n151;
+													uint64_t n139 = load64(p71);
+													uint64_t n140 = load64(p71 + 8);
+													uint32_t n141 = load32(p71 + 16);
+													uint32_t n142 = load32(p71 + 20);
+													store64u(p77, n114);
+													store64u(p77 + 8, n108);
+													store64u(p77 + 16, n108);
+													store64(p77 + 24, n139);
+													store64(p77 + 32, n140);
+													store32(p77 + 40, n141);
+													store32(p77 + 44, n142);
+													store32u(p77 + 48, n137);
+													store32u(p77 + 52, n118 & 511);
+													storeptru(p78, p11);
+													memset(p78 + 8, 0, 16);
+													tp_Read_read_to_end(p81, p76, p78);
+													uint64_t n143 = load64u(p81 + 8);
+													if (load8(p81) != 0) {
+														if (load64u(p78 + 16) != 0)
+															rattle_dealloc(loadptru(p78));
+														if (!b109)
+															rattle_dealloc(p110);
+														if (load64u(p77 + 40) != 0)
+															rattle_dealloc(loadptru(p77 + 24));
+														(void)os_close(n137);
+														(void)os_close(load32u(p76));
+														n740 = n143;
 														goto L16;
 													}
-													uint32_t n152 = load32(p79);
-													memset(p62, 0, 96);
-													memset(p63, 0, 16);
-													store32u(p63, 2);
-													tp_fs_apply(p62, n152, p63);
-													uint64_t n153 = load64(p62 + 8);
-													if (load8(p62) != 0) {
-														if (load64u(p81 + 16) != 0)
-															rattle_dealloc(loadptru(p81));
-														if (!b117)
-															rattle_dealloc(p118);
-														if (load64u(p80 + 40) != 0)
-															rattle_dealloc(loadptru(p80 + 24));
-														(void)os_close(n145);
-														(void)os_close(load32u(p79));
-														n750 = n153;
+													uint32_t n144 = load32(p76);
+													memset(p59, 0, 96);
+													memset(p60, 0, 16);
+													store32u(p60, 2);
+													tp_fs_apply(p59, n144, p60);
+													uint64_t n145 = load64(p59 + 8);
+													if (load8(p59) != 0) {
+														if (load64u(p78 + 16) != 0)
+															rattle_dealloc(loadptru(p78));
+														if (!b109)
+															rattle_dealloc(p110);
+														if (load64u(p77 + 40) != 0)
+															rattle_dealloc(loadptru(p77 + 24));
+														(void)os_close(n137);
+														(void)os_close(load32u(p76));
+														n740 = n145;
 														goto L16;
 													}
-													tp_Place_sync_folder(p85, p80);
-													if (load8(p85) != 0) {
-														uint64_t n749 = load64u(p85 + 8);
-														if (load64u(p81 + 16) != 0)
-															rattle_dealloc(loadptru(p81));
-														if (load64u(p80 + 16) != 0)
-															rattle_dealloc(loadptru(p80));
-														if (load64u(p80 + 40) != 0)
-															rattle_dealloc(loadptru(p80 + 24));
-														(void)os_close(load32u(p80 + 48));
-														(void)os_close(load32u(p79));
-														n750 = n749;
+													tp_Place_sync_folder(p82, p77);
+													if (load8(p82) != 0) {
+														uint64_t n739 = load64u(p82 + 8);
+														if (load64u(p78 + 16) != 0)
+															rattle_dealloc(loadptru(p78));
+														if (load64u(p77 + 16) != 0)
+															rattle_dealloc(loadptru(p77));
+														if (load64u(p77 + 40) != 0)
+															rattle_dealloc(loadptru(p77 + 24));
+														(void)os_close(load32u(p77 + 48));
+														(void)os_close(load32u(p76));
+														n740 = n739;
 														goto L16;
 													}
-													uint32_t n154 = load32u(p79);
-													uint64_t n155 = load64u(p80);
-													uint64_t n156 = load64u(p80 + 8);
-													uint64_t n157 = load64u(p80 + 16);
-													uint64_t n158 = load64u(p80 + 24);
-													uint64_t n159 = load64(p80 + 32);
-													uint64_t n160 = load64(p80 + 40);
-													uint32_t n161 = load32(p80 + 48);
-													uint32_t n162 = load32(p80 + 52);
-													byte *p163 = loadptr(p81);
-													uint64_t n164 = load64(p81 + 8);
-													uint64_t n165 = load64(p81 + 16);
-													uint64_t n166 = (uint64_t)n90;
-													uint64_t n167 = (uint64_t)n92;
-													switch (MOSTLY_0(n87)) {
+													uint32_t n146 = load32u(p76);
+													uint64_t n147 = load64u(p77);
+													uint64_t n148 = load64u(p77 + 8);
+													uint64_t n149 = load64u(p77 + 16);
+													uint64_t n150 = load64u(p77 + 24);
+													uint64_t n151 = load64(p77 + 32);
+													uint64_t n152 = load64(p77 + 40);
+													uint32_t n153 = load32(p77 + 48);
+													uint32_t n154 = load32(p77 + 52);
+													byte *p155 = loadptr(p78);
+													uint64_t n156 = load64(p78 + 8);
+													uint64_t n157 = load64(p78 + 16);
+													uint64_t n158 = (uint64_t)n87;
+													uint64_t n159 = (uint64_t)n89;
+													switch (MOSTLY_0(n84)) {
 													case 0: {
-														switch (n88) {
+														switch (n85) {
 														case 1: {
-															b168 = (n89 & 1) != 0;
+															b160 = (n86 & 1) != 0;
 															break;
 														}
 														case 0:
 														case 2: {
-															b168 = false;
+															b160 = false;
 															break;
 														}
 														default: {
@@ -85489,343 +85546,348 @@ L15:
 													}
 													case 1:
 													case 2: {
-														b168 = false;
+														b160 = false;
 														break;
 													}
 													default: {
 														UNREACHABLE();
 													}
 													}
-													byte *p169 = (byte *)(uintptr_t)n155;
-													byte *p170 = (byte *)(uintptr_t)n158;
-													memcpy(p53, p94, 7);
-													memcpy(p54, p103, 16);
-													memset(p55, 0, 112);
-													memset(p56, 0, 368);
+													byte *p161 = (byte *)(uintptr_t)n147;
+													byte *p162 = (byte *)(uintptr_t)n150;
+													memcpy(p50, p91, 40);
+													memcpy(p51, p95, 16);
+													memset(p52, 0, 112);
+													memset(p53, 0, 368);
+													memset(p54, 0, 32);
+													memset(p55, 0, 56);
+													memset(p56, 0, 16);
 													memset(p57, 0, 16);
-													memset(p58, 0, 56);
-													memset(p59, 0, 16);
-													memset(p60, 0, 16);
-													memset(p52, 0, 56);
-													switch (MOSTLY_0(n95)) {
+													uint8_t n163 = load8(p50);
+													uint64_t n164 = load64u(p50 + 8);
+													uint64_t n165 = load64u(p50 + 16);
+													uint64_t n166 = load64u(p50 + 24);
+													uint64_t n167 = load64u(p50 + 32);
+													memset(p49, 0, 56);
+													switch (MOSTLY_0(n163)) {
 													case 0: {
-														n171 = 5;
-														p172 = (byte *)tp_static_224;
+														n168 = 5;
+														p169 = (byte *)tp_static_224;
 														break;
 													}
 													case 1: {
-														n171 = 6;
-														p172 = (byte *)tp_static_225;
+														n168 = 6;
+														p169 = (byte *)tp_static_225;
 														break;
 													}
 													case 2: {
-														n171 = 4;
-														p172 = (byte *)tp_static_31;
+														n168 = 4;
+														p169 = (byte *)tp_static_31;
 														break;
 													}
 													case 3: {
-														n171 = 5;
-														p172 = (byte *)tp_static_226;
+														n168 = 5;
+														p169 = (byte *)tp_static_226;
 														break;
 													}
 													case 4: {
-														n171 = 6;
-														p172 = (byte *)tp_static_227;
+														n168 = 6;
+														p169 = (byte *)tp_static_227;
 														break;
 													}
 													default: {
 														UNREACHABLE();
 													}
 													}
-													of_i64_i64 s173 = rattle_alloc(n171, 1);
-													if ((s173.f0 & 1) != 0) {
-														uint64_t n175;
-														byte *p174 = (byte *)(uintptr_t)s173.f1;
-														if ((s173.f1 - (uint64_t)(uintptr_t)p172) >= n171) {
-															memcpy(p174, p172, (size_t)n171);
+													of_i64_i64 s170 = rattle_alloc(n168, 1);
+													if ((s170.f0 & 1) != 0) {
+														uint64_t n172;
+														byte *p171 = (byte *)(uintptr_t)s170.f1;
+														if ((s170.f1 - (uint64_t)(uintptr_t)p169) >= n168) {
+															memcpy(p171, p169, (size_t)n168);
 															goto L17;
 														}
-														n175 = 0;
-														while (n175 != n171) {
-															store8(inside(p174, n175), load8(inside(p172, n175)));
-															n175 = n175 + 1;
+														n172 = 0;
+														while (n172 != n168) {
+															store8(inside(p171, n172), load8(inside(p169, n172)));
+															n172 = n172 + 1;
 														}
 L17:
 														{
-															storeptru(p51, p174);
-															store64u(p51 + 8, n171);
-															store64u(p51 + 16, n171);
-															uint8_t n176 = tp_keeping_push_number(p51, n97);
-															if ((n176 & 1) != 0) {
-																if (load64u(p51 + 16) != 0)
-																	rattle_dealloc(loadptru(p51));
+															storeptru(p48, p171);
+															store64u(p48 + 8, n168);
+															store64u(p48 + 16, n168);
+															uint8_t n173 = tp_keeping_push_number(p48, n165);
+															if ((n173 & 1) != 0) {
+																if (load64u(p48 + 16) != 0)
+																	rattle_dealloc(loadptru(p48));
 															} else {
-																uint8_t n177 = tp_keeping_push_number(p51, n98);
-																if ((n177 & 1) != 0) {
-																	if (load64u(p51 + 16) != 0)
-																		rattle_dealloc(loadptru(p51));
+																uint8_t n174 = tp_keeping_push_number(p48, n166);
+																if ((n174 & 1) != 0) {
+																	if (load64u(p48 + 16) != 0)
+																		rattle_dealloc(loadptru(p48));
 																} else {
-																	uint8_t n178 = tp_keeping_push_number(p51, n96);
-																	if ((n178 & 1) == 0) {
-																		uint8_t n213;
-																		uint64_t n214, n215, n216;
-																		byte *p179 = loadptr(p51);
-																		uint64_t n180 = load64(p51 + 8);
-																		uint64_t n181 = load64(p51 + 16);
-																		store64(p50, 0);
-																		store32(p50, n154);
-																		storeptr(p50 + 8, p169);
-																		store64(p50 + 16, n156);
-																		store64(p50 + 24, n157);
-																		storeptr(p50 + 32, p170);
-																		store64(p50 + 40, n159);
-																		store64(p50 + 48, n160);
-																		store32(p50 + 56, n161);
-																		store32(p50 + 60, n162);
-																		memset(p50 + 64, 0, 32);
-																		bool b182 = n165 == 0;
-																		storeptru(p49, p11);
-																		memset(p49 + 8, 0, 16);
-																		uint64_t n183 = 0;
-																		uint64_t n184 = 0;
-																		byte *p185 = p11;
-																		byte *p186 = p163;
-																		uint64_t n187 = n164;
+																	uint8_t n175 = tp_keeping_push_number(p48, n164);
+																	if ((n175 & 1) == 0) {
+																		uint8_t n210;
+																		uint64_t n211, n212, n213;
+																		byte *p176 = loadptr(p48);
+																		uint64_t n177 = load64(p48 + 8);
+																		uint64_t n178 = load64(p48 + 16);
+																		store64(p47, 0);
+																		store32(p47, n146);
+																		storeptr(p47 + 8, p161);
+																		store64(p47 + 16, n148);
+																		store64(p47 + 24, n149);
+																		storeptr(p47 + 32, p162);
+																		store64(p47 + 40, n151);
+																		store64(p47 + 48, n152);
+																		store32(p47 + 56, n153);
+																		store32(p47 + 60, n154);
+																		memset(p47 + 64, 0, 32);
+																		bool b179 = n157 == 0;
+																		storeptru(p46, p11);
+																		memset(p46 + 8, 0, 16);
+																		uint64_t n180 = 0;
+																		uint64_t n181 = 0;
+																		byte *p182 = p11;
+																		byte *p183 = p155;
+																		uint64_t n184 = n156;
 																		for (;;) {
-																			byte *p207;
-																			uint64_t n208, n209, n211;
-																			if (n187 == 0)
+																			byte *p204;
+																			uint64_t n205, n206, n208;
+																			if (n184 == 0)
 																				goto L18;
-																			if ((int)(load8(p186) != 6) | (int)(n187 < 17))
+																			if ((int)(load8(p183) != 6) | (int)(n184 < 17))
 																				goto L18;
-																			uint64_t n188 = ((((uint64_t)load8(p186 + 8) << 56) | ((uint64_t)load8(p186 + 7) << 48)) | ((uint64_t)load8(p186 + 6) << 40)) | ((uint64_t)load8(p186 + 5) << 32);
-																			uint64_t n189 = ((n188 | ((uint64_t)load8(p186 + 4) << 24)) | ((uint64_t)load8(p186 + 3) << 16)) | ((uint64_t)load8(p186 + 2) << 8);
-																			uint64_t n190 = bswap64(n189 | (uint64_t)load8(p186 + 1));
-																			uint64_t n191 = ((((uint64_t)load8(p186 + 16) << 56) | ((uint64_t)load8(p186 + 15) << 48)) | ((uint64_t)load8(p186 + 14) << 40)) | ((uint64_t)load8(p186 + 13) << 32);
-																			uint64_t n192 = ((n191 | ((uint64_t)load8(p186 + 12) << 24)) | ((uint64_t)load8(p186 + 11) << 16)) | ((uint64_t)load8(p186 + 10) << 8);
-																			uint64_t n193 = bswap64(n192 | (uint64_t)load8(p186 + 9));
-																			uint64_t n194 = n187 - 17;
-																			if (n194 < n190)
+																			uint64_t n185 = ((((uint64_t)load8(p183 + 8) << 56) | ((uint64_t)load8(p183 + 7) << 48)) | ((uint64_t)load8(p183 + 6) << 40)) | ((uint64_t)load8(p183 + 5) << 32);
+																			uint64_t n186 = ((n185 | ((uint64_t)load8(p183 + 4) << 24)) | ((uint64_t)load8(p183 + 3) << 16)) | ((uint64_t)load8(p183 + 2) << 8);
+																			uint64_t n187 = bswap64(n186 | (uint64_t)load8(p183 + 1));
+																			uint64_t n188 = ((((uint64_t)load8(p183 + 16) << 56) | ((uint64_t)load8(p183 + 15) << 48)) | ((uint64_t)load8(p183 + 14) << 40)) | ((uint64_t)load8(p183 + 13) << 32);
+																			uint64_t n189 = ((n188 | ((uint64_t)load8(p183 + 12) << 24)) | ((uint64_t)load8(p183 + 11) << 16)) | ((uint64_t)load8(p183 + 10) << 8);
+																			uint64_t n190 = bswap64(n189 | (uint64_t)load8(p183 + 9));
+																			uint64_t n191 = n184 - 17;
+																			if (n191 < n187)
 																				goto L18;
-																			uint64_t n195 = n190;
-																			byte *p196 = at(p186, 17);
-																			uint64_t n197 = 1;
-																			while (n195 >= 8) {
-																				uint64_t n198 = (((n197 + (uint64_t)load8(p196)) * UINT64_C(1099511628211)) + (uint64_t)load8(p196 + 1)) * UINT64_C(1099511628211);
-																				uint64_t n199 = (((n198 + (uint64_t)load8(p196 + 2)) * UINT64_C(1099511628211)) + (uint64_t)load8(p196 + 3)) * UINT64_C(1099511628211);
-																				uint64_t n200 = (((n199 + (uint64_t)load8(p196 + 4)) * UINT64_C(1099511628211)) + (uint64_t)load8(p196 + 5)) * UINT64_C(1099511628211);
-																				uint64_t n201 = (((n200 + (uint64_t)load8(p196 + 6)) * UINT64_C(1099511628211)) + (uint64_t)load8(p196 + 7)) * UINT64_C(1099511628211);
-																				n195 = n195 - 8;
-																				p196 = at(p196, 8);
-																				n197 = n201;
+																			uint64_t n192 = n187;
+																			byte *p193 = at(p183, 17);
+																			uint64_t n194 = 1;
+																			while (n192 >= 8) {
+																				uint64_t n195 = (((n194 + (uint64_t)load8(p193)) * UINT64_C(1099511628211)) + (uint64_t)load8(p193 + 1)) * UINT64_C(1099511628211);
+																				uint64_t n196 = (((n195 + (uint64_t)load8(p193 + 2)) * UINT64_C(1099511628211)) + (uint64_t)load8(p193 + 3)) * UINT64_C(1099511628211);
+																				uint64_t n197 = (((n196 + (uint64_t)load8(p193 + 4)) * UINT64_C(1099511628211)) + (uint64_t)load8(p193 + 5)) * UINT64_C(1099511628211);
+																				uint64_t n198 = (((n197 + (uint64_t)load8(p193 + 6)) * UINT64_C(1099511628211)) + (uint64_t)load8(p193 + 7)) * UINT64_C(1099511628211);
+																				n192 = n192 - 8;
+																				p193 = at(p193, 8);
+																				n194 = n198;
 																			}
-																			uint64_t n202 = 0;
-																			uint64_t n203 = n197;
-																			while (n202 != n195) {
-																				n203 = (n203 + (uint64_t)load8(at(p196, n202))) * UINT64_C(1099511628211);
-																				n202 = n202 + 1;
+																			uint64_t n199 = 0;
+																			uint64_t n200 = n194;
+																			while (n199 != n192) {
+																				n200 = (n200 + (uint64_t)load8(at(p193, n199))) * UINT64_C(1099511628211);
+																				n199 = n199 + 1;
 																			}
-																			if (n203 != n193)
+																			if (n200 != n190)
 																				goto L18;
-																			uint64_t n204 = n194 - n190;
-																			byte *p205 = at(at(p186, 17), n190);
-																			if (n190 > (n184 - n183)) {
-																				bool b206 = tp_Vec_grow_amortized(p49, n190);
-																				if (!b206)
+																			uint64_t n201 = n191 - n187;
+																			byte *p202 = at(at(p183, 17), n187);
+																			if (n187 > (n181 - n180)) {
+																				bool b203 = tp_Vec_grow_amortized(p46, n187);
+																				if (!b203)
 																					break;
-																				p207 = loadptr(p49);
-																				n208 = load64(p49 + 16);
-																				n209 = load64(p49 + 8);
+																				p204 = loadptr(p46);
+																				n205 = load64(p46 + 16);
+																				n206 = load64(p46 + 8);
 																			} else {
-																				p207 = p185;
-																				n208 = n184;
-																				n209 = n183;
+																				p204 = p182;
+																				n205 = n181;
+																				n206 = n180;
 																			}
-																			byte *p210 = at(p207, n209);
-																			if (((uint64_t)(uintptr_t)p210 - (uint64_t)(uintptr_t)at(p186, 17)) >= n190) {
-																				memmove(p210, at(p186, 17), (size_t)n190);
+																			byte *p207 = at(p204, n206);
+																			if (((uint64_t)(uintptr_t)p207 - (uint64_t)(uintptr_t)at(p183, 17)) >= n187) {
+																				memmove(p207, at(p183, 17), (size_t)n187);
 																				goto L19;
 																			}
-																			n211 = 0;
-																			while (n211 != n190) {
-																				store8(inside(p210, n211), load8(inside(p186 + 17, n211)));
-																				n211 = n211 + 1;
+																			n208 = 0;
+																			while (n208 != n187) {
+																				store8(inside(p207, n208), load8(inside(p183 + 17, n208)));
+																				n208 = n208 + 1;
 																			}
 L19:
 																			{
-																				uint64_t n212 = n209 + n190;
-																				storeptr(p49, p207);
-																				store64(p49 + 8, n212);
-																				store64(p49 + 16, n208);
-																				n183 = n212;
-																				n184 = n208;
-																				p185 = p207;
-																				p186 = p205;
-																				n187 = n204;
+																				uint64_t n209 = n206 + n187;
+																				storeptr(p46, p204);
+																				store64(p46 + 8, n209);
+																				store64(p46 + 16, n205);
+																				n180 = n209;
+																				n181 = n205;
+																				p182 = p204;
+																				p183 = p202;
+																				n184 = n201;
 																			}
 																		}
-																		if (load64u(p49 + 16) != 0)
-																			rattle_dealloc(loadptru(p49));
-																		if (b182) {
+																		if (load64u(p46 + 16) != 0)
+																			rattle_dealloc(loadptru(p46));
+																		if (b179) {
+																			n210 = 0;
+																			n211 = 4;
+																			n212 = 0;
 																			n213 = 0;
-																			n214 = 4;
-																			n215 = 0;
-																			n216 = 0;
 																			goto L20;
 																		}
-																		rattle_dealloc(p163);
+																		rattle_dealloc(p155);
+																		n210 = 0;
+																		n211 = 4;
+																		n212 = 0;
 																		n213 = 0;
-																		n214 = 4;
-																		n215 = 0;
-																		n216 = 0;
 																		goto L20;
 L18:
 																		{
-																			uint8_t n218;
-																			uint64_t n217 = n164 - n187;
-																			if (n164 >= 2) {
-																				switch (load8(p163)) {
+																			uint8_t n215;
+																			uint64_t n214 = n156 - n184;
+																			if (n156 >= 2) {
+																				switch (load8(p155)) {
 																				case 21:
 																				case 6: {
 																					break;
 																				}
 																				default: {
-																					n218 = 2;
+																					n215 = 2;
 																					goto L21;
 																				}
 																				}
 																			}
-																			if (n187 >= 2) {
-																				switch (load8(p186)) {
+																			if (n184 >= 2) {
+																				switch (load8(p183)) {
 																				case 21: {
 																					break;
 																				}
 																				case 6: {
-																					n218 = 1;
+																					n215 = 1;
 																					goto L21;
 																				}
 																				default: {
-																					if (n187 < 18) {
-																						n218 = 0;
+																					if (n184 < 18) {
+																						n215 = 0;
 																						goto L21;
 																					}
-																					uint64_t n219 = ((((uint64_t)load8(p186 + 8) << 56) | ((uint64_t)load8(p186 + 7) << 48)) | ((uint64_t)load8(p186 + 6) << 40)) | ((uint64_t)load8(p186 + 5) << 32);
-																					uint64_t n220 = ((n219 | ((uint64_t)load8(p186 + 4) << 24)) | ((uint64_t)load8(p186 + 3) << 16)) | ((uint64_t)load8(p186 + 2) << 8);
-																					n218 = (uint8_t)((n187 - 18) > bswap64(n220 | (uint64_t)load8(p186 + 1)));
+																					uint64_t n216 = ((((uint64_t)load8(p183 + 8) << 56) | ((uint64_t)load8(p183 + 7) << 48)) | ((uint64_t)load8(p183 + 6) << 40)) | ((uint64_t)load8(p183 + 5) << 32);
+																					uint64_t n217 = ((n216 | ((uint64_t)load8(p183 + 4) << 24)) | ((uint64_t)load8(p183 + 3) << 16)) | ((uint64_t)load8(p183 + 2) << 8);
+																					n215 = (uint8_t)((n184 - 18) > bswap64(n217 | (uint64_t)load8(p183 + 1)));
 																					goto L21;
 																				}
 																				}
 																			}
-																			n218 = 0;
+																			n215 = 0;
 L21:
 																			{
-																				if (!b182)
-																					rattle_dealloc(p163);
-																				switch (n218) {
+																				if (!b179)
+																					rattle_dealloc(p155);
+																				switch (n215) {
 																				case 2: {
-																					if (n184 == 0) {
+																					if (n181 == 0) {
+																						n210 = 0;
+																						n211 = 2;
+																						n212 = 0;
 																						n213 = 0;
-																						n214 = 2;
-																						n215 = 0;
-																						n216 = 0;
 																					} else {
-																						rattle_dealloc(p185);
+																						rattle_dealloc(p182);
+																						n210 = 0;
+																						n211 = 2;
+																						n212 = 0;
 																						n213 = 0;
-																						n214 = 2;
-																						n215 = 0;
-																						n216 = 0;
 																					}
 																					break;
 																				}
 																				case 1: {
-																					if (n184 == 0) {
+																					if (n181 == 0) {
+																						n210 = 0;
+																						n211 = 3;
+																						n212 = n214;
 																						n213 = 0;
-																						n214 = 3;
-																						n215 = n217;
-																						n216 = 0;
 																					} else {
-																						rattle_dealloc(p185);
+																						rattle_dealloc(p182);
+																						n210 = 0;
+																						n211 = 3;
+																						n212 = n214;
 																						n213 = 0;
-																						n214 = 3;
-																						n215 = n217;
-																						n216 = 0;
 																					}
 																					break;
 																				}
 																				case 0: {
-																					of_i8_i8 s226;
-																					uint8_t n227, n228;
-																					byte *p221 = loadptru(p50 + 72);
-																					uint64_t n222 = load64u(p50 + 88);
-																					uint8_t n223 = load8(p50 + 64);
-																					memset(p50 + 64, 0, 32);
-																					if (n223 == 1) {
-																						if (n222 != 0)
-																							rattle_dealloc(p221);
+																					of_i8_i8 s223;
+																					uint8_t n224, n225;
+																					byte *p218 = loadptru(p47 + 72);
+																					uint64_t n219 = load64u(p47 + 88);
+																					uint8_t n220 = load8(p47 + 64);
+																					memset(p47 + 64, 0, 32);
+																					if (n220 == 1) {
+																						if (n219 != 0)
+																							rattle_dealloc(p218);
 																					}
-																					memset(p47, 0, 96);
-																					store64(p48, 0);
-																					if ((int64_t)n217 > (int64_t)UINT64_MAX) {
-																						uint32_t n224 = load32(p50);
-																						store64(p48 + 8, n217);
-																						tp_fs_apply(p47, n224, p48);
-																						if (load8(p47) == 0) {
-																							of_i8_i8 s225 = tp_HostFileDevice_sync(p50);
-																							s226 = s225;
+																					memset(p44, 0, 96);
+																					store64(p45, 0);
+																					if ((int64_t)n214 > (int64_t)UINT64_MAX) {
+																						uint32_t n221 = load32(p47);
+																						store64(p45 + 8, n214);
+																						tp_fs_apply(p44, n221, p45);
+																						if (load8(p44) == 0) {
+																							of_i8_i8 s222 = tp_HostFileDevice_sync(p47);
+																							s223 = s222;
 																							goto L22;
 																						}
-																						n227 = load8(p47 + 9);
+																						n224 = load8(p44 + 9);
 																					} else {
-																						tp_Error_from_bytes(p47 + 8, 3, 20, (byte *)tp_static_259, 47, 47);
-																						n227 = load8(p47 + 9);
+																						tp_Error_from_bytes(p44 + 8, 3, 20, (byte *)tp_static_259, 47, 47);
+																						n224 = load8(p44 + 9);
 																					}
-																					store8(p46, 0);
-																					store8(p46 + 1, 1);
-																					store8(p46 + 2, 2);
-																					store8(p46 + 3, 3);
-																					store8(p46 + 4, 4);
-																					store8(p46 + 5, 5);
-																					store8(p46 + 6, 6);
-																					store8(p46 + 7, 7);
-																					store8(p46 + 8, 8);
-																					store8(p46 + 9, 9);
-																					store8(p46 + 10, 10);
-																					store8(p46 + 11, 11);
-																					store8(p46 + 12, 12);
-																					store8(p46 + 13, 13);
-																					store8(p46 + 14, 14);
-																					store8(p46 + 15, 15);
-																					store8(p46 + 16, 16);
-																					store8(p46 + 17, 17);
-																					store8(p46 + 18, 18);
-																					store8(p46 + 19, 19);
-																					store8(p46 + 20, 20);
-																					store8(p46 + 21, 21);
-																					store8(p46 + 22, 22);
-																					store8(p46 + 23, 23);
-																					store8(p46 + 24, 24);
-																					store8(p46 + 25, 25);
-																					store8(p46 + 26, 26);
-																					store8(p46 + 27, 27);
-																					store8(p46 + 28, 28);
-																					store8(p46 + 29, 29);
-																					store8(p46 + 30, 30);
-																					store8(p46 + 31, 31);
-																					store8(p46 + 32, 32);
-																					store8(p46 + 33, 33);
-																					store8(p46 + 34, 34);
-																					store8(p46 + 35, 35);
-																					store8(p46 + 36, 36);
-																					store8(p46 + 37, 37);
-																					store8(p46 + 38, 38);
-																					store8(p46 + 39, 39);
-																					store8(p46 + 40, 40);
-																					if (n227 < 41) {
-																						switch (load8(inside(p46, (uint64_t)n227))) {
+																					store8(p43, 0);
+																					store8(p43 + 1, 1);
+																					store8(p43 + 2, 2);
+																					store8(p43 + 3, 3);
+																					store8(p43 + 4, 4);
+																					store8(p43 + 5, 5);
+																					store8(p43 + 6, 6);
+																					store8(p43 + 7, 7);
+																					store8(p43 + 8, 8);
+																					store8(p43 + 9, 9);
+																					store8(p43 + 10, 10);
+																					store8(p43 + 11, 11);
+																					store8(p43 + 12, 12);
+																					store8(p43 + 13, 13);
+																					store8(p43 + 14, 14);
+																					store8(p43 + 15, 15);
+																					store8(p43 + 16, 16);
+																					store8(p43 + 17, 17);
+																					store8(p43 + 18, 18);
+																					store8(p43 + 19, 19);
+																					store8(p43 + 20, 20);
+																					store8(p43 + 21, 21);
+																					store8(p43 + 22, 22);
+																					store8(p43 + 23, 23);
+																					store8(p43 + 24, 24);
+																					store8(p43 + 25, 25);
+																					store8(p43 + 26, 26);
+																					store8(p43 + 27, 27);
+																					store8(p43 + 28, 28);
+																					store8(p43 + 29, 29);
+																					store8(p43 + 30, 30);
+																					store8(p43 + 31, 31);
+																					store8(p43 + 32, 32);
+																					store8(p43 + 33, 33);
+																					store8(p43 + 34, 34);
+																					store8(p43 + 35, 35);
+																					store8(p43 + 36, 36);
+																					store8(p43 + 37, 37);
+																					store8(p43 + 38, 38);
+																					store8(p43 + 39, 39);
+																					store8(p43 + 40, 40);
+																					if (n224 < 41) {
+																						switch (load8(inside(p43, (uint64_t)n224))) {
 																						case 24:
 																						case 26:
 																						case 27: {
-																							n228 = 1;
+																							n225 = 1;
 																							goto L23;
 																						}
 																						case 0:
@@ -85874,217 +85936,217 @@ L21:
 																						}
 																						}
 																					}
-																					n228 = 2;
+																					n225 = 2;
 L23:
 																					{
-																						s226 = of_i8_i8_of(of_i8_i8_of(1, 0).f0, n228);
+																						s223 = of_i8_i8_of(of_i8_i8_of(1, 0).f0, n225);
 																					}
 L22:
 																					{
-																						of_i8_i8 s600;
-																						if (s226.f0 == 0) {
-																							of_i8_i8 s229 = tp_durable_write_durably(p50, n217, (byte *)tp_static_258, 1);
-																							if (s229.f0 == 0) {
-																								byte *p275, *p279;
-																								uint64_t n276, n277, n278, n280;
-																								bool b230 = n183 != 0;
-																								if (b230) {
-																									uint64_t n231, n232, n234, n236, n239, n242;
-																									uint8_t n233;
-																									bool b235, b237, b240, b243;
-																									if (n183 < 15) {
-																										n231 = 0;
-																										n232 = 0;
-																										n233 = 1;
+																						of_i8_i8 s590;
+																						if (s223.f0 == 0) {
+																							of_i8_i8 s226 = tp_durable_write_durably(p47, n214, (byte *)tp_static_258, 1);
+																							if (s226.f0 == 0) {
+																								byte *p272, *p276;
+																								uint64_t n273, n274, n275, n277;
+																								bool b227 = n180 != 0;
+																								if (b227) {
+																									uint64_t n228, n229, n231, n233, n236, n239;
+																									uint8_t n230;
+																									bool b232, b234, b237, b240;
+																									if (n180 < 15) {
+																										n228 = 0;
+																										n229 = 0;
+																										n230 = 1;
 																										goto L24;
 																									}
-																									n234 = 0;
-																									b235 = false;
-																									while (n234 != 8) {
-																										b235 = (int)b235 | (int)(load8(at((byte *)tp_static_260, n234)) != load8(at(p185, n234)));
-																										n234 = n234 + 1;
+																									n231 = 0;
+																									b232 = false;
+																									while (n231 != 8) {
+																										b232 = (int)b232 | (int)(load8(at((byte *)tp_static_260, n231)) != load8(at(p182, n231)));
+																										n231 = n231 + 1;
+																									}
+																									n233 = 0;
+																									b234 = false;
+																									while (n233 != 8) {
+																										uint64_t n235 = n233 + 7;
+																										n233 = n233 + 1;
+																										b234 = (int)b234 | (int)(load8(at((byte *)tp_static_260, n235)) != load8(at(p182, n235)));
 																									}
 																									n236 = 0;
 																									b237 = false;
 																									while (n236 != 8) {
 																										uint64_t n238 = n236 + 7;
 																										n236 = n236 + 1;
-																										b237 = (int)b237 | (int)(load8(at((byte *)tp_static_260, n238)) != load8(at(p185, n238)));
+																										b237 = (int)b237 | (int)(load8(at((byte *)tp_static_260, n238)) != load8(at(p182, n238)));
 																									}
 																									n239 = 0;
 																									b240 = false;
 																									while (n239 != 8) {
 																										uint64_t n241 = n239 + 7;
 																										n239 = n239 + 1;
-																										b240 = (int)b240 | (int)(load8(at((byte *)tp_static_260, n241)) != load8(at(p185, n241)));
+																										b240 = (int)b240 | (int)(load8(at((byte *)tp_static_260, n241)) != load8(at(p182, n241)));
 																									}
-																									n242 = 0;
-																									b243 = false;
-																									while (n242 != 8) {
-																										uint64_t n244 = n242 + 7;
-																										n242 = n242 + 1;
-																										b243 = (int)b243 | (int)(load8(at((byte *)tp_static_260, n244)) != load8(at(p185, n244)));
-																									}
-																									if ((int)((int)((int)b235 | (int)b237) | (int)b240) | (int)b243) {
-																										n231 = 0;
-																										n232 = 0;
-																										n233 = 1;
-																									} else if ((n183 - 15) < 2) {
-																										n231 = 0;
-																										n232 = 0;
-																										n233 = 2;
+																									if ((int)((int)((int)b232 | (int)b234) | (int)b237) | (int)b240) {
+																										n228 = 0;
+																										n229 = 0;
+																										n230 = 1;
+																									} else if ((n180 - 15) < 2) {
+																										n228 = 0;
+																										n229 = 0;
+																										n230 = 2;
 																									} else {
-																										uint64_t n245 = 0;
-																										bool b246 = false;
-																										while (n245 != 1) {
-																											n245 = 1;
-																											b246 = (int)b246 | (int)(49 != load8(p185 + 15));
+																										uint64_t n242 = 0;
+																										bool b243 = false;
+																										while (n242 != 1) {
+																											n242 = 1;
+																											b243 = (int)b243 | (int)(49 != load8(p182 + 15));
 																										}
-																										uint64_t n247 = 0;
-																										bool b248 = false;
-																										while (n247 != 1) {
-																											n247 = 1;
-																											b248 = (int)b248 | (int)(32 != load8(p185 + 16));
+																										uint64_t n244 = 0;
+																										bool b245 = false;
+																										while (n244 != 1) {
+																											n244 = 1;
+																											b245 = (int)b245 | (int)(32 != load8(p182 + 16));
 																										}
-																										uint64_t n249 = 0;
-																										bool b250 = false;
-																										while (n249 != 1) {
-																											n249 = 1;
-																											b250 = (int)b250 | (int)(32 != load8(p185 + 16));
+																										uint64_t n246 = 0;
+																										bool b247 = false;
+																										while (n246 != 1) {
+																											n246 = 1;
+																											b247 = (int)b247 | (int)(32 != load8(p182 + 16));
 																										}
-																										if ((int)((int)b246 | (int)b248) | (int)b250) {
-																											n231 = 0;
-																											n232 = 0;
-																											n233 = 2;
+																										if ((int)((int)b243 | (int)b245) | (int)b247) {
+																											n228 = 0;
+																											n229 = 0;
+																											n230 = 2;
 																										} else {
-																											uint64_t n282, n285;
-																											byte *p283;
-																											uint64_t n251 = n183 - 17;
-																											if (n251 >= n180) {
-																												bool b252 = tp_slices_parts_equal(p179, n180, p185 + 17, n180);
-																												if (b252) {
-																													byte *p253 = at(at(p185, 17), n180);
-																													if (n251 != n180) {
-																														bool b254 = tp_slices_parts_equal((byte *)tp_static_121, 1, p253, 1);
-																														if (b254) {
-																															uint64_t n256, n258;
-																															bool b257, b259;
-																															uint64_t n255 = n251 + (n180 ^ UINT64_MAX);
-																															memset(p45, 0, 32);
-																															if (n255 < 7)
+																											uint64_t n279, n282;
+																											byte *p280;
+																											uint64_t n248 = n180 - 17;
+																											if (n248 >= n177) {
+																												bool b249 = tp_slices_parts_equal(p176, n177, p182 + 17, n177);
+																												if (b249) {
+																													byte *p250 = at(at(p182, 17), n177);
+																													if (n248 != n177) {
+																														bool b251 = tp_slices_parts_equal((byte *)tp_static_121, 1, p250, 1);
+																														if (b251) {
+																															uint64_t n253, n255;
+																															bool b254, b256;
+																															uint64_t n252 = n248 + (n177 ^ UINT64_MAX);
+																															memset(p42, 0, 32);
+																															if (n252 < 7)
 																																goto L25;
-																															n256 = 0;
-																															b257 = false;
-																															while (n256 != 4) {
-																																b257 = (int)b257 | (int)(load8(at((byte *)tp_static_261, n256)) != load8(at(at(p253, 1), n256)));
-																																n256 = n256 + 1;
+																															n253 = 0;
+																															b254 = false;
+																															while (n253 != 4) {
+																																b254 = (int)b254 | (int)(load8(at((byte *)tp_static_261, n253)) != load8(at(at(p250, 1), n253)));
+																																n253 = n253 + 1;
 																															}
-																															n258 = 0;
-																															b259 = false;
-																															while (n258 != 4) {
-																																uint64_t n260 = n258 + 3;
-																																n258 = n258 + 1;
-																																b259 = (int)b259 | (int)(load8(at((byte *)tp_static_261, n260)) != load8(at(at(p253, 1), n260)));
+																															n255 = 0;
+																															b256 = false;
+																															while (n255 != 4) {
+																																uint64_t n257 = n255 + 3;
+																																n255 = n255 + 1;
+																																b256 = (int)b256 | (int)(load8(at((byte *)tp_static_261, n257)) != load8(at(at(p250, 1), n257)));
 																															}
-																															if (!((int)b257 | (int)b259)) {
-																																tp_beginning_read_number(p45, p253 + 8, n255 - 7, 32);
-																																if (load8(p45) == 1) {
-																																	uint64_t n261 = load64u(p45 + 8);
-																																	tp_beginning_read_number(p45, loadptru(p45 + 16), load64u(p45 + 24), 32);
-																																	if (load8(p45) == 1) {
-																																		uint64_t n262 = load64u(p45 + 8);
-																																		tp_beginning_read_number(p45, loadptru(p45 + 16), load64u(p45 + 24), 10);
-																																		if (load8(p45) == 1) {
-																																			byte *p269;
-																																			uint64_t n271;
-																																			uint64_t n263 = load64u(p45 + 8);
-																																			byte *p264 = loadptr(p45 + 16);
-																																			uint64_t n265 = load64(p45 + 24);
-																																			if (n265 < n263) {
-																																				n231 = 0;
-																																				n232 = 0;
-																																				n233 = 4;
+																															if (!((int)b254 | (int)b256)) {
+																																tp_beginning_read_number(p42, p250 + 8, n252 - 7, 32);
+																																if (load8(p42) == 1) {
+																																	uint64_t n258 = load64u(p42 + 8);
+																																	tp_beginning_read_number(p42, loadptru(p42 + 16), load64u(p42 + 24), 32);
+																																	if (load8(p42) == 1) {
+																																		uint64_t n259 = load64u(p42 + 8);
+																																		tp_beginning_read_number(p42, loadptru(p42 + 16), load64u(p42 + 24), 10);
+																																		if (load8(p42) == 1) {
+																																			byte *p266;
+																																			uint64_t n268;
+																																			uint64_t n260 = load64u(p42 + 8);
+																																			byte *p261 = loadptr(p42 + 16);
+																																			uint64_t n262 = load64(p42 + 24);
+																																			if (n262 < n260) {
+																																				n228 = 0;
+																																				n229 = 0;
+																																				n230 = 4;
 																																				goto L24;
 																																			}
-																																			byte *p266 = at(p264, n263);
-																																			uint64_t n267 = n265 - n263;
-																																			bool b268 = n263 == 0;
-																																			if (b268) {
-																																				p269 = p11;
+																																			byte *p263 = at(p261, n260);
+																																			uint64_t n264 = n262 - n260;
+																																			bool b265 = n260 == 0;
+																																			if (b265) {
+																																				p266 = p11;
 																																			} else {
-																																				if ((int64_t)n263 < (int64_t)0) {
-																																					n231 = 0;
-																																					n232 = 4;
-																																					n233 = 0;
+																																				if ((int64_t)n260 < (int64_t)0) {
+																																					n228 = 0;
+																																					n229 = 4;
+																																					n230 = 0;
 																																					goto L24;
 																																				}
-																																				of_i64_i64 s270 = rattle_alloc(n263, 1);
-																																				if ((s270.f0 & 1) == 0) {
-																																					n231 = 0;
-																																					n232 = 4;
-																																					n233 = 0;
+																																				of_i64_i64 s267 = rattle_alloc(n260, 1);
+																																				if ((s267.f0 & 1) == 0) {
+																																					n228 = 0;
+																																					n229 = 4;
+																																					n230 = 0;
 																																					goto L24;
 																																				}
-																																				p269 = (byte *)(uintptr_t)s270.f1;
+																																				p266 = (byte *)(uintptr_t)s267.f1;
 																																			}
-																																			if (((uint64_t)(uintptr_t)p269 - (uint64_t)(uintptr_t)p264) >= n263) {
-																																				memmove(p269, p264, (size_t)n263);
+																																			if (((uint64_t)(uintptr_t)p266 - (uint64_t)(uintptr_t)p261) >= n260) {
+																																				memmove(p266, p261, (size_t)n260);
 																																				goto L26;
 																																			}
-																																			n271 = 0;
-																																			while (n271 != n263) {
-																																				store8(inside(p269, n271), load8(inside(p264, n271)));
-																																				n271 = n271 + 1;
+																																			n268 = 0;
+																																			while (n268 != n260) {
+																																				store8(inside(p266, n268), load8(inside(p261, n268)));
+																																				n268 = n268 + 1;
 																																			}
 L26:
 																																			{
-																																				byte *p272;
-																																				if (n265 != n263) {
-																																					if ((int64_t)n267 >= (int64_t)0) {
-																																						of_i64_i64 s273 = rattle_alloc(n267, 1);
-																																						if ((s273.f0 & 1) != 0) {
-																																							p272 = (byte *)(uintptr_t)s273.f1;
+																																				byte *p269;
+																																				if (n262 != n260) {
+																																					if ((int64_t)n264 >= (int64_t)0) {
+																																						of_i64_i64 s270 = rattle_alloc(n264, 1);
+																																						if ((s270.f0 & 1) != 0) {
+																																							p269 = (byte *)(uintptr_t)s270.f1;
 																																							goto L27;
 																																						}
 																																					}
-																																					if (b268) {
-																																						n231 = 0;
-																																						n232 = 4;
-																																						n233 = 0;
+																																					if (b265) {
+																																						n228 = 0;
+																																						n229 = 4;
+																																						n230 = 0;
 																																						goto L24;
 																																					}
-																																					rattle_dealloc(p269);
-																																					n231 = 0;
-																																					n232 = 4;
-																																					n233 = 0;
+																																					rattle_dealloc(p266);
+																																					n228 = 0;
+																																					n229 = 4;
+																																					n230 = 0;
 																																					goto L24;
 																																				}
-																																				p272 = p11;
+																																				p269 = p11;
 L27:
 																																				{
-																																					if (((uint64_t)(uintptr_t)p272 - (uint64_t)(uintptr_t)p266) >= n267) {
-																																						memmove(p272, p266, (size_t)n267);
-																																						p275 = p269;
-																																						n276 = n262;
-																																						n277 = n261;
-																																						n278 = n263;
-																																						p279 = p272;
-																																						n280 = n267;
+																																					if (((uint64_t)(uintptr_t)p269 - (uint64_t)(uintptr_t)p263) >= n264) {
+																																						memmove(p269, p263, (size_t)n264);
+																																						p272 = p266;
+																																						n273 = n259;
+																																						n274 = n258;
+																																						n275 = n260;
+																																						p276 = p269;
+																																						n277 = n264;
 																																						goto L28;
 																																					}
-																																					uint64_t n274 = 0;
+																																					uint64_t n271 = 0;
 																																					for (;;) {
-																																						if (n274 == n267) {
-																																							p275 = p269;
-																																							n276 = n262;
-																																							n277 = n261;
-																																							n278 = n263;
-																																							p279 = p272;
-																																							n280 = n267;
+																																						if (n271 == n264) {
+																																							p272 = p266;
+																																							n273 = n259;
+																																							n274 = n258;
+																																							n275 = n260;
+																																							p276 = p269;
+																																							n277 = n264;
 																																							goto L28;
 																																						}
-																																						store8(inside(p272, n274), load8(inside(p266, n274)));
-																																						n274 = n274 + 1;
+																																						store8(inside(p269, n271), load8(inside(p263, n271)));
+																																						n271 = n271 + 1;
 																																					}
 																																				}
 																																			}
@@ -86094,141 +86156,143 @@ L27:
 																															}
 L25:
 																															{
-																																n231 = 0;
-																																n232 = 0;
-																																n233 = 4;
+																																n228 = 0;
+																																n229 = 0;
+																																n230 = 4;
 																																goto L24;
 																															}
 																														}
 																													}
 																												}
 																											}
-																											uint64_t n281 = 0;
+																											uint64_t n278 = 0;
 																											for (;;) {
-																												if (n281 == n251) {
-																													n282 = n251;
+																												if (n278 == n248) {
+																													n279 = n248;
 																													break;
 																												}
-																												if (load8(inside(p185 + 17, n281)) == 10) {
-																													n282 = n281;
+																												if (load8(inside(p182 + 17, n278)) == 10) {
+																													n279 = n278;
 																													break;
 																												}
-																												n281 = n281 + 1;
+																												n278 = n278 + 1;
 																											}
-																											if (n282 == 0) {
-																												p283 = p11;
+																											if (n279 == 0) {
+																												p280 = p11;
 																											} else {
-																												if ((int64_t)n282 < (int64_t)0) {
-																													n231 = 0;
-																													n232 = 4;
-																													n233 = 0;
+																												if ((int64_t)n279 < (int64_t)0) {
+																													n228 = 0;
+																													n229 = 4;
+																													n230 = 0;
 																													goto L24;
 																												}
-																												of_i64_i64 s284 = rattle_alloc(n282, 1);
-																												if ((s284.f0 & 1) == 0) {
-																													n231 = 0;
-																													n232 = 4;
-																													n233 = 0;
+																												of_i64_i64 s281 = rattle_alloc(n279, 1);
+																												if ((s281.f0 & 1) == 0) {
+																													n228 = 0;
+																													n229 = 4;
+																													n230 = 0;
 																													goto L24;
 																												}
-																												p283 = (byte *)(uintptr_t)s284.f1;
+																												p280 = (byte *)(uintptr_t)s281.f1;
 																											}
-																											if (((uint64_t)(uintptr_t)p283 - (uint64_t)(uintptr_t)at(p185, 17)) >= n282) {
-																												memmove(p283, at(p185, 17), (size_t)n282);
+																											if (((uint64_t)(uintptr_t)p280 - (uint64_t)(uintptr_t)at(p182, 17)) >= n279) {
+																												memmove(p280, at(p182, 17), (size_t)n279);
 																												goto L29;
 																											}
-																											n285 = 0;
-																											while (n285 != n282) {
-																												store8(inside(p283, n285), load8(inside(p185 + 17, n285)));
-																												n285 = n285 + 1;
+																											n282 = 0;
+																											while (n282 != n279) {
+																												store8(inside(p280, n282), load8(inside(p182 + 17, n282)));
+																												n282 = n282 + 1;
 																											}
 L29:
 																											{
-																												n231 = n282;
-																												n232 = (uint64_t)(uintptr_t)p283;
-																												n233 = 3;
+																												n228 = n279;
+																												n229 = (uint64_t)(uintptr_t)p280;
+																												n230 = 3;
 																											}
 																										}
 																									}
 L24:
 																									{
-																										if (n184 == 0) {
-																											n213 = n233;
-																											n214 = n232;
-																											n215 = n231;
-																											n216 = n231;
+																										if (n181 == 0) {
+																											n210 = n230;
+																											n211 = n229;
+																											n212 = n228;
+																											n213 = n228;
 																											goto L20;
 																										}
-																										rattle_dealloc(p185);
-																										n213 = n233;
-																										n214 = n232;
-																										n215 = n231;
-																										n216 = n231;
+																										rattle_dealloc(p182);
+																										n210 = n230;
+																										n211 = n229;
+																										n212 = n228;
+																										n213 = n228;
 																										goto L20;
 																									}
 																								}
-																								p275 = NULL;
-																								n276 = 0;
+																								p272 = NULL;
+																								n273 = 0;
+																								n274 = 0;
+																								n275 = 0;
+																								p276 = NULL;
 																								n277 = 0;
-																								n278 = 0;
-																								p279 = NULL;
-																								n280 = 0;
 L28:
 																								{
-																									uint64_t n370, n371, n372, n373, n374, n375, n377, n378, n379, n381, n382, n383, n384, n389, n390, n392, n393, n395, n398, n399, n401, n402, n403, n549, n550, n554, n555, n560, n562, n564, n568, n570, n573;
-																									uint8_t n376, n380, n387, n556, n557, n566, n574, n575, n576, n577, n578;
-																									uint32_t n385, n386, n567, n572;
-																									byte *p388, *p391, *p394, *p396, *p397, *p400, *p558, *p559, *p561, *p563, *p565, *p569, *p571;
-																									bool b552, b553;
-																									if (n184 != 0)
-																										rattle_dealloc(p185);
-																									uint32_t n286 = load32u(p50);
-																									uint64_t n287 = load64u(p50 + 8);
-																									uint64_t n288 = load64u(p50 + 16);
-																									uint64_t n289 = load64u(p50 + 24);
-																									uint8_t n290 = load8(p50 + 64);
-																									byte *p291 = loadptr(p50 + 32);
-																									uint64_t n292 = load64(p50 + 40);
-																									uint64_t n293 = load64(p50 + 48);
-																									uint32_t n294 = load32(p50 + 56);
-																									uint32_t n295 = load32(p50 + 60);
-																									byte *p296 = loadptr(p50 + 72);
-																									uint64_t n297 = load64(p50 + 80);
-																									uint64_t n298 = load64(p50 + 88);
-																									uint64_t n299 = (uint64_t)n286;
-																									if (b230) {
-																										uint64_t n302, n303, n304, n305, n307, n308, n309, n311, n312, n313, n314, n319, n320, n322, n323, n325, n328, n329, n331, n332, n333;
-																										uint8_t n306, n310, n317;
-																										uint32_t n315, n316;
-																										byte *p318, *p321, *p324, *p326, *p327, *p330;
-																										uint8_t n300 = (uint8_t)n289;
-																										uint64_t n301 = n289 & UINT64_C(18446744073709551360);
-																										memset(p42, 0, 120);
-																										memset(p44, 0, 56);
-																										if (n100 == 1) {
-																											if (n278 != 0)
-																												rattle_dealloc(p275);
-																											if (n280 != 0)
-																												rattle_dealloc(p279);
-																											(void)os_close(n286);
-																											if (n289 != 0)
-																												rattle_dealloc((byte *)(uintptr_t)n287);
-																											if (n293 != 0)
-																												rattle_dealloc(p291);
-																											(void)os_close(n294);
-																											if (n290 != 0) {
-																												if (n298 != 0)
-																													rattle_dealloc(p296);
+																									uint64_t n367, n368, n369, n370, n371, n372, n374, n375, n376, n378, n379, n380, n381, n386, n387, n389, n390, n392, n395, n396, n398, n399, n400, n571, n577;
+																									uint8_t n373, n377, n384, n572, n573, n574, n575, n576;
+																									uint32_t n382, n383;
+																									byte *p385, *p388, *p391, *p393, *p394, *p397;
+																									if (n181 != 0)
+																										rattle_dealloc(p182);
+																									uint32_t n283 = load32u(p47);
+																									uint64_t n284 = load64u(p47 + 8);
+																									uint64_t n285 = load64u(p47 + 16);
+																									uint64_t n286 = load64u(p47 + 24);
+																									uint8_t n287 = load8(p47 + 64);
+																									byte *p288 = loadptr(p47 + 32);
+																									uint64_t n289 = load64(p47 + 40);
+																									uint64_t n290 = load64(p47 + 48);
+																									uint32_t n291 = load32(p47 + 56);
+																									uint32_t n292 = load32(p47 + 60);
+																									byte *p293 = loadptr(p47 + 72);
+																									uint64_t n294 = load64(p47 + 80);
+																									uint64_t n295 = load64(p47 + 88);
+																									uint64_t n296 = (uint64_t)n283;
+																									if (b227) {
+																										uint64_t n299, n300, n301, n302, n304, n305, n306, n308, n309, n310, n311, n316, n317, n319, n320, n322, n325, n326, n328, n329, n330;
+																										uint8_t n303, n307, n314;
+																										uint32_t n312, n313;
+																										byte *p315, *p318, *p321, *p323, *p324, *p327;
+																										uint8_t n297 = (uint8_t)n286;
+																										uint64_t n298 = n286 & UINT64_C(18446744073709551360);
+																										memset(p39, 0, 120);
+																										memset(p41, 0, 56);
+																										if (n92 == 1) {
+																											if (n275 != 0)
+																												rattle_dealloc(p272);
+																											if (n277 != 0)
+																												rattle_dealloc(p276);
+																											(void)os_close(n283);
+																											if (n286 != 0)
+																												rattle_dealloc((byte *)(uintptr_t)n284);
+																											if (n290 != 0)
+																												rattle_dealloc(p288);
+																											(void)os_close(n291);
+																											if (n287 != 0) {
+																												if (n295 != 0)
+																													rattle_dealloc(p293);
 																											}
-																											if (n181 != 0)
-																												rattle_dealloc(p179);
-																											memset(p52, 0, 56);
+																											if (n178 != 0)
+																												rattle_dealloc(p176);
+																											memset(p49, 0, 56);
+																											n299 = 0;
+																											n300 = 0;
+																											n301 = 0;
 																											n302 = 0;
-																											n303 = 0;
-																											n304 = 0;
+																											n303 = 1;
+																											n304 = 1;
 																											n305 = 0;
-																											n306 = 1;
-																											n307 = 1;
+																											n306 = 0;
+																											n307 = 0;
 																											n308 = 0;
 																											n309 = 0;
 																											n310 = 0;
@@ -86236,7 +86300,7 @@ L28:
 																											n312 = 0;
 																											n313 = 0;
 																											n314 = 0;
-																											n315 = 0;
+																											p315 = NULL;
 																											n316 = 0;
 																											n317 = 0;
 																											p318 = NULL;
@@ -86244,198 +86308,198 @@ L28:
 																											n320 = 0;
 																											p321 = NULL;
 																											n322 = 0;
-																											n323 = 0;
+																											p323 = NULL;
 																											p324 = NULL;
 																											n325 = 0;
-																											p326 = NULL;
+																											n326 = 0;
 																											p327 = NULL;
 																											n328 = 0;
 																											n329 = 0;
-																											p330 = NULL;
-																											n331 = 0;
-																											n332 = 0;
-																											n333 = 0;
+																											n330 = 0;
 																										} else {
-																											uint64_t n334, n336, n337, n338, n339, n341, n344, n345, n347, n348, n349, n351, n352, n353, n354, n355, n356, n361, n362, n363, n365, n366;
-																											byte *p340, *p342, *p343, *p346, *p350, *p360;
-																											uint32_t n357, n358;
-																											uint8_t n359, n364;
-																											switch (MOSTLY_0(n95)) {
+																											uint64_t n331, n333, n334, n335, n336, n338, n341, n342, n344, n345, n346, n348, n349, n350, n351, n352, n353, n358, n359, n360, n362, n363;
+																											byte *p337, *p339, *p340, *p343, *p347, *p357;
+																											uint32_t n354, n355;
+																											uint8_t n356, n361;
+																											switch (MOSTLY_0(n163)) {
 																											case 0:
 																											case 1:
 																											case 2:
 																											case 4: {
-																												n334 = UINT64_C(1152921504606846975);
+																												n331 = UINT64_C(1152921504606846975);
 																												break;
 																											}
 																											case 3: {
-																												n334 = 8639999;
+																												n331 = 8639999;
 																												break;
 																											}
 																											default: {
 																												UNREACHABLE();
 																											}
 																											}
-																											store64u(p43, n97);
-																											store64u(p43 + 8, n98);
-																											store64u(p43 + 16, n334);
-																											tp_saved_text_read_saved(p42, p275, n278, p43);
-																											uint8_t n335 = load8(p42);
-																											if (n335 == 0) {
-																												memcpy(p44, p42 + 8, 56);
-																												n336 = n217;
-																												n337 = n277;
-																												n338 = n276;
-																												n339 = n280;
-																												p340 = p275;
-																												n341 = n278;
-																												p342 = p279;
-																												p343 = loadptr(p42 + 64);
-																												n344 = load64(p42 + 72);
-																												n345 = load64(p42 + 80);
-																												p346 = loadptr(p42 + 88);
-																												n347 = load64(p42 + 96);
-																												n348 = load64(p42 + 104);
-																												n349 = load64(p42 + 112);
-																												p350 = p179;
-																												n351 = n180;
-																												n352 = n181;
-																												n353 = n301;
-																												n354 = (uint64_t)(uintptr_t)p291;
+																											store64u(p40, n165);
+																											store64u(p40 + 8, n166);
+																											store64u(p40 + 16, n331);
+																											tp_saved_text_read_saved(p39, p272, n275, p40);
+																											uint8_t n332 = load8(p39);
+																											if (n332 == 0) {
+																												memcpy(p41, p39 + 8, 56);
+																												n333 = n214;
+																												n334 = n274;
+																												n335 = n273;
+																												n336 = n277;
+																												p337 = p272;
+																												n338 = n275;
+																												p339 = p276;
+																												p340 = loadptr(p39 + 64);
+																												n341 = load64(p39 + 72);
+																												n342 = load64(p39 + 80);
+																												p343 = loadptr(p39 + 88);
+																												n344 = load64(p39 + 96);
+																												n345 = load64(p39 + 104);
+																												n346 = load64(p39 + 112);
+																												p347 = p176;
+																												n348 = n177;
+																												n349 = n178;
+																												n350 = n298;
+																												n351 = (uint64_t)(uintptr_t)p288;
+																												n352 = n289;
+																												n353 = n290;
+																												n354 = n291;
 																												n355 = n292;
-																												n356 = n293;
-																												n357 = n294;
-																												n358 = n295;
-																												n359 = n290;
-																												p360 = p296;
+																												n356 = n287;
+																												p357 = p293;
+																												n358 = n294;
+																												n359 = n295;
+																												n360 = n285;
 																												n361 = n297;
-																												n362 = n298;
-																												n363 = n288;
-																												n364 = n300;
-																												n365 = n299;
-																												n366 = n287;
+																												n362 = n296;
+																												n363 = n284;
 																											} else {
-																												uint64_t n367 = (uint64_t)load8(p42 + 8);
-																												uint64_t n368 = load64u(p42 + 16);
-																												uint8_t n369 = load8(p42 + 24);
-																												if (n278 != 0)
-																													rattle_dealloc(p275);
-																												if (n280 != 0)
-																													rattle_dealloc(p279);
-																												(void)os_close(n286);
-																												if (n289 != 0)
-																													rattle_dealloc((byte *)(uintptr_t)n287);
-																												if (n293 != 0)
-																													rattle_dealloc(p291);
-																												(void)os_close(n294);
-																												if (n290 != 0) {
-																													if (n298 != 0)
-																														rattle_dealloc(p296);
+																												uint64_t n364 = (uint64_t)load8(p39 + 8);
+																												uint64_t n365 = load64u(p39 + 16);
+																												uint8_t n366 = load8(p39 + 24);
+																												if (n275 != 0)
+																													rattle_dealloc(p272);
+																												if (n277 != 0)
+																													rattle_dealloc(p276);
+																												(void)os_close(n283);
+																												if (n286 != 0)
+																													rattle_dealloc((byte *)(uintptr_t)n284);
+																												if (n290 != 0)
+																													rattle_dealloc(p288);
+																												(void)os_close(n291);
+																												if (n287 != 0) {
+																													if (n295 != 0)
+																														rattle_dealloc(p293);
 																												}
-																												if (n181 == 0) {
+																												if (n178 == 0) {
+																													n333 = 0;
+																													n334 = 0;
+																													n335 = 0;
 																													n336 = 0;
-																													n337 = 0;
+																													p337 = NULL;
 																													n338 = 0;
-																													n339 = 0;
+																													p339 = NULL;
 																													p340 = NULL;
 																													n341 = 0;
-																													p342 = NULL;
+																													n342 = 0;
 																													p343 = NULL;
 																													n344 = 0;
 																													n345 = 0;
-																													p346 = NULL;
-																													n347 = 0;
+																													n346 = 0;
+																													p347 = NULL;
 																													n348 = 0;
 																													n349 = 0;
-																													p350 = NULL;
+																													n350 = 0;
 																													n351 = 0;
 																													n352 = 0;
 																													n353 = 0;
 																													n354 = 0;
 																													n355 = 0;
 																													n356 = 0;
-																													n357 = 0;
+																													p357 = NULL;
 																													n358 = 0;
 																													n359 = 0;
-																													p360 = NULL;
-																													n361 = 0;
-																													n362 = 0;
-																													n363 = n368;
-																													n364 = n369;
-																													n365 = 2;
-																													n366 = n367;
+																													n360 = n365;
+																													n361 = n366;
+																													n362 = 2;
+																													n363 = n364;
 																												} else {
-																													rattle_dealloc(p179);
+																													rattle_dealloc(p176);
+																													n333 = 0;
+																													n334 = 0;
+																													n335 = 0;
 																													n336 = 0;
-																													n337 = 0;
+																													p337 = NULL;
 																													n338 = 0;
-																													n339 = 0;
+																													p339 = NULL;
 																													p340 = NULL;
 																													n341 = 0;
-																													p342 = NULL;
+																													n342 = 0;
 																													p343 = NULL;
 																													n344 = 0;
 																													n345 = 0;
-																													p346 = NULL;
-																													n347 = 0;
+																													n346 = 0;
+																													p347 = NULL;
 																													n348 = 0;
 																													n349 = 0;
-																													p350 = NULL;
+																													n350 = 0;
 																													n351 = 0;
 																													n352 = 0;
 																													n353 = 0;
 																													n354 = 0;
 																													n355 = 0;
 																													n356 = 0;
-																													n357 = 0;
+																													p357 = NULL;
 																													n358 = 0;
 																													n359 = 0;
-																													p360 = NULL;
-																													n361 = 0;
-																													n362 = 0;
-																													n363 = n368;
-																													n364 = n369;
-																													n365 = 2;
-																													n366 = n367;
+																													n360 = n365;
+																													n361 = n366;
+																													n362 = 2;
+																													n363 = n364;
 																												}
 																											}
-																											memcpy(p52, p44, 56);
+																											memcpy(p49, p41, 56);
+																											n299 = n333;
+																											n300 = n334;
+																											n301 = n335;
 																											n302 = n336;
-																											n303 = n337;
-																											n304 = n338;
-																											n305 = n339;
-																											n306 = n335;
-																											n307 = n365;
-																											n308 = n366;
-																											n309 = n363;
-																											n310 = n364;
+																											n303 = n332;
+																											n304 = n362;
+																											n305 = n363;
+																											n306 = n360;
+																											n307 = n361;
+																											n308 = n350;
+																											n309 = n351;
+																											n310 = n352;
 																											n311 = n353;
 																											n312 = n354;
 																											n313 = n355;
 																											n314 = n356;
-																											n315 = n357;
+																											p315 = p357;
 																											n316 = n358;
 																											n317 = n359;
-																											p318 = p360;
-																											n319 = n361;
-																											n320 = n362;
-																											p321 = p350;
-																											n322 = n351;
-																											n323 = n352;
+																											p318 = p347;
+																											n319 = n348;
+																											n320 = n349;
+																											p321 = p337;
+																											n322 = n338;
+																											p323 = p339;
 																											p324 = p340;
 																											n325 = n341;
-																											p326 = p342;
+																											n326 = n342;
 																											p327 = p343;
 																											n328 = n344;
 																											n329 = n345;
-																											p330 = p346;
-																											n331 = n347;
-																											n332 = n348;
-																											n333 = n349;
+																											n330 = n346;
 																										}
-																										n370 = n302;
-																										n371 = 0;
-																										n372 = 0;
+																										n367 = n299;
+																										n368 = 0;
+																										n369 = 0;
+																										n370 = n300;
+																										n371 = n301;
+																										n372 = n302;
 																										n373 = n303;
 																										n374 = n304;
 																										n375 = n305;
@@ -86448,7 +86512,7 @@ L28:
 																										n382 = n312;
 																										n383 = n313;
 																										n384 = n314;
-																										n385 = n315;
+																										p385 = p315;
 																										n386 = n316;
 																										n387 = n317;
 																										p388 = p318;
@@ -86456,165 +86520,165 @@ L28:
 																										n390 = n320;
 																										p391 = p321;
 																										n392 = n322;
-																										n393 = n323;
+																										p393 = p323;
 																										p394 = p324;
 																										n395 = n325;
-																										p396 = p326;
+																										n396 = n326;
 																										p397 = p327;
 																										n398 = n328;
 																										n399 = n329;
-																										p400 = p330;
-																										n401 = n331;
-																										n402 = n332;
-																										n403 = n333;
+																										n400 = n330;
 																									} else {
-																										uint64_t n408, n409, n423, n424, n425, n427, n428, n429, n431, n432, n433, n434, n439, n440, n442, n443, n445, n448, n449, n451, n452, n453;
-																										byte *p410, *p438, *p441, *p444, *p446, *p447, *p450;
-																										uint8_t n426, n430, n437;
-																										uint32_t n435, n436;
-																										memset(p36, 0, 56);
+																										uint64_t n405, n406, n420, n421, n422, n424, n425, n426, n428, n429, n430, n431, n436, n437, n439, n440, n442, n445, n446, n448, n449, n450;
+																										byte *p407, *p435, *p438, *p441, *p443, *p444, *p447;
+																										uint8_t n423, n427, n434;
+																										uint32_t n432, n433;
+																										memset(p33, 0, 56);
+																										memset(p35, 0, 56);
+																										memset(p36, 0, 120);
+																										memset(p37, 0, 24);
 																										memset(p38, 0, 56);
-																										memset(p39, 0, 120);
-																										memset(p40, 0, 24);
-																										memset(p41, 0, 56);
-																										store64(p37, n299);
-																										store64(p37 + 8, n287);
-																										store64(p37 + 16, n288);
-																										store64(p37 + 24, n289);
-																										storeptr(p37 + 32, p291);
-																										store64(p37 + 40, n292);
-																										store64(p37 + 48, n293);
-																										store32(p37 + 56, n294);
-																										store32(p37 + 60, n295);
-																										store8(p37 + 64, n290);
-																										store56u(p37 + 65, 0);
-																										storeptr(p37 + 72, p296);
-																										store64(p37 + 80, n297);
-																										store64(p37 + 88, n298);
-																										store64(p37 + 96, n217);
-																										store64(p37 + 104, 0);
-																										byte *p404 = (byte *)(uintptr_t)n287;
-																										if (n100 == 1) {
-																											byte *p405;
-																											if (n102 == 0) {
-																												p405 = p11;
+																										store64(p34, n296);
+																										store64(p34 + 8, n284);
+																										store64(p34 + 16, n285);
+																										store64(p34 + 24, n286);
+																										storeptr(p34 + 32, p288);
+																										store64(p34 + 40, n289);
+																										store64(p34 + 48, n290);
+																										store32(p34 + 56, n291);
+																										store32(p34 + 60, n292);
+																										store8(p34 + 64, n287);
+																										store56u(p34 + 65, 0);
+																										storeptr(p34 + 72, p293);
+																										store64(p34 + 80, n294);
+																										store64(p34 + 88, n295);
+																										store64(p34 + 96, n214);
+																										store64(p34 + 104, 0);
+																										byte *p401 = (byte *)(uintptr_t)n284;
+																										if (n92 == 1) {
+																											byte *p402;
+																											if (n94 == 0) {
+																												p402 = p11;
 																											} else {
-																												if ((int64_t)n102 < (int64_t)0)
+																												if ((int64_t)n94 < (int64_t)0)
 																													goto L30;
-																												of_i64_i64 s406 = rattle_alloc(n102, 1);
-																												if ((s406.f0 & 1) == 0)
+																												of_i64_i64 s403 = rattle_alloc(n94, 1);
+																												if ((s403.f0 & 1) == 0)
 																													goto L30;
-																												p405 = (byte *)(uintptr_t)s406.f1;
+																												p402 = (byte *)(uintptr_t)s403.f1;
 																											}
-																											if (((uint64_t)(uintptr_t)p405 - (uint64_t)(uintptr_t)p101) >= n102) {
-																												memmove(p405, p101, (size_t)n102);
-																												n408 = n102;
-																												n409 = n102;
-																												p410 = p405;
+																											if (((uint64_t)(uintptr_t)p402 - (uint64_t)(uintptr_t)p93) >= n94) {
+																												memmove(p402, p93, (size_t)n94);
+																												n405 = n94;
+																												n406 = n94;
+																												p407 = p402;
 																												goto L31;
 																											}
-																											uint64_t n407 = 0;
+																											uint64_t n404 = 0;
 																											for (;;) {
-																												if (n407 == n102) {
-																													n408 = n102;
-																													n409 = n102;
-																													p410 = p405;
+																												if (n404 == n94) {
+																													n405 = n94;
+																													n406 = n94;
+																													p407 = p402;
 																													goto L31;
 																												}
-																												store8(inside(p405, n407), load8(inside(p101, n407)));
-																												n407 = n407 + 1;
+																												store8(inside(p402, n404), load8(inside(p93, n404)));
+																												n404 = n404 + 1;
 																											}
 																										} else {
-																											of_i64_i64 s411 = rattle_alloc(10, 1);
-																											if ((s411.f0 & 1) != 0) {
-																												uint64_t n413;
-																												byte *p412 = (byte *)(uintptr_t)s411.f1;
-																												if ((s411.f1 - (uint64_t)(uintptr_t)(byte *)tp_static_262) >= 10) {
-																													memcpy(p412, (byte *)tp_static_262, 10);
+																											of_i64_i64 s408 = rattle_alloc(10, 1);
+																											if ((s408.f0 & 1) != 0) {
+																												uint64_t n410;
+																												byte *p409 = (byte *)(uintptr_t)s408.f1;
+																												if ((s408.f1 - (uint64_t)(uintptr_t)(byte *)tp_static_262) >= 10) {
+																													memcpy(p409, (byte *)tp_static_262, 10);
 																													goto L32;
 																												}
-																												n413 = 0;
-																												while (n413 != 10) {
-																													store8(inside(p412, n413), load8(inside((byte *)tp_static_262, n413)));
-																													n413 = n413 + 1;
+																												n410 = 0;
+																												while (n410 != 10) {
+																													store8(inside(p409, n410), load8(inside((byte *)tp_static_262, n410)));
+																													n410 = n410 + 1;
 																												}
 L32:
 																												{
-																													storeptru(p35, p412);
-																													store64u(p35 + 8, 10);
-																													store64u(p35 + 16, 10);
-																													uint8_t n414 = tp_keeping_push_number(p35, n99);
-																													if ((n414 & 1) == 0) {
-																														uint64_t n418, n419, n422;
-																														uint64_t n415 = load64(p35 + 16);
-																														uint64_t n416 = load64(p35 + 8);
-																														if ((n415 - n416) < 15) {
-																															bool b417 = tp_Vec_grow_amortized(p35, 15);
-																															if (!b417) {
-																																if (load64u(p35 + 16) == 0)
+																													storeptru(p32, p409);
+																													store64u(p32 + 8, 10);
+																													store64u(p32 + 16, 10);
+																													uint8_t n411 = tp_keeping_push_number(p32, n167);
+																													if ((n411 & 1) == 0) {
+																														uint64_t n415, n416, n419;
+																														uint64_t n412 = load64(p32 + 16);
+																														uint64_t n413 = load64(p32 + 8);
+																														if ((n412 - n413) < 15) {
+																															bool b414 = tp_Vec_grow_amortized(p32, 15);
+																															if (!b414) {
+																																if (load64u(p32 + 16) == 0)
 																																	goto L33;
-																																rattle_dealloc(loadptru(p35));
+																																rattle_dealloc(loadptru(p32));
 																																goto L33;
 																															}
-																															n418 = load64(p35 + 16);
-																															n419 = load64(p35 + 8);
+																															n415 = load64(p32 + 16);
+																															n416 = load64(p32 + 8);
 																														} else {
-																															n418 = n415;
-																															n419 = n416;
+																															n415 = n412;
+																															n416 = n413;
 																														}
-																														byte *p420 = loadptr(p35);
-																														byte *p421 = at(p420, n419);
-																														if (((uint64_t)(uintptr_t)p421 - (uint64_t)(uintptr_t)(byte *)tp_static_263) >= 15) {
-																															memcpy(p421, (byte *)tp_static_263, 15);
+																														byte *p417 = loadptr(p32);
+																														byte *p418 = at(p417, n416);
+																														if (((uint64_t)(uintptr_t)p418 - (uint64_t)(uintptr_t)(byte *)tp_static_263) >= 15) {
+																															memcpy(p418, (byte *)tp_static_263, 15);
 																															goto L34;
 																														}
-																														n422 = 0;
-																														while (n422 != 15) {
-																															store8(inside(p421, n422), load8(inside((byte *)tp_static_263, n422)));
-																															n422 = n422 + 1;
+																														n419 = 0;
+																														while (n419 != 15) {
+																															store8(inside(p418, n419), load8(inside((byte *)tp_static_263, n419)));
+																															n419 = n419 + 1;
 																														}
 L34:
 																														{
-																															n408 = n418;
-																															n409 = n419 + 15;
-																															p410 = p420;
+																															n405 = n415;
+																															n406 = n416 + 15;
+																															p407 = p417;
 																															goto L31;
 																														}
 																													}
-																													if (load64u(p35 + 16) != 0)
-																														rattle_dealloc(loadptru(p35));
+																													if (load64u(p32 + 16) != 0)
+																														rattle_dealloc(loadptru(p32));
 																												}
 																											}
 L33: ;
 																										}
 L30:
 																										{
-																											(void)os_close(n286);
-																											if (n289 != 0)
-																												rattle_dealloc(p404);
-																											if (n293 != 0)
-																												rattle_dealloc(p291);
-																											(void)os_close(n294);
-																											if (n290 != 0) {
-																												if (n298 != 0)
-																													rattle_dealloc(p296);
+																											(void)os_close(n283);
+																											if (n286 != 0)
+																												rattle_dealloc(p401);
+																											if (n290 != 0)
+																												rattle_dealloc(p288);
+																											(void)os_close(n291);
+																											if (n287 != 0) {
+																												if (n295 != 0)
+																													rattle_dealloc(p293);
 																											}
-																											if (n181 != 0)
-																												rattle_dealloc(p179);
-																											memset(p52, 0, 56);
-																											n423 = 0;
+																											if (n178 != 0)
+																												rattle_dealloc(p176);
+																											memset(p49, 0, 56);
+																											n420 = 0;
+																											n421 = 0;
+																											n422 = 0;
+																											n423 = 1;
 																											n424 = 0;
 																											n425 = 0;
-																											n426 = 1;
+																											n426 = 4;
 																											n427 = 0;
 																											n428 = 0;
-																											n429 = 4;
+																											n429 = 0;
 																											n430 = 0;
 																											n431 = 0;
 																											n432 = 0;
 																											n433 = 0;
 																											n434 = 0;
-																											n435 = 0;
+																											p435 = NULL;
 																											n436 = 0;
 																											n437 = 0;
 																											p438 = NULL;
@@ -86622,306 +86686,306 @@ L30:
 																											n440 = 0;
 																											p441 = NULL;
 																											n442 = 0;
-																											n443 = 0;
+																											p443 = NULL;
 																											p444 = NULL;
 																											n445 = 0;
-																											p446 = NULL;
+																											n446 = 0;
 																											p447 = NULL;
 																											n448 = 0;
 																											n449 = 0;
-																											p450 = NULL;
-																											n451 = 0;
-																											n452 = 0;
-																											n453 = 0;
+																											n450 = 0;
 																											goto L35;
 																										}
 L31:
 																										{
-																											uint64_t n454;
-																											switch (MOSTLY_0(n95)) {
+																											uint64_t n451;
+																											switch (MOSTLY_0(n163)) {
 																											case 0:
 																											case 1:
 																											case 2:
 																											case 4: {
-																												n454 = UINT64_C(1152921504606846975);
+																												n451 = UINT64_C(1152921504606846975);
 																												break;
 																											}
 																											case 3: {
-																												n454 = 8639999;
+																												n451 = 8639999;
 																												break;
 																											}
 																											default: {
 																												UNREACHABLE();
 																											}
 																											}
-																											store64u(p40, n97);
-																											store64u(p40 + 8, n98);
-																											store64u(p40 + 16, n454);
-																											tp_saved_text_read_saved(p39, p410, n409, p40);
-																											if (load8(p39) == 0) {
-																												uint64_t n485, n486, n487, n488, n490, n494, n495, n497, n498, n499, n501, n502, n504, n505, n506, n508, n512, n513, n515, n516, n519, n520, n525, n529, n530;
-																												byte *p489, *p496, *p500, *p503, *p507, *p509, *p523, *p524, *p528;
-																												uint8_t n491, n510, n511, n514, n521, n522, n527;
-																												uint32_t n492, n493, n526;
-																												byte *p455 = loadptru(p39 + 64);
-																												uint64_t n456 = load64u(p39 + 72);
-																												uint64_t n457 = load64u(p39 + 80);
-																												byte *p458 = loadptru(p39 + 88);
-																												uint64_t n459 = load64u(p39 + 96);
-																												uint64_t n460 = load64u(p39 + 104);
-																												uint64_t n461 = load64u(p39 + 112);
-																												memcpy(p38, p39 + 8, 56);
-																												memset(p33, 0, 32);
-																												memset(p34, 0, 24);
-																												tp_beginning_preamble(p33, p179, n180, 0, 0, p410, n409);
-																												uint8_t n462 = load8(p33 + 8);
-																												uint8_t n463 = load8(p33 + 9);
-																												uint64_t n464 = load64u(p33 + 16);
-																												if (load8(p33) == 0) {
-																													bool b465 = load64u(p33 + 24) == 0;
-																													byte *p466 = (byte *)(uintptr_t)((((uint64_t)n463 << 8) | (uint64_t)n462) | (load48u(p33 + 10) << 16));
-																													tp_Journal_begin_anew(p34, p37, p466, n464);
-																													if (load8(p34) == 0) {
-																														if (!b465)
-																															rattle_dealloc(p466);
-																														uint64_t n467 = load64u(p37);
-																														uint64_t n468 = load64u(p37 + 8);
-																														uint8_t n469 = load8(p37 + 16);
-																														uint8_t n470 = load8(p37 + 17);
-																														uint64_t n471 = load48u(p37 + 18);
-																														uint64_t n472 = load64u(p37 + 24);
-																														uint64_t n473 = load64u(p37 + 32);
-																														uint64_t n474 = load64(p37 + 40);
-																														uint64_t n475 = load64(p37 + 48);
-																														uint32_t n476 = load32(p37 + 56);
-																														uint32_t n477 = load32(p37 + 60);
-																														uint8_t n478 = load8(p37 + 64);
-																														uint64_t n479 = load56u(p37 + 65);
-																														byte *p480 = loadptr(p37 + 72);
-																														uint64_t n481 = load64(p37 + 80);
-																														uint64_t n482 = load64(p37 + 88);
-																														uint64_t n483 = load64(p37 + 96);
-																														uint64_t n484 = load64(p37 + 104);
-																														memcpy(p41, p38, 56);
-																														n485 = n484;
-																														n486 = n483;
-																														n487 = n482;
-																														n488 = n481;
-																														p489 = p480;
-																														n490 = n479;
-																														n491 = n478;
-																														n492 = n477;
-																														n493 = n476;
-																														n494 = n475;
-																														n495 = n474;
-																														p496 = p179;
-																														n497 = n180;
-																														n498 = n181;
-																														n499 = n471 << 16;
+																											store64u(p37, n165);
+																											store64u(p37 + 8, n166);
+																											store64u(p37 + 16, n451);
+																											tp_saved_text_read_saved(p36, p407, n406, p37);
+																											if (load8(p36) == 0) {
+																												uint64_t n482, n483, n484, n485, n487, n491, n492, n494, n495, n496, n498, n499, n501, n502, n503, n505, n509, n510, n512, n513, n516, n517, n522, n526, n527;
+																												byte *p486, *p493, *p497, *p500, *p504, *p506, *p520, *p521, *p525;
+																												uint8_t n488, n507, n508, n511, n518, n519, n524;
+																												uint32_t n489, n490, n523;
+																												byte *p452 = loadptru(p36 + 64);
+																												uint64_t n453 = load64u(p36 + 72);
+																												uint64_t n454 = load64u(p36 + 80);
+																												byte *p455 = loadptru(p36 + 88);
+																												uint64_t n456 = load64u(p36 + 96);
+																												uint64_t n457 = load64u(p36 + 104);
+																												uint64_t n458 = load64u(p36 + 112);
+																												memcpy(p35, p36 + 8, 56);
+																												memset(p30, 0, 32);
+																												memset(p31, 0, 24);
+																												tp_beginning_preamble(p30, p176, n177, 0, 0, p407, n406);
+																												uint8_t n459 = load8(p30 + 8);
+																												uint8_t n460 = load8(p30 + 9);
+																												uint64_t n461 = load64u(p30 + 16);
+																												if (load8(p30) == 0) {
+																													bool b462 = load64u(p30 + 24) == 0;
+																													byte *p463 = (byte *)(uintptr_t)((((uint64_t)n460 << 8) | (uint64_t)n459) | (load48u(p30 + 10) << 16));
+																													tp_Journal_begin_anew(p31, p34, p463, n461);
+																													if (load8(p31) == 0) {
+																														if (!b462)
+																															rattle_dealloc(p463);
+																														uint64_t n464 = load64u(p34);
+																														uint64_t n465 = load64u(p34 + 8);
+																														uint8_t n466 = load8(p34 + 16);
+																														uint8_t n467 = load8(p34 + 17);
+																														uint64_t n468 = load48u(p34 + 18);
+																														uint64_t n469 = load64u(p34 + 24);
+																														uint64_t n470 = load64u(p34 + 32);
+																														uint64_t n471 = load64(p34 + 40);
+																														uint64_t n472 = load64(p34 + 48);
+																														uint32_t n473 = load32(p34 + 56);
+																														uint32_t n474 = load32(p34 + 60);
+																														uint8_t n475 = load8(p34 + 64);
+																														uint64_t n476 = load56u(p34 + 65);
+																														byte *p477 = loadptr(p34 + 72);
+																														uint64_t n478 = load64(p34 + 80);
+																														uint64_t n479 = load64(p34 + 88);
+																														uint64_t n480 = load64(p34 + 96);
+																														uint64_t n481 = load64(p34 + 104);
+																														memcpy(p38, p35, 56);
+																														n482 = n481;
+																														n483 = n480;
+																														n484 = n479;
+																														n485 = n478;
+																														p486 = p477;
+																														n487 = n476;
+																														n488 = n475;
+																														n489 = n474;
+																														n490 = n473;
+																														n491 = n472;
+																														n492 = n471;
+																														p493 = p176;
+																														n494 = n177;
+																														n495 = n178;
+																														n496 = n468 << 16;
+																														p497 = p452;
+																														n498 = n453;
+																														n499 = n454;
 																														p500 = p455;
 																														n501 = n456;
 																														n502 = n457;
-																														p503 = p458;
-																														n504 = n459;
-																														n505 = n460;
-																														n506 = n461;
-																														p507 = p410;
-																														n508 = n408;
-																														p509 = p11;
-																														n510 = n469;
-																														n511 = n470;
-																														n512 = n472;
-																														n513 = n473;
-																														n514 = 0;
-																														n515 = n467;
-																														n516 = n468;
+																														n503 = n458;
+																														p504 = p407;
+																														n505 = n405;
+																														p506 = p11;
+																														n507 = n466;
+																														n508 = n467;
+																														n509 = n469;
+																														n510 = n470;
+																														n511 = 0;
+																														n512 = n464;
+																														n513 = n465;
 																														goto L36;
 																													}
-																													uint64_t n517 = load64u(p34 + 16);
-																													uint64_t n518 = ((uint64_t)load8(p34 + 9) << 8) | (uint64_t)load8(p34 + 8);
-																													if (!b465)
-																														rattle_dealloc(p466);
-																													if (n408 == 0) {
-																														n519 = n518;
-																														n520 = n517;
+																													uint64_t n514 = load64u(p31 + 16);
+																													uint64_t n515 = ((uint64_t)load8(p31 + 9) << 8) | (uint64_t)load8(p31 + 8);
+																													if (!b462)
+																														rattle_dealloc(p463);
+																													if (n405 == 0) {
+																														n516 = n515;
+																														n517 = n514;
 																													} else {
-																														rattle_dealloc(p410);
-																														n519 = n518;
-																														n520 = n517;
+																														rattle_dealloc(p407);
+																														n516 = n515;
+																														n517 = n514;
 																													}
 																												} else {
-																													if (n408 != 0)
-																														rattle_dealloc(p410);
-																													n519 = ((uint64_t)n463 << 8) | (uint64_t)n462;
-																													n520 = n464;
+																													if (n405 != 0)
+																														rattle_dealloc(p407);
+																													n516 = ((uint64_t)n460 << 8) | (uint64_t)n459;
+																													n517 = n461;
 																												}
-																												n521 = (uint8_t)n519;
-																												n522 = (uint8_t)(n519 >> 8);
+																												n518 = (uint8_t)n516;
+																												n519 = (uint8_t)(n516 >> 8);
+																												if (n454 != 0)
+																													rattle_dealloc(p452);
 																												if (n457 != 0)
 																													rattle_dealloc(p455);
-																												if (n460 != 0)
-																													rattle_dealloc(p458);
-																												p523 = loadptru(p37 + 8);
-																												p524 = loadptru(p37 + 32);
-																												n525 = load64u(p37 + 48);
-																												n526 = load32u(p37 + 56);
-																												n527 = load8(p37 + 64);
-																												p528 = loadptru(p37 + 72);
-																												n529 = load64u(p37 + 88);
-																												n530 = load64u(p37 + 24);
-																												(void)os_close(load32u(p37));
-																												if (n530 != 0)
-																													rattle_dealloc(p523);
-																												if (n525 != 0)
-																													rattle_dealloc(p524);
-																												(void)os_close(n526);
-																												if (n527 != 0) {
-																													if (n529 != 0)
-																														rattle_dealloc(p528);
+																												p520 = loadptru(p34 + 8);
+																												p521 = loadptru(p34 + 32);
+																												n522 = load64u(p34 + 48);
+																												n523 = load32u(p34 + 56);
+																												n524 = load8(p34 + 64);
+																												p525 = loadptru(p34 + 72);
+																												n526 = load64u(p34 + 88);
+																												n527 = load64u(p34 + 24);
+																												(void)os_close(load32u(p34));
+																												if (n527 != 0)
+																													rattle_dealloc(p520);
+																												if (n522 != 0)
+																													rattle_dealloc(p521);
+																												(void)os_close(n523);
+																												if (n524 != 0) {
+																													if (n526 != 0)
+																														rattle_dealloc(p525);
 																												}
-																												if (n181 == 0) {
+																												if (n178 == 0) {
+																													n482 = 0;
+																													n483 = 0;
+																													n484 = 0;
 																													n485 = 0;
-																													n486 = 0;
+																													p486 = NULL;
 																													n487 = 0;
 																													n488 = 0;
-																													p489 = NULL;
+																													n489 = 0;
 																													n490 = 0;
 																													n491 = 0;
 																													n492 = 0;
-																													n493 = 0;
+																													p493 = NULL;
 																													n494 = 0;
 																													n495 = 0;
-																													p496 = NULL;
-																													n497 = 0;
+																													n496 = 0;
+																													p497 = NULL;
 																													n498 = 0;
 																													n499 = 0;
 																													p500 = NULL;
 																													n501 = 0;
 																													n502 = 0;
-																													p503 = NULL;
-																													n504 = 0;
+																													n503 = 0;
+																													p504 = NULL;
 																													n505 = 0;
-																													n506 = 0;
-																													p507 = NULL;
-																													n508 = 0;
-																													p509 = NULL;
-																													n510 = n521;
-																													n511 = n522;
-																													n512 = n520;
+																													p506 = NULL;
+																													n507 = n518;
+																													n508 = n519;
+																													n509 = n517;
+																													n510 = 0;
+																													n511 = 1;
+																													n512 = 0;
 																													n513 = 0;
-																													n514 = 1;
-																													n515 = 0;
-																													n516 = 0;
 																												} else {
-																													rattle_dealloc(p179);
+																													rattle_dealloc(p176);
+																													n482 = 0;
+																													n483 = 0;
+																													n484 = 0;
 																													n485 = 0;
-																													n486 = 0;
+																													p486 = NULL;
 																													n487 = 0;
 																													n488 = 0;
-																													p489 = NULL;
+																													n489 = 0;
 																													n490 = 0;
 																													n491 = 0;
 																													n492 = 0;
-																													n493 = 0;
+																													p493 = NULL;
 																													n494 = 0;
 																													n495 = 0;
-																													p496 = NULL;
-																													n497 = 0;
+																													n496 = 0;
+																													p497 = NULL;
 																													n498 = 0;
 																													n499 = 0;
 																													p500 = NULL;
 																													n501 = 0;
 																													n502 = 0;
-																													p503 = NULL;
-																													n504 = 0;
+																													n503 = 0;
+																													p504 = NULL;
 																													n505 = 0;
-																													n506 = 0;
-																													p507 = NULL;
-																													n508 = 0;
-																													p509 = NULL;
-																													n510 = n521;
-																													n511 = n522;
-																													n512 = n520;
+																													p506 = NULL;
+																													n507 = n518;
+																													n508 = n519;
+																													n509 = n517;
+																													n510 = 0;
+																													n511 = 1;
+																													n512 = 0;
 																													n513 = 0;
-																													n514 = 1;
-																													n515 = 0;
-																													n516 = 0;
 																												}
 L36:
 																												{
-																													memcpy(p52, p41, 56);
-																													n423 = n486;
-																													n424 = n485;
-																													n425 = n490;
-																													n426 = n514;
-																													n427 = n515;
-																													n428 = n516;
-																													n429 = (n499 | ((uint64_t)n511 << 8)) | (uint64_t)n510;
-																													n430 = (uint8_t)n512;
-																													n431 = n512 & UINT64_C(18446744073709551360);
-																													n432 = n513;
-																													n433 = n495;
-																													n434 = n494;
-																													n435 = n493;
-																													n436 = n492;
-																													n437 = n491;
-																													p438 = p489;
-																													n439 = n488;
-																													n440 = n487;
-																													p441 = p496;
-																													n442 = n497;
-																													n443 = n498;
-																													p444 = p507;
-																													n445 = n508;
-																													p446 = p509;
+																													memcpy(p49, p38, 56);
+																													n420 = n483;
+																													n421 = n482;
+																													n422 = n487;
+																													n423 = n511;
+																													n424 = n512;
+																													n425 = n513;
+																													n426 = (n496 | ((uint64_t)n508 << 8)) | (uint64_t)n507;
+																													n427 = (uint8_t)n509;
+																													n428 = n509 & UINT64_C(18446744073709551360);
+																													n429 = n510;
+																													n430 = n492;
+																													n431 = n491;
+																													n432 = n490;
+																													n433 = n489;
+																													n434 = n488;
+																													p435 = p486;
+																													n436 = n485;
+																													n437 = n484;
+																													p438 = p493;
+																													n439 = n494;
+																													n440 = n495;
+																													p441 = p504;
+																													n442 = n505;
+																													p443 = p506;
+																													p444 = p497;
+																													n445 = n498;
+																													n446 = n499;
 																													p447 = p500;
 																													n448 = n501;
 																													n449 = n502;
-																													p450 = p503;
-																													n451 = n504;
-																													n452 = n505;
-																													n453 = n506;
+																													n450 = n503;
 																												}
 																											} else {
-																												uint64_t n531 = (uint64_t)load8(p39 + 8);
-																												uint64_t n532 = load64u(p39 + 16);
-																												uint8_t n533 = load8(p39 + 24);
-																												if (n408 != 0)
-																													rattle_dealloc(p410);
-																												byte *p534 = loadptru(p37 + 8);
-																												byte *p535 = loadptru(p37 + 32);
-																												uint64_t n536 = load64u(p37 + 48);
-																												uint32_t n537 = load32u(p37 + 56);
-																												uint8_t n538 = load8(p37 + 64);
-																												byte *p539 = loadptru(p37 + 72);
-																												uint64_t n540 = load64u(p37 + 88);
-																												uint64_t n541 = load64u(p37 + 24);
-																												(void)os_close(load32u(p37));
-																												if (n541 != 0)
-																													rattle_dealloc(p534);
-																												if (n536 != 0)
-																													rattle_dealloc(p535);
-																												(void)os_close(n537);
-																												if (n538 != 0) {
-																													if (n540 != 0)
-																														rattle_dealloc(p539);
+																												uint64_t n528 = (uint64_t)load8(p36 + 8);
+																												uint64_t n529 = load64u(p36 + 16);
+																												uint8_t n530 = load8(p36 + 24);
+																												if (n405 != 0)
+																													rattle_dealloc(p407);
+																												byte *p531 = loadptru(p34 + 8);
+																												byte *p532 = loadptru(p34 + 32);
+																												uint64_t n533 = load64u(p34 + 48);
+																												uint32_t n534 = load32u(p34 + 56);
+																												uint8_t n535 = load8(p34 + 64);
+																												byte *p536 = loadptru(p34 + 72);
+																												uint64_t n537 = load64u(p34 + 88);
+																												uint64_t n538 = load64u(p34 + 24);
+																												(void)os_close(load32u(p34));
+																												if (n538 != 0)
+																													rattle_dealloc(p531);
+																												if (n533 != 0)
+																													rattle_dealloc(p532);
+																												(void)os_close(n534);
+																												if (n535 != 0) {
+																													if (n537 != 0)
+																														rattle_dealloc(p536);
 																												}
-																												if (n181 != 0)
-																													rattle_dealloc(p179);
-																												memcpy(p52, p36, 56);
-																												n423 = 0;
-																												n424 = 0;
-																												n425 = 0;
-																												n426 = 1;
-																												n427 = 2;
-																												n428 = n531;
-																												n429 = n532;
-																												n430 = n533;
+																												if (n178 != 0)
+																													rattle_dealloc(p176);
+																												memcpy(p49, p33, 56);
+																												n420 = 0;
+																												n421 = 0;
+																												n422 = 0;
+																												n423 = 1;
+																												n424 = 2;
+																												n425 = n528;
+																												n426 = n529;
+																												n427 = n530;
+																												n428 = 0;
+																												n429 = 0;
+																												n430 = 0;
 																												n431 = 0;
 																												n432 = 0;
 																												n433 = 0;
 																												n434 = 0;
-																												n435 = 0;
+																												p435 = NULL;
 																												n436 = 0;
 																												n437 = 0;
 																												p438 = NULL;
@@ -86929,27 +86993,27 @@ L36:
 																												n440 = 0;
 																												p441 = NULL;
 																												n442 = 0;
-																												n443 = 0;
+																												p443 = NULL;
 																												p444 = NULL;
 																												n445 = 0;
-																												p446 = NULL;
+																												n446 = 0;
 																												p447 = NULL;
 																												n448 = 0;
 																												n449 = 0;
-																												p450 = NULL;
-																												n451 = 0;
-																												n452 = 0;
-																												n453 = 0;
+																												n450 = 0;
 																											}
 																										}
 L35:
 																										{
-																											n370 = n423;
-																											n371 = n424;
-																											n372 = n425;
-																											n373 = 0;
-																											n374 = 0;
-																											n375 = 0;
+																											n367 = n420;
+																											n368 = n421;
+																											n369 = n422;
+																											n370 = 0;
+																											n371 = 0;
+																											n372 = 0;
+																											n373 = n423;
+																											n374 = n424;
+																											n375 = n425;
 																											n376 = n426;
 																											n377 = n427;
 																											n378 = n428;
@@ -86959,7 +87023,7 @@ L35:
 																											n382 = n432;
 																											n383 = n433;
 																											n384 = n434;
-																											n385 = n435;
+																											p385 = p435;
 																											n386 = n436;
 																											n387 = n437;
 																											p388 = p438;
@@ -86967,342 +87031,254 @@ L35:
 																											n390 = n440;
 																											p391 = p441;
 																											n392 = n442;
-																											n393 = n443;
+																											p393 = p443;
 																											p394 = p444;
 																											n395 = n445;
-																											p396 = p446;
+																											n396 = n446;
 																											p397 = p447;
 																											n398 = n448;
 																											n399 = n449;
-																											p400 = p450;
-																											n401 = n451;
-																											n402 = n452;
-																											n403 = n453;
+																											n400 = n450;
 																										}
 																									}
-																									uint64_t n542 = n381 | (uint64_t)n380;
-																									memcpy(p58, p52, 56);
-																									bool b543 = n395 == 0;
-																									if (n376 != 0) {
-																										n595 = n382;
-																										n596 = n542;
-																										n597 = n379;
-																										n598 = (uint8_t)n378;
-																										n599 = n377;
+																									uint64_t n539 = n378 | (uint64_t)n377;
+																									memcpy(p55, p49, 56);
+																									bool b540 = n392 == 0;
+																									if (n373 != 0) {
+																										n585 = n379;
+																										n586 = n539;
+																										n587 = n376;
+																										n588 = (uint8_t)n375;
+																										n589 = n374;
 																										goto L37;
 																									}
-																									memcpy(p55, p58, 56);
-																									storeptru(p55 + 56, p397);
-																									store64u(p55 + 64, n398);
-																									store64u(p55 + 72, n399);
-																									storeptru(p55 + 80, p400);
-																									store64u(p55 + 88, n401);
-																									store64u(p55 + 96, n402);
-																									store64u(p55 + 104, n403);
-																									uint64_t n544 = 0;
-																									uint64_t n545 = 0;
-																									while (n544 != n375) {
-																										n545 = n545 + (uint64_t)(load8(at(p396, n544)) == 10);
-																										n544 = n544 + 1;
+																									memcpy(p52, p55, 56);
+																									storeptru(p52 + 56, p394);
+																									store64u(p52 + 64, n395);
+																									store64u(p52 + 72, n396);
+																									storeptru(p52 + 80, p397);
+																									store64u(p52 + 88, n398);
+																									store64u(p52 + 96, n399);
+																									store64u(p52 + 104, n400);
+																									uint64_t n541 = 0;
+																									uint64_t n542 = 0;
+																									while (n541 != n372) {
+																										n542 = n542 + (uint64_t)(load8(at(p393, n541)) == 10);
+																										n541 = n541 + 1;
 																									}
-																									memcpy(p32, p54, 16);
-																									if (!b543)
-																										rattle_dealloc(p394);
-																									memcpy(p59, p32, 16);
-																									memcpy(p56, p59, 16);
-																									store64u(p56 + 16, n377);
-																									store64u(p56 + 24, n378);
-																									store64u(p56 + 32, n379);
-																									store64u(p56 + 40, n542);
-																									store64u(p56 + 48, n382);
-																									store64u(p56 + 56, n383);
-																									store64u(p56 + 64, n384);
-																									store32u(p56 + 72, n385);
-																									store32u(p56 + 76, n386);
-																									store8(p56 + 80, n387);
-																									store56u(p56 + 81, n372);
-																									storeptru(p56 + 88, p388);
-																									store64u(p56 + 96, n389);
-																									store64u(p56 + 104, n390);
-																									store64u(p56 + 112, n370);
-																									store64u(p56 + 120, n371);
-																									storeptru(p56 + 128, p391);
-																									store64u(p56 + 136, n392);
-																									store64u(p56 + 144, n393);
-																									store64u(p56 + 152, n167);
-																									store64u(p56 + 160, n93);
-																									store64u(p56 + 168, n166);
-																									store64u(p56 + 176, n91);
-																									store64u(p56 + 184, n373);
-																									store64u(p56 + 192, n374);
-																									store64u(p56 + 200, n373);
-																									store64u(p56 + 208, n374);
-																									store64u(p56 + 216, uadd_sat64(n545, n373));
-																									store64u(p56 + 224, n374);
-																									storeptru(p56 + 232, p396);
-																									store64u(p56 + 240, n375);
-																									store64u(p56 + 248, n375);
-																									store64u(p56 + 256, 0);
-																									storeptru(p56 + 264, p11);
-																									memset(p56 + 272, 0, 32);
-																									storeptru(p56 + 304, p11);
-																									memset(p56 + 312, 0, 56);
-																									memset(p30, 0, 32);
-																									uint32_t n546 = (uint32_t)n377;
-																									byte *p547 = (byte *)(uintptr_t)n378;
-																									byte *p548 = (byte *)(uintptr_t)n382;
-																									if ((n97 - 65) < UINT64_C(18446744073709551552)) {
-																										n549 = 0;
-																										n550 = 0;
-																									} else if ((n98 - 1048577) < UINT64_C(18446744073708503040)) {
-																										n549 = 0;
-																										n550 = 256;
-																									} else if (n99 > UINT64_C(1152921504606846975)) {
-																										n549 = 0;
-																										n550 = 512;
-																									} else if ((n96 - 65537) < UINT64_C(18446744073709486080)) {
-																										n549 = 0;
-																										n550 = 1;
+																									memcpy(p29, p51, 16);
+																									if (!b540)
+																										rattle_dealloc(p391);
+																									memcpy(p56, p29, 16);
+																									memcpy(p53, p56, 16);
+																									store64u(p53 + 16, n374);
+																									store64u(p53 + 24, n375);
+																									store64u(p53 + 32, n376);
+																									store64u(p53 + 40, n539);
+																									store64u(p53 + 48, n379);
+																									store64u(p53 + 56, n380);
+																									store64u(p53 + 64, n381);
+																									store32u(p53 + 72, n382);
+																									store32u(p53 + 76, n383);
+																									store8(p53 + 80, n384);
+																									store56u(p53 + 81, n369);
+																									storeptru(p53 + 88, p385);
+																									store64u(p53 + 96, n386);
+																									store64u(p53 + 104, n387);
+																									store64u(p53 + 112, n367);
+																									store64u(p53 + 120, n368);
+																									storeptru(p53 + 128, p388);
+																									store64u(p53 + 136, n389);
+																									store64u(p53 + 144, n390);
+																									store64u(p53 + 152, n159);
+																									store64u(p53 + 160, n90);
+																									store64u(p53 + 168, n158);
+																									store64u(p53 + 176, n88);
+																									store64u(p53 + 184, n370);
+																									store64u(p53 + 192, n371);
+																									store64u(p53 + 200, n370);
+																									store64u(p53 + 208, n371);
+																									store64u(p53 + 216, uadd_sat64(n542, n370));
+																									store64u(p53 + 224, n371);
+																									storeptru(p53 + 232, p393);
+																									store64u(p53 + 240, n372);
+																									store64u(p53 + 248, n372);
+																									store64u(p53 + 256, 0);
+																									storeptru(p53 + 264, p11);
+																									memset(p53 + 272, 0, 32);
+																									storeptru(p53 + 304, p11);
+																									memset(p53 + 312, 0, 56);
+																									tp_resuming_resume(p54, p50, p52, b160, p53, p10);
+																									uint8_t n543 = load8(p53 + 336);
+																									uint8_t n544 = load8(p53 + 344);
+																									uint64_t n545 = load64u(p53 + 352);
+																									uint64_t n546 = load64u(p53 + 360);
+																									uint8_t n547 = (uint8_t)n545;
+																									uint8_t n548 = (uint8_t)(n545 >> 8);
+																									uint64_t n549 = n545 >> 16;
+																									uint32_t n550 = load32u(p53 + 16);
+																									byte *p551 = loadptru(p53 + 24);
+																									uint64_t n552 = load64u(p53 + 40);
+																									byte *p553 = loadptru(p53 + 48);
+																									uint64_t n554 = load64u(p53 + 64);
+																									uint32_t n555 = load32u(p53 + 72);
+																									uint8_t n556 = load8(p53 + 80);
+																									byte *p557 = loadptru(p53 + 88);
+																									uint64_t n558 = load64u(p53 + 104);
+																									byte *p559 = loadptru(p53 + 128);
+																									byte *p560 = loadptru(p53 + 232);
+																									uint64_t n561 = load64u(p53 + 248);
+																									byte *p562 = loadptru(p53 + 264);
+																									uint64_t n563 = load64u(p53 + 280);
+																									byte *p564 = loadptru(p53 + 304);
+																									uint64_t n565 = load64u(p53 + 320);
+																									uint64_t n566 = load64u(p53 + 144);
+																									memcpy(p28, p53, 16);
+																									if (n566 != 0)
+																										rattle_dealloc(p559);
+																									if (n561 != 0)
+																										rattle_dealloc(p560);
+																									if (n563 != 0)
+																										rattle_dealloc(p562);
+																									if (n565 != 0)
+																										rattle_dealloc(p564);
+																									memcpy(p57, p28, 16);
+																									(void)os_close(n550);
+																									if (n552 != 0)
+																										rattle_dealloc(p551);
+																									if (n554 != 0)
+																										rattle_dealloc(p553);
+																									(void)os_close(n555);
+																									if (n556 != 0) {
+																										if (n558 != 0)
+																											rattle_dealloc(p557);
+																									}
+																									uint8_t n567 = load8(p54);
+																									uint8_t n568 = load8(p54 + 16);
+																									uint8_t n569 = load8(p54 + 17);
+																									uint64_t n570 = load64u(p54 + 24);
+																									if (n567 == 0) {
+																										n571 = 0;
+																										n572 = load8(p54 + 1);
+																										n573 = 0;
+																										n574 = 0;
+																										n575 = 0;
+																										n576 = 0;
+																										n577 = 0;
 																									} else {
-																										uint64_t n551;
-																										switch (MOSTLY_0(n95)) {
-																										case 0:
-																										case 1:
-																										case 2:
-																										case 4: {
-																											n551 = UINT64_C(1152921504606846975);
-																											break;
-																										}
-																										case 3: {
-																											n551 = 8639999;
-																											break;
-																										}
-																										default: {
-																											UNREACHABLE();
-																										}
-																										}
-																										if (n551 >= n99) {
-																											store64u(p29, n97);
-																											store64u(p29 + 8, n98);
-																											store64u(p29 + 16, n99);
-																											store64u(p29 + 24, 1);
-																											store64u(p29 + 32, 1);
-																											store8(p31, n95);
-																											memcpy(p31 + 1, p53, 7);
-																											store64u(p31 + 8, n96);
-																											store64u(p31 + 16, n97);
-																											store64u(p31 + 24, n98);
-																											store64u(p31 + 32, n99);
-																											tp_resuming_over_scheme(p30, p31, p29, p55, b168, p56, p10);
-																											b552 = load64u(p56 + 320) == 0;
-																											b553 = load64u(p56 + 280) == 0;
-																											n554 = load64u(p56 + 360);
-																											n555 = load64u(p56 + 352);
-																											n556 = load8(p56 + 344);
-																											n557 = load8(p56 + 336);
-																											p558 = loadptru(p56 + 304);
-																											p559 = loadptru(p56 + 264);
-																											n560 = load64u(p56 + 248);
-																											p561 = loadptru(p56 + 232);
-																											n562 = load64u(p56 + 144);
-																											p563 = loadptru(p56 + 128);
-																											n564 = load64u(p56 + 104);
-																											p565 = loadptru(p56 + 88);
-																											n566 = load8(p56 + 80);
-																											n567 = load32u(p56 + 72);
-																											n568 = load64u(p56 + 64);
-																											p569 = loadptru(p56 + 48);
-																											n570 = load64u(p56 + 40);
-																											p571 = loadptru(p56 + 24);
-																											n572 = load32u(p56 + 16);
-																											n573 = load64(p30 + 24);
-																											n574 = load8(p30 + 17);
-																											n575 = load8(p30 + 16);
-																											n576 = load8(p30 + 8);
-																											n577 = load8(p30 + 1);
-																											n578 = load8(p30);
-																											goto L38;
-																										}
-																										n549 = n551;
-																										n550 = 2;
-																									}
-																									b552 = true;
-																									b553 = true;
-																									n554 = 0;
-																									n555 = 0;
-																									n556 = 0;
-																									n557 = 0;
-																									p558 = p11;
-																									p559 = p11;
-																									n560 = n375;
-																									p561 = p396;
-																									n562 = n393;
-																									p563 = p391;
-																									n564 = n390;
-																									p565 = p388;
-																									n566 = n387;
-																									n567 = n385;
-																									n568 = n384;
-																									p569 = p548;
-																									n570 = n542;
-																									p571 = p547;
-																									n572 = n546;
-																									n573 = n549;
-																									n574 = (uint8_t)(n550 >> 8);
-																									n575 = (uint8_t)n550;
-																									n576 = 0;
-																									n577 = 0;
-																									n578 = 1;
-L38:
-																									{
-																										uint64_t n582, n588;
-																										uint8_t n583, n584, n585, n586, n587;
-																										uint8_t n579 = (uint8_t)n555;
-																										uint8_t n580 = (uint8_t)(n555 >> 8);
-																										uint64_t n581 = n555 >> 16;
-																										memcpy(p28, p56, 16);
-																										if (n562 != 0)
-																											rattle_dealloc(p563);
-																										if (n560 != 0)
-																											rattle_dealloc(p561);
-																										if (!b553)
-																											rattle_dealloc(p559);
-																										if (!b552)
-																											rattle_dealloc(p558);
-																										memcpy(p60, p28, 16);
-																										memcpy(p57, p60, 16);
-																										(void)os_close(n572);
-																										if (n570 != 0)
-																											rattle_dealloc(p571);
-																										if (n568 != 0)
-																											rattle_dealloc(p569);
-																										(void)os_close(n567);
-																										if (n566 != 0) {
-																											if (n564 != 0)
-																												rattle_dealloc(p565);
-																										}
-																										if (n578 == 0) {
-																											n582 = 0;
-																											n583 = n577;
-																											n584 = 0;
-																											n585 = 0;
-																											n586 = 0;
-																											n587 = 0;
-																											n588 = 0;
-																										} else {
-																											switch (n576) {
-																											case 2: {
-																												switch (MOSTLY_0(n575)) {
-																												case 0: {
-																													if (n557 == 1) {
-																														n582 = n581;
-																														n583 = 0;
-																														n584 = 3;
-																														n585 = n556;
-																														n586 = n579;
-																														n587 = n580;
-																														n588 = n554;
-																													} else {
-																														n582 = 0;
-																														n583 = 0;
-																														n584 = 4;
-																														n585 = 2;
-																														n586 = 0;
-																														n587 = 0;
-																														n588 = 0;
-																													}
-																													break;
-																												}
-																												case 3: {
-																													if (n557 == 1) {
-																														n582 = n581;
-																														n583 = 0;
-																														n584 = 3;
-																														n585 = n556;
-																														n586 = n579;
-																														n587 = n580;
-																														n588 = n554;
-																													} else {
-																														n582 = 0;
-																														n583 = 0;
-																														n584 = 4;
-																														n585 = 2;
-																														n586 = 3;
-																														n587 = 0;
-																														n588 = 0;
-																													}
-																													break;
-																												}
-																												case 1:
-																												case 2:
-																												case 4: {
-																													n582 = 0;
-																													n583 = 0;
-																													n584 = 4;
-																													n585 = 2;
-																													n586 = n575;
-																													n587 = n574;
-																													n588 = n573;
-																													break;
-																												}
-																												default: {
-																													UNREACHABLE();
-																												}
+																										uint8_t n578 = load8(p54 + 8);
+																										switch (n578) {
+																										case 2: {
+																											switch (MOSTLY_0(n568)) {
+																											case 0: {
+																												if (n543 == 1) {
+																													n571 = n549;
+																													n572 = 0;
+																													n573 = 3;
+																													n574 = n544;
+																													n575 = n547;
+																													n576 = n548;
+																													n577 = n546;
+																												} else {
+																													n571 = 0;
+																													n572 = 0;
+																													n573 = 4;
+																													n574 = 2;
+																													n575 = 0;
+																													n576 = 0;
+																													n577 = 0;
 																												}
 																												break;
 																											}
-																											case 0:
-																											case 1:
 																											case 3: {
-																												n582 = 0;
-																												n583 = 0;
-																												n584 = 4;
-																												n585 = n576;
-																												n586 = n575;
-																												n587 = n574;
-																												n588 = n573;
+																												if (n543 == 1) {
+																													n571 = n549;
+																													n572 = 0;
+																													n573 = 3;
+																													n574 = n544;
+																													n575 = n547;
+																													n576 = n548;
+																													n577 = n546;
+																												} else {
+																													n571 = 0;
+																													n572 = 0;
+																													n573 = 4;
+																													n574 = 2;
+																													n575 = 3;
+																													n576 = 0;
+																													n577 = 0;
+																												}
+																												break;
+																											}
+																											case 1:
+																											case 2:
+																											case 4: {
+																												n571 = 0;
+																												n572 = 0;
+																												n573 = 4;
+																												n574 = 2;
+																												n575 = n568;
+																												n576 = n569;
+																												n577 = n570;
 																												break;
 																											}
 																											default: {
 																												UNREACHABLE();
 																											}
 																											}
+																											break;
 																										}
-																										if (load64u(p55 + 72) != 0)
-																											rattle_dealloc(loadptru(p55 + 56));
-																										if (load64u(p55 + 96) != 0)
-																											rattle_dealloc(loadptru(p55 + 80));
-																										memcpy(p105, p57, 16);
-																										memcpy(p104, p105, 16);
-																										if (n578 == 0) {
-																											n589 = n583;
-																											goto L39;
+																										case 0:
+																										case 1:
+																										case 3: {
+																											n571 = 0;
+																											n572 = 0;
+																											n573 = 4;
+																											n574 = n578;
+																											n575 = n568;
+																											n576 = n569;
+																											n577 = n570;
+																											break;
 																										}
-																										n590 = 0;
-																										n591 = n588;
-																										n592 = ((n582 << 16) | ((uint64_t)n587 << 8)) | (uint64_t)n586;
-																										n593 = n585;
-																										n594 = n584;
-																										goto L40;
+																										default: {
+																											UNREACHABLE();
+																										}
+																										}
 																									}
+																									if (load64u(p52 + 72) != 0)
+																										rattle_dealloc(loadptru(p52 + 56));
+																									if (load64u(p52 + 96) != 0)
+																										rattle_dealloc(loadptru(p52 + 80));
+																									memcpy(p97, p57, 16);
+																									memcpy(p96, p97, 16);
+																									if (n567 == 0) {
+																										n579 = n572;
+																										goto L38;
+																									}
+																									n580 = 0;
+																									n581 = n577;
+																									n582 = ((n571 << 16) | ((uint64_t)n576 << 8)) | (uint64_t)n575;
+																									n583 = n574;
+																									n584 = n573;
+																									goto L39;
 																								}
 																							}
-																							s600 = s229;
+																							s590 = s226;
 																						} else {
-																							s600 = s226;
+																							s590 = s223;
 																						}
-																						uint64_t n601 = ((uint64_t)s600.f1 << 8) | 4;
-																						if (n184 == 0) {
+																						uint64_t n591 = ((uint64_t)s590.f1 << 8) | 4;
+																						if (n181 == 0) {
+																							n210 = 0;
+																							n211 = n591;
+																							n212 = 0;
 																							n213 = 0;
-																							n214 = n601;
-																							n215 = 0;
-																							n216 = 0;
 																						} else {
-																							rattle_dealloc(p185);
+																							rattle_dealloc(p182);
+																							n210 = 0;
+																							n211 = n591;
+																							n212 = 0;
 																							n213 = 0;
-																							n214 = n601;
-																							n215 = 0;
-																							n216 = 0;
 																						}
 																					}
 																					break;
@@ -87315,119 +87291,119 @@ L38:
 																		}
 L20:
 																		{
-																			byte *p602 = loadptru(p50 + 8);
-																			byte *p603 = loadptru(p50 + 32);
-																			uint64_t n604 = load64u(p50 + 48);
-																			uint32_t n605 = load32u(p50 + 56);
-																			uint8_t n606 = load8(p50 + 64);
-																			byte *p607 = loadptru(p50 + 72);
-																			uint64_t n608 = load64u(p50 + 88);
-																			uint64_t n609 = load64u(p50 + 24);
-																			(void)os_close(load32u(p50));
-																			if (n609 != 0)
-																				rattle_dealloc(p602);
-																			if (n604 != 0)
-																				rattle_dealloc(p603);
-																			(void)os_close(n605);
-																			if (n606 != 0) {
-																				if (n608 != 0)
-																					rattle_dealloc(p607);
+																			byte *p592 = loadptru(p47 + 8);
+																			byte *p593 = loadptru(p47 + 32);
+																			uint64_t n594 = load64u(p47 + 48);
+																			uint32_t n595 = load32u(p47 + 56);
+																			uint8_t n596 = load8(p47 + 64);
+																			byte *p597 = loadptru(p47 + 72);
+																			uint64_t n598 = load64u(p47 + 88);
+																			uint64_t n599 = load64u(p47 + 24);
+																			(void)os_close(load32u(p47));
+																			if (n599 != 0)
+																				rattle_dealloc(p592);
+																			if (n594 != 0)
+																				rattle_dealloc(p593);
+																			(void)os_close(n595);
+																			if (n596 != 0) {
+																				if (n598 != 0)
+																					rattle_dealloc(p597);
 																			}
-																			if (n181 == 0) {
-																				n610 = n213;
-																				n611 = n214;
-																				n612 = n215;
-																				n613 = n216;
-																				goto L41;
+																			if (n178 == 0) {
+																				n600 = n210;
+																				n601 = n211;
+																				n602 = n212;
+																				n603 = n213;
+																				goto L40;
 																			}
-																			rattle_dealloc(p179);
-																			n610 = n213;
-																			n611 = n214;
-																			n612 = n215;
-																			n613 = n216;
-																			goto L41;
+																			rattle_dealloc(p176);
+																			n600 = n210;
+																			n601 = n211;
+																			n602 = n212;
+																			n603 = n213;
+																			goto L40;
 																		}
 																	}
-																	if (load64u(p51 + 16) != 0)
-																		rattle_dealloc(loadptru(p51));
+																	if (load64u(p48 + 16) != 0)
+																		rattle_dealloc(loadptru(p48));
 																}
 															}
 														}
 													}
-													(void)os_close(n154);
-													if (n157 != 0)
-														rattle_dealloc(p169);
-													if (n160 != 0)
-														rattle_dealloc(p170);
-													(void)os_close(n161);
-													if (n165 == 0) {
-														n610 = 0;
-														n611 = 4;
-														n612 = 0;
-														n613 = 0;
+													(void)os_close(n146);
+													if (n149 != 0)
+														rattle_dealloc(p161);
+													if (n152 != 0)
+														rattle_dealloc(p162);
+													(void)os_close(n153);
+													if (n157 == 0) {
+														n600 = 0;
+														n601 = 4;
+														n602 = 0;
+														n603 = 0;
 													} else {
-														rattle_dealloc(p163);
-														n610 = 0;
-														n611 = 4;
-														n612 = 0;
-														n613 = 0;
-													}
-L41:
-													{
-														n595 = n613;
-														n596 = n612;
-														n597 = n611;
-														n598 = n610;
-														n599 = 0;
-													}
-L37:
-													{
-														memcpy(p105, p54, 16);
-														memcpy(p104, p105, 16);
-														n590 = n595;
-														n591 = n596;
-														n592 = n597;
-														n593 = n598;
-														n594 = (uint8_t)n599;
+														rattle_dealloc(p155);
+														n600 = 0;
+														n601 = 4;
+														n602 = 0;
+														n603 = 0;
 													}
 L40:
 													{
-														uint64_t n617, n620, n674, n675;
-														uint8_t n618, n619, n676, n745;
-														byte *p673;
-														uint64_t n614 = (uint64_t)n593;
+														n585 = n603;
+														n586 = n602;
+														n587 = n601;
+														n588 = n600;
+														n589 = 0;
+													}
+L37:
+													{
+														memcpy(p97, p51, 16);
+														memcpy(p96, p97, 16);
+														n580 = n585;
+														n581 = n586;
+														n582 = n587;
+														n583 = n588;
+														n584 = (uint8_t)n589;
+													}
+L39:
+													{
+														uint64_t n607, n610, n664, n665;
+														uint8_t n608, n609, n666, n735;
+														byte *p663;
+														uint64_t n604 = (uint64_t)n583;
 														memset(p26, 0, 32);
 														memset(p27, 0, 24);
-														store64u(p25, (uint64_t)n594);
-														store64u(p25 + 8, n614);
-														store64(p25 + 16, n592);
-														store64(p25 + 24, n591);
-														store64(p25 + 32, n590);
-														byte *p615 = (byte *)(uintptr_t)n592;
-														uint8_t n616 = (uint8_t)n591;
-														switch (n594) {
+														store64u(p25, (uint64_t)n584);
+														store64u(p25 + 8, n604);
+														store64(p25 + 16, n582);
+														store64(p25 + 24, n581);
+														store64(p25 + 32, n580);
+														byte *p605 = (byte *)(uintptr_t)n582;
+														uint8_t n606 = (uint8_t)n581;
+														switch (n584) {
 														case 4: {
-															n617 = n614;
-															n618 = (uint8_t)n592;
-															n619 = (uint8_t)(n592 >> 8);
-															n620 = n591;
-															goto L42;
+															n607 = n604;
+															n608 = (uint8_t)n582;
+															n609 = (uint8_t)(n582 >> 8);
+															n610 = n581;
+															goto L41;
 														}
 														case 3: {
-															switch (n593) {
+															switch (n583) {
 															case 6: {
-																n617 = 2;
-																n618 = 0;
-																n619 = 0;
-																n620 = 0;
-																goto L42;
+																n607 = 2;
+																n608 = 0;
+																n609 = 0;
+																n610 = 0;
+																goto L41;
 															}
 															case 7: {
-																n617 = 2;
-																n618 = 3;
-																n619 = 0;
-																n620 = 0;
-																goto L42;
+																n607 = 2;
+																n608 = 3;
+																n609 = 0;
+																n610 = 0;
+																goto L41;
 															}
 															case 0:
 															case 1:
@@ -87435,9 +87411,9 @@ L40:
 															case 3:
 															case 4:
 															case 5: {
-																uint8_t n622, n672;
-																uint64_t n629, n630, n670, n671;
-																byte *p631, *p669;
+																uint8_t n612, n662;
+																uint64_t n619, n620, n660, n661;
+																byte *p621, *p659;
 																memset(p24, 0, 32);
 																memset(p16 + 8, 0, 16);
 																memset(p16 + 57, 0, 7);
@@ -87449,41 +87425,41 @@ L40:
 																store8(p16 + 56, 0);
 																memcpy(p15, p16 + 24, 24);
 																memset(p16 + 28, 0, 12);
-																switch (MOSTLY_0(n593)) {
+																switch (MOSTLY_0(n583)) {
 																case 0: {
 																	storeptru(p12, p25 + 16);
 																	store32u(p16 + 24, 32);
 																	memset(p16 + 28, 0, 12);
 																	store64u(p16 + 40, UINT64_MAX);
-																	uint8_t n621 = tp_core_fmt_formatter_Formatter_write_piece(p16, p12);
-																	n622 = n621;
-																	goto L43;
+																	uint8_t n611 = tp_core_fmt_formatter_Formatter_write_piece(p16, p12);
+																	n612 = n611;
+																	goto L42;
 																}
 																case 1: {
 																	store32u(p16 + 24, 32);
 																	store64u(p16 + 40, UINT64_MAX);
-																	bool b623 = tp_Vec_grow_amortized(p16, 18);
-																	if (b623) {
-																		uint64_t n628;
-																		uint64_t n624 = load64(p16 + 8);
-																		uint64_t n625 = load64(p16 + 16);
-																		byte *p626 = loadptr(p16);
-																		byte *p627 = at(p626, n624);
-																		if (((uint64_t)(uintptr_t)p627 - (uint64_t)(uintptr_t)(byte *)tp_static_368) >= 18) {
-																			memcpy(p627, (byte *)tp_static_368, 18);
-																			goto L44;
+																	bool b613 = tp_Vec_grow_amortized(p16, 18);
+																	if (b613) {
+																		uint64_t n618;
+																		uint64_t n614 = load64(p16 + 8);
+																		uint64_t n615 = load64(p16 + 16);
+																		byte *p616 = loadptr(p16);
+																		byte *p617 = at(p616, n614);
+																		if (((uint64_t)(uintptr_t)p617 - (uint64_t)(uintptr_t)(byte *)tp_static_368) >= 18) {
+																			memcpy(p617, (byte *)tp_static_368, 18);
+																			goto L43;
 																		}
-																		n628 = 0;
-																		while (n628 != 18) {
-																			store8(inside(p627, n628), load8(inside((byte *)tp_static_368, n628)));
-																			n628 = n628 + 1;
+																		n618 = 0;
+																		while (n618 != 18) {
+																			store8(inside(p617, n618), load8(inside((byte *)tp_static_368, n618)));
+																			n618 = n618 + 1;
 																		}
-L44:
+L43:
 																		{
-																			n629 = n625;
-																			n630 = n624 + 18;
-																			p631 = p626;
-																			goto L45;
+																			n619 = n615;
+																			n620 = n614 + 18;
+																			p621 = p616;
+																			goto L44;
 																		}
 																	}
 																	break;
@@ -87491,72 +87467,72 @@ L44:
 																case 2: {
 																	store32u(p16 + 24, 32);
 																	store64u(p16 + 40, UINT64_MAX);
-																	bool b632 = tp_Vec_grow_amortized(p16, 25);
-																	if (b632) {
-																		uint64_t n637;
-																		uint64_t n633 = load64(p16 + 8);
-																		uint64_t n634 = load64(p16 + 16);
-																		byte *p635 = loadptr(p16);
-																		byte *p636 = at(p635, n633);
-																		if (((uint64_t)(uintptr_t)p636 - (uint64_t)(uintptr_t)(byte *)tp_static_369) >= 25) {
-																			memcpy(p636, (byte *)tp_static_369, 25);
-																			goto L46;
-																		}
-																		n637 = 0;
-																		while (n637 != 25) {
-																			store8(inside(p636, n637), load8(inside((byte *)tp_static_369, n637)));
-																			n637 = n637 + 1;
-																		}
-L46:
-																		{
-																			n629 = n634;
-																			n630 = n633 + 25;
-																			p631 = p635;
+																	bool b622 = tp_Vec_grow_amortized(p16, 25);
+																	if (b622) {
+																		uint64_t n627;
+																		uint64_t n623 = load64(p16 + 8);
+																		uint64_t n624 = load64(p16 + 16);
+																		byte *p625 = loadptr(p16);
+																		byte *p626 = at(p625, n623);
+																		if (((uint64_t)(uintptr_t)p626 - (uint64_t)(uintptr_t)(byte *)tp_static_369) >= 25) {
+																			memcpy(p626, (byte *)tp_static_369, 25);
 																			goto L45;
+																		}
+																		n627 = 0;
+																		while (n627 != 25) {
+																			store8(inside(p626, n627), load8(inside((byte *)tp_static_369, n627)));
+																			n627 = n627 + 1;
+																		}
+L45:
+																		{
+																			n619 = n624;
+																			n620 = n623 + 25;
+																			p621 = p625;
+																			goto L44;
 																		}
 																	}
 																	break;
 																}
 																case 3: {
-																	uint8_t n645;
+																	uint8_t n635;
 																	storeptru(p13, (byte *)tp_static_370);
 																	store64u(p13 + 8, 20);
 																	storeptru(p13 + 16, p25 + 16);
 																	store32u(p16 + 24, 32);
 																	memset(p16 + 28, 0, 12);
 																	store64u(p16 + 40, UINT64_MAX);
-																	bool b638 = tp_Vec_grow_amortized(p16, 20);
-																	if (b638) {
-																		uint64_t n643;
-																		uint64_t n639 = load64(p16 + 8);
-																		uint64_t n640 = load64(p16 + 16);
-																		byte *p641 = loadptr(p16);
-																		byte *p642 = at(p641, n639);
-																		if (((uint64_t)(uintptr_t)p642 - (uint64_t)(uintptr_t)(byte *)tp_static_370) >= 20) {
-																			memcpy(p642, (byte *)tp_static_370, 20);
-																			goto L47;
+																	bool b628 = tp_Vec_grow_amortized(p16, 20);
+																	if (b628) {
+																		uint64_t n633;
+																		uint64_t n629 = load64(p16 + 8);
+																		uint64_t n630 = load64(p16 + 16);
+																		byte *p631 = loadptr(p16);
+																		byte *p632 = at(p631, n629);
+																		if (((uint64_t)(uintptr_t)p632 - (uint64_t)(uintptr_t)(byte *)tp_static_370) >= 20) {
+																			memcpy(p632, (byte *)tp_static_370, 20);
+																			goto L46;
 																		}
-																		n643 = 0;
-																		while (n643 != 20) {
-																			store8(inside(p642, n643), load8(inside((byte *)tp_static_370, n643)));
-																			n643 = n643 + 1;
+																		n633 = 0;
+																		while (n633 != 20) {
+																			store8(inside(p632, n633), load8(inside((byte *)tp_static_370, n633)));
+																			n633 = n633 + 1;
 																		}
-L47:
+L46:
 																		{
-																			storeptr(p16, p641);
-																			store64(p16 + 8, n639 + 20);
-																			store64(p16 + 16, n640);
-																			uint8_t n644 = tp_fmt_formatter_Formatter_write_piece(p16, p13 + 16);
-																			n645 = n644;
+																			storeptr(p16, p631);
+																			store64(p16 + 8, n629 + 20);
+																			store64(p16 + 16, n630);
+																			uint8_t n634 = tp_fmt_formatter_Formatter_write_piece(p16, p13 + 16);
+																			n635 = n634;
 																		}
 																	} else {
-																		n645 = 1;
+																		n635 = 1;
 																	}
-																	n622 = n645;
-																	goto L43;
+																	n612 = n635;
+																	goto L42;
 																}
 																case 4: {
-																	uint8_t n653;
+																	uint8_t n643;
 																	storeptru(p14, (byte *)tp_static_371);
 																	store64u(p14 + 8, 4);
 																	storeptru(p14 + 16, p25 + 16);
@@ -87565,108 +87541,108 @@ L47:
 																	store32u(p16 + 24, 32);
 																	memset(p16 + 28, 0, 12);
 																	store64u(p16 + 40, UINT64_MAX);
-																	bool b646 = tp_Vec_grow_amortized(p16, 4);
-																	if (b646) {
-																		uint64_t n651;
-																		uint64_t n647 = load64(p16 + 8);
-																		uint64_t n648 = load64(p16 + 16);
-																		byte *p649 = loadptr(p16);
-																		byte *p650 = at(p649, n647);
-																		if (((uint64_t)(uintptr_t)p650 - (uint64_t)(uintptr_t)(byte *)tp_static_371) >= 4) {
-																			store32u(p650, 544432488);
-																			goto L48;
+																	bool b636 = tp_Vec_grow_amortized(p16, 4);
+																	if (b636) {
+																		uint64_t n641;
+																		uint64_t n637 = load64(p16 + 8);
+																		uint64_t n638 = load64(p16 + 16);
+																		byte *p639 = loadptr(p16);
+																		byte *p640 = at(p639, n637);
+																		if (((uint64_t)(uintptr_t)p640 - (uint64_t)(uintptr_t)(byte *)tp_static_371) >= 4) {
+																			store32u(p640, 544432488);
+																			goto L47;
 																		}
-																		n651 = 0;
-																		while (n651 != 4) {
-																			store8(inside(p650, n651), load8(inside((byte *)tp_static_371, n651)));
-																			n651 = n651 + 1;
+																		n641 = 0;
+																		while (n641 != 4) {
+																			store8(inside(p640, n641), load8(inside((byte *)tp_static_371, n641)));
+																			n641 = n641 + 1;
 																		}
-L48:
+L47:
 																		{
-																			storeptr(p16, p649);
-																			store64(p16 + 8, n647 + 4);
-																			store64(p16 + 16, n648);
-																			uint8_t n652 = tp_fmt_formatter_Formatter_write_piece(p16, p14 + 16);
-																			if ((n652 & 1) != 0) {
-																				n653 = 1;
+																			storeptr(p16, p639);
+																			store64(p16 + 8, n637 + 4);
+																			store64(p16 + 16, n638);
+																			uint8_t n642 = tp_fmt_formatter_Formatter_write_piece(p16, p14 + 16);
+																			if ((n642 & 1) != 0) {
+																				n643 = 1;
 																			} else {
 																				store32u(p16 + 24, 32);
 																				memset(p16 + 28, 0, 12);
 																				store64u(p16 + 40, UINT64_MAX);
 																				if (load64(p16 + 48) == 0) {
-																					uint64_t n657, n658, n661;
-																					uint64_t n654 = load64(p16 + 16);
-																					uint64_t n655 = load64(p16 + 8);
-																					if ((n654 - n655) < 8) {
-																						bool b656 = tp_Vec_grow_amortized(p16, 8);
-																						if (!b656) {
-																							n653 = 1;
-																							goto L49;
+																					uint64_t n647, n648, n651;
+																					uint64_t n644 = load64(p16 + 16);
+																					uint64_t n645 = load64(p16 + 8);
+																					if ((n644 - n645) < 8) {
+																						bool b646 = tp_Vec_grow_amortized(p16, 8);
+																						if (!b646) {
+																							n643 = 1;
+																							goto L48;
 																						}
-																						n657 = load64(p16 + 16);
-																						n658 = load64(p16 + 8);
+																						n647 = load64(p16 + 16);
+																						n648 = load64(p16 + 8);
 																					} else {
-																						n657 = n654;
-																						n658 = n655;
+																						n647 = n644;
+																						n648 = n645;
 																					}
-																					byte *p659 = loadptr(p16);
-																					byte *p660 = at(p659, n658);
-																					if (((uint64_t)(uintptr_t)p660 - (uint64_t)(uintptr_t)(byte *)tp_static_372) >= 8) {
-																						store64u(p660, UINT64_C(8318823025418854688));
-																						goto L50;
+																					byte *p649 = loadptr(p16);
+																					byte *p650 = at(p649, n648);
+																					if (((uint64_t)(uintptr_t)p650 - (uint64_t)(uintptr_t)(byte *)tp_static_372) >= 8) {
+																						store64u(p650, UINT64_C(8318823025418854688));
+																						goto L49;
 																					}
-																					n661 = 0;
-																					while (n661 != 8) {
-																						store8(inside(p660, n661), load8(inside((byte *)tp_static_372, n661)));
-																						n661 = n661 + 1;
+																					n651 = 0;
+																					while (n651 != 8) {
+																						store8(inside(p650, n651), load8(inside((byte *)tp_static_372, n651)));
+																						n651 = n651 + 1;
 																					}
-L50:
+L49:
 																					{
-																						storeptr(p16, p659);
-																						store64(p16 + 8, n658 + 8);
-																						store64(p16 + 16, n657);
-																						n653 = 0;
+																						storeptr(p16, p649);
+																						store64(p16 + 8, n648 + 8);
+																						store64(p16 + 16, n647);
+																						n643 = 0;
 																					}
 																				} else {
-																					uint8_t n662 = tp_formatter_Formatter_write_indented(p16, (byte *)tp_static_372, 8);
-																					n653 = n662;
+																					uint8_t n652 = tp_formatter_Formatter_write_indented(p16, (byte *)tp_static_372, 8);
+																					n643 = n652;
 																				}
 																			}
 																		}
 																	} else {
-																		n653 = 1;
+																		n643 = 1;
 																	}
-L49:
+L48:
 																	{
-																		n622 = n653;
-																		goto L43;
+																		n612 = n643;
+																		goto L42;
 																	}
 																}
 																case 5: {
 																	store32u(p16 + 24, 32);
 																	store64u(p16 + 40, UINT64_MAX);
-																	bool b663 = tp_Vec_grow_amortized(p16, 27);
-																	if (b663) {
-																		uint64_t n668;
-																		uint64_t n664 = load64(p16 + 8);
-																		uint64_t n665 = load64(p16 + 16);
-																		byte *p666 = loadptr(p16);
-																		byte *p667 = at(p666, n664);
-																		if (((uint64_t)(uintptr_t)p667 - (uint64_t)(uintptr_t)(byte *)tp_static_373) >= 27) {
-																			memcpy(p667, (byte *)tp_static_373, 27);
-																			goto L51;
+																	bool b653 = tp_Vec_grow_amortized(p16, 27);
+																	if (b653) {
+																		uint64_t n658;
+																		uint64_t n654 = load64(p16 + 8);
+																		uint64_t n655 = load64(p16 + 16);
+																		byte *p656 = loadptr(p16);
+																		byte *p657 = at(p656, n654);
+																		if (((uint64_t)(uintptr_t)p657 - (uint64_t)(uintptr_t)(byte *)tp_static_373) >= 27) {
+																			memcpy(p657, (byte *)tp_static_373, 27);
+																			goto L50;
 																		}
-																		n668 = 0;
-																		while (n668 != 27) {
-																			store8(inside(p667, n668), load8(inside((byte *)tp_static_373, n668)));
-																			n668 = n668 + 1;
+																		n658 = 0;
+																		while (n658 != 27) {
+																			store8(inside(p657, n658), load8(inside((byte *)tp_static_373, n658)));
+																			n658 = n658 + 1;
 																		}
-L51:
+L50:
 																		{
-																			n629 = n665;
-																			n630 = n664 + 27;
-																			p631 = p666;
-																			goto L45;
+																			n619 = n655;
+																			n620 = n654 + 27;
+																			p621 = p656;
+																			goto L44;
 																		}
 																	}
 																	break;
@@ -87676,47 +87652,47 @@ L51:
 																}
 																}
 																memcpy(p16 + 24, p15, 24);
-																goto L52;
-L45:
+																goto L51;
+L44:
 																{
-																	p669 = p631;
-																	n670 = n630;
-																	n671 = n629;
-																	n672 = 0;
-																	goto L53;
+																	p659 = p621;
+																	n660 = n620;
+																	n661 = n619;
+																	n662 = 0;
+																	goto L52;
 																}
-L43:
+L42:
 																{
 																	memcpy(p16 + 24, p15, 24);
-																	if (n622 == 0) {
-																		p669 = loadptr(p16);
-																		n670 = load64(p16 + 8);
-																		n671 = load64(p16 + 16);
-																		n672 = 0;
-																		goto L53;
+																	if (n612 == 0) {
+																		p659 = loadptr(p16);
+																		n660 = load64(p16 + 8);
+																		n661 = load64(p16 + 16);
+																		n662 = 0;
+																		goto L52;
+																	}
+																}
+L51:
+																{
+																	if (load64u(p16 + 16) == 0) {
+																		p659 = NULL;
+																		n660 = 0;
+																		n661 = 0;
+																		n662 = 1;
+																	} else {
+																		rattle_dealloc(loadptru(p16));
+																		p659 = NULL;
+																		n660 = 0;
+																		n661 = 0;
+																		n662 = 1;
 																	}
 																}
 L52:
 																{
-																	if (load64u(p16 + 16) == 0) {
-																		p669 = NULL;
-																		n670 = 0;
-																		n671 = 0;
-																		n672 = 1;
-																	} else {
-																		rattle_dealloc(loadptru(p16));
-																		p669 = NULL;
-																		n670 = 0;
-																		n671 = 0;
-																		n672 = 1;
-																	}
-																}
-L53:
-																{
-																	p673 = p669;
-																	n674 = n670;
-																	n675 = n671;
-																	n676 = n672;
+																	p663 = p659;
+																	n664 = n660;
+																	n665 = n661;
+																	n666 = n662;
 																}
 																break;
 															}
@@ -87730,19 +87706,19 @@ L53:
 														case 1:
 														case 2: {
 															memset(p24, 0, 32);
-															switch (n594) {
+															switch (n584) {
 															case 2: {
 																store8(p24, 1);
-																store64u(p24 + 8, n614);
-																store64u(p24 + 16, n592);
-																store8(p24 + 24, n616);
+																store64u(p24 + 8, n604);
+																store64u(p24 + 16, n582);
+																store8(p24 + 24, n606);
 																tp_state_file_report_no_state(p3, n4, p24, p10);
-																goto L54;
+																goto L53;
 															}
 															case 0: {
-																uint8_t n678, n732;
-																uint64_t n685, n686, n730, n731;
-																byte *p687, *p729;
+																uint8_t n668, n722;
+																uint64_t n675, n676, n720, n721;
+																byte *p677, *p719;
 																memset(p23 + 8, 0, 16);
 																memset(p23 + 57, 0, 7);
 																storeptru(p23, p11);
@@ -87752,42 +87728,42 @@ L53:
 																store64u(p23 + 48, 0);
 																store8(p23 + 56, 0);
 																memcpy(p22, p23 + 24, 24);
-																switch (MOSTLY_0(n593)) {
+																switch (MOSTLY_0(n583)) {
 																case 0: {
 																	storeptru(p21, p25 + 16);
 																	store32u(p23 + 24, 32);
 																	memset(p23 + 28, 0, 12);
 																	store64u(p23 + 40, UINT64_MAX);
-																	uint8_t n677 = tp_core_fmt_formatter_Formatter_write_piece(p23, p21);
-																	n678 = n677;
-																	goto L55;
+																	uint8_t n667 = tp_core_fmt_formatter_Formatter_write_piece(p23, p21);
+																	n668 = n667;
+																	goto L54;
 																}
 																case 1: {
 																	store32u(p23 + 24, 32);
 																	memset(p23 + 28, 0, 12);
 																	store64u(p23 + 40, UINT64_MAX);
-																	bool b679 = tp_Vec_grow_amortized(p23, 10);
-																	if (b679) {
-																		uint64_t n684;
-																		uint64_t n680 = load64(p23 + 8);
-																		uint64_t n681 = load64(p23 + 16);
-																		byte *p682 = loadptr(p23);
-																		byte *p683 = at(p682, n680);
-																		if (((uint64_t)(uintptr_t)p683 - (uint64_t)(uintptr_t)(byte *)tp_static_348) >= 10) {
-																			memcpy(p683, (byte *)tp_static_348, 10);
-																			goto L56;
+																	bool b669 = tp_Vec_grow_amortized(p23, 10);
+																	if (b669) {
+																		uint64_t n674;
+																		uint64_t n670 = load64(p23 + 8);
+																		uint64_t n671 = load64(p23 + 16);
+																		byte *p672 = loadptr(p23);
+																		byte *p673 = at(p672, n670);
+																		if (((uint64_t)(uintptr_t)p673 - (uint64_t)(uintptr_t)(byte *)tp_static_348) >= 10) {
+																			memcpy(p673, (byte *)tp_static_348, 10);
+																			goto L55;
 																		}
-																		n684 = 0;
-																		while (n684 != 10) {
-																			store8(inside(p683, n684), load8(inside((byte *)tp_static_348, n684)));
-																			n684 = n684 + 1;
+																		n674 = 0;
+																		while (n674 != 10) {
+																			store8(inside(p673, n674), load8(inside((byte *)tp_static_348, n674)));
+																			n674 = n674 + 1;
 																		}
-L56:
+L55:
 																		{
-																			n685 = n681;
-																			n686 = n680 + 10;
-																			p687 = p682;
-																			goto L57;
+																			n675 = n671;
+																			n676 = n670 + 10;
+																			p677 = p672;
+																			goto L56;
 																		}
 																	}
 																	break;
@@ -87796,28 +87772,28 @@ L56:
 																	store32u(p23 + 24, 32);
 																	memset(p23 + 28, 0, 12);
 																	store64u(p23 + 40, UINT64_MAX);
-																	bool b688 = tp_Vec_grow_amortized(p23, 28);
-																	if (b688) {
-																		uint64_t n693;
-																		uint64_t n689 = load64(p23 + 8);
-																		uint64_t n690 = load64(p23 + 16);
-																		byte *p691 = loadptr(p23);
-																		byte *p692 = at(p691, n689);
-																		if (((uint64_t)(uintptr_t)p692 - (uint64_t)(uintptr_t)(byte *)tp_static_349) >= 28) {
-																			memcpy(p692, (byte *)tp_static_349, 28);
-																			goto L58;
-																		}
-																		n693 = 0;
-																		while (n693 != 28) {
-																			store8(inside(p692, n693), load8(inside((byte *)tp_static_349, n693)));
-																			n693 = n693 + 1;
-																		}
-L58:
-																		{
-																			n685 = n690;
-																			n686 = n689 + 28;
-																			p687 = p691;
+																	bool b678 = tp_Vec_grow_amortized(p23, 28);
+																	if (b678) {
+																		uint64_t n683;
+																		uint64_t n679 = load64(p23 + 8);
+																		uint64_t n680 = load64(p23 + 16);
+																		byte *p681 = loadptr(p23);
+																		byte *p682 = at(p681, n679);
+																		if (((uint64_t)(uintptr_t)p682 - (uint64_t)(uintptr_t)(byte *)tp_static_349) >= 28) {
+																			memcpy(p682, (byte *)tp_static_349, 28);
 																			goto L57;
+																		}
+																		n683 = 0;
+																		while (n683 != 28) {
+																			store8(inside(p682, n683), load8(inside((byte *)tp_static_349, n683)));
+																			n683 = n683 + 1;
+																		}
+L57:
+																		{
+																			n675 = n680;
+																			n676 = n679 + 28;
+																			p677 = p681;
+																			goto L56;
 																		}
 																	}
 																	break;
@@ -87826,159 +87802,159 @@ L58:
 																	store32u(p23 + 24, 32);
 																	memset(p23 + 28, 0, 12);
 																	store64u(p23 + 40, UINT64_MAX);
-																	bool b694 = tp_Vec_grow_amortized(p23, 28);
-																	if (b694) {
-																		uint64_t n699;
-																		uint64_t n695 = load64(p23 + 8);
-																		uint64_t n696 = load64(p23 + 16);
-																		byte *p697 = loadptr(p23);
-																		byte *p698 = at(p697, n695);
-																		if (((uint64_t)(uintptr_t)p698 - (uint64_t)(uintptr_t)(byte *)tp_static_350) >= 28) {
-																			memcpy(p698, (byte *)tp_static_350, 28);
-																			goto L59;
+																	bool b684 = tp_Vec_grow_amortized(p23, 28);
+																	if (b684) {
+																		uint64_t n689;
+																		uint64_t n685 = load64(p23 + 8);
+																		uint64_t n686 = load64(p23 + 16);
+																		byte *p687 = loadptr(p23);
+																		byte *p688 = at(p687, n685);
+																		if (((uint64_t)(uintptr_t)p688 - (uint64_t)(uintptr_t)(byte *)tp_static_350) >= 28) {
+																			memcpy(p688, (byte *)tp_static_350, 28);
+																			goto L58;
 																		}
-																		n699 = 0;
-																		while (n699 != 28) {
-																			store8(inside(p698, n699), load8(inside((byte *)tp_static_350, n699)));
-																			n699 = n699 + 1;
+																		n689 = 0;
+																		while (n689 != 28) {
+																			store8(inside(p688, n689), load8(inside((byte *)tp_static_350, n689)));
+																			n689 = n689 + 1;
 																		}
-L59:
+L58:
 																		{
-																			uint8_t n701;
-																			storeptr(p23, p697);
-																			store64(p23 + 8, n695 + 28);
-																			store64(p23 + 16, n696);
+																			uint8_t n691;
+																			storeptr(p23, p687);
+																			store64(p23 + 8, n685 + 28);
+																			store64(p23 + 16, n686);
 																			store32u(p23 + 24, 32);
 																			memset(p23 + 28, 0, 12);
 																			store64u(p23 + 40, UINT64_MAX);
-																			uint64_t n700 = 0;
+																			uint64_t n690 = 0;
 																			for (;;) {
-																				uint8_t n703, n704, n705, n706;
-																				uint64_t n707;
-																				if (n700 == n591) {
-																					n701 = 0;
+																				uint8_t n693, n694, n695, n696;
+																				uint64_t n697;
+																				if (n690 == n581) {
+																					n691 = 0;
 																					break;
 																				}
-																				uint8_t n702 = load8(inside(p615, n700));
-																				switch (n702) {
+																				uint8_t n692 = load8(inside(p605, n690));
+																				switch (n692) {
 																				case 9: {
-																					n703 = 92;
-																					n704 = 116;
-																					n705 = 0;
-																					n706 = 0;
-																					n707 = 2;
+																					n693 = 92;
+																					n694 = 116;
+																					n695 = 0;
+																					n696 = 0;
+																					n697 = 2;
 																					break;
 																				}
 																				case 13: {
-																					n703 = 92;
-																					n704 = 114;
-																					n705 = 0;
-																					n706 = 0;
-																					n707 = 2;
+																					n693 = 92;
+																					n694 = 114;
+																					n695 = 0;
+																					n696 = 0;
+																					n697 = 2;
 																					break;
 																				}
 																				case 10: {
-																					n703 = 92;
-																					n704 = 110;
-																					n705 = 0;
-																					n706 = 0;
-																					n707 = 2;
+																					n693 = 92;
+																					n694 = 110;
+																					n695 = 0;
+																					n696 = 0;
+																					n697 = 2;
 																					break;
 																				}
 																				case 39: {
-																					n703 = 92;
-																					n704 = 39;
-																					n705 = 0;
-																					n706 = 0;
-																					n707 = 2;
+																					n693 = 92;
+																					n694 = 39;
+																					n695 = 0;
+																					n696 = 0;
+																					n697 = 2;
 																					break;
 																				}
 																				case 34: {
-																					n703 = 92;
-																					n704 = 34;
-																					n705 = 0;
-																					n706 = 0;
-																					n707 = 2;
+																					n693 = 92;
+																					n694 = 34;
+																					n695 = 0;
+																					n696 = 0;
+																					n697 = 2;
 																					break;
 																				}
 																				case 92: {
-																					n703 = 92;
-																					n704 = 92;
-																					n705 = 0;
-																					n706 = 0;
-																					n707 = 2;
+																					n693 = 92;
+																					n694 = 92;
+																					n695 = 0;
+																					n696 = 0;
+																					n697 = 2;
 																					break;
 																				}
 																				default: {
-																					uint8_t n708 = (uint8_t)((uint32_t)n702 >> 4);
-																					uint8_t n709 = (uint8_t)(n708 | 48);
-																					uint8_t n710 = (uint8_t)(n702 & 15);
-																					uint8_t n711 = (n710 < 10) ? (uint8_t)(n710 | 48) : (uint8_t)(n710 + 87);
-																					if (n702 < 32) {
-																						n703 = 92;
-																						n704 = 120;
-																						n705 = n709;
-																						n706 = n711;
-																						n707 = 4;
+																					uint8_t n698 = (uint8_t)((uint32_t)n692 >> 4);
+																					uint8_t n699 = (uint8_t)(n698 | 48);
+																					uint8_t n700 = (uint8_t)(n692 & 15);
+																					uint8_t n701 = (n700 < 10) ? (uint8_t)(n700 | 48) : (uint8_t)(n700 + 87);
+																					if (n692 < 32) {
+																						n693 = 92;
+																						n694 = 120;
+																						n695 = n699;
+																						n696 = n701;
+																						n697 = 4;
 																					} else {
-																						bool b712 = n702 < 127;
-																						n703 = b712 ? n702 : 92;
-																						n704 = (uint8_t)(b712 ? 0 : 120);
-																						n705 = b712 ? 0 : ((n702 < 160) ? n709 : (uint8_t)(n708 + 87));
-																						n706 = b712 ? 0 : n711;
-																						n707 = (uint64_t)(b712 ? 1 : 4);
+																						bool b702 = n692 < 127;
+																						n693 = b702 ? n692 : 92;
+																						n694 = (uint8_t)(b702 ? 0 : 120);
+																						n695 = b702 ? 0 : ((n692 < 160) ? n699 : (uint8_t)(n698 + 87));
+																						n696 = b702 ? 0 : n701;
+																						n697 = (uint64_t)(b702 ? 1 : 4);
 																					}
 																					break;
 																				}
 																				}
-																				store8(p20, n703);
-																				store8(p20 + 1, n704);
-																				store8(p20 + 2, n705);
-																				store8(p20 + 3, n706);
+																				store8(p20, n693);
+																				store8(p20 + 1, n694);
+																				store8(p20 + 2, n695);
+																				store8(p20 + 3, n696);
 																				store32u(p20 + 4, 0);
 																				store64u(p20 + 8, 0);
-																				store64u(p20 + 16, n707);
-																				byte *p713 = p20;
-																				uint64_t n714 = 4;
-																				uint64_t n715 = n707;
-																				while (n715 != 0) {
-																					uint64_t n719;
-																					uint8_t n721;
-																					uint64_t n716 = n715 - 1;
-																					if (n714 == 0)
+																				store64u(p20 + 16, n697);
+																				byte *p703 = p20;
+																				uint64_t n704 = 4;
+																				uint64_t n705 = n697;
+																				while (n705 != 0) {
+																					uint64_t n709;
+																					uint8_t n711;
+																					uint64_t n706 = n705 - 1;
+																					if (n704 == 0)
 																						break;
-																					uint64_t n717 = n714 - 1;
-																					uint8_t n718 = load8(p713);
+																					uint64_t n707 = n704 - 1;
+																					uint8_t n708 = load8(p703);
 																					store32u(p19, 0);
-																					if ((int8_t)n718 > (int8_t)255) {
-																						store8(p19, n718);
-																						n719 = 1;
+																					if ((int8_t)n708 > (int8_t)255) {
+																						store8(p19, n708);
+																						n709 = 1;
 																					} else {
-																						store8(p19, (uint8_t)((uint8_t)((uint32_t)n718 >> 6) | 192));
-																						store8(p19 + 1, (uint8_t)(n718 & 191));
-																						n719 = 2;
+																						store8(p19, (uint8_t)((uint8_t)((uint32_t)n708 >> 6) | 192));
+																						store8(p19 + 1, (uint8_t)(n708 & 191));
+																						n709 = 2;
 																					}
 																					if (load64(p23 + 48) == 0) {
-																						uint8_t n720 = tp_formatter_Formatter_write_raw(p23, p19, n719);
-																						n721 = n720;
+																						uint8_t n710 = tp_formatter_Formatter_write_raw(p23, p19, n709);
+																						n711 = n710;
 																					} else {
-																						uint8_t n722 = tp_formatter_Formatter_write_indented(p23, p19, n719);
-																						n721 = n722;
+																						uint8_t n712 = tp_formatter_Formatter_write_indented(p23, p19, n709);
+																						n711 = n712;
 																					}
-																					if ((n721 & 1) != 0) {
-																						n701 = 1;
-																						goto L60;
+																					if ((n711 & 1) != 0) {
+																						n691 = 1;
+																						goto L59;
 																					}
-																					p713 = at(p713, 1);
-																					n714 = n717;
-																					n715 = n716;
+																					p703 = at(p703, 1);
+																					n704 = n707;
+																					n705 = n706;
 																				}
-																				n700 = n700 + 1;
+																				n690 = n690 + 1;
 																			}
-L60:
+L59:
 																			{
-																				n678 = n701;
-																				goto L55;
+																				n668 = n691;
+																				goto L54;
 																			}
 																		}
 																	}
@@ -87988,28 +87964,28 @@ L60:
 																	store32u(p23 + 24, 32);
 																	memset(p23 + 28, 0, 12);
 																	store64u(p23 + 40, UINT64_MAX);
-																	bool b723 = tp_Vec_grow_amortized(p23, 32);
-																	if (b723) {
-																		uint64_t n728;
-																		uint64_t n724 = load64(p23 + 8);
-																		uint64_t n725 = load64(p23 + 16);
-																		byte *p726 = loadptr(p23);
-																		byte *p727 = at(p726, n724);
-																		if (((uint64_t)(uintptr_t)p727 - (uint64_t)(uintptr_t)(byte *)tp_static_351) >= 32) {
-																			memcpy(p727, (byte *)tp_static_351, 32);
-																			goto L61;
+																	bool b713 = tp_Vec_grow_amortized(p23, 32);
+																	if (b713) {
+																		uint64_t n718;
+																		uint64_t n714 = load64(p23 + 8);
+																		uint64_t n715 = load64(p23 + 16);
+																		byte *p716 = loadptr(p23);
+																		byte *p717 = at(p716, n714);
+																		if (((uint64_t)(uintptr_t)p717 - (uint64_t)(uintptr_t)(byte *)tp_static_351) >= 32) {
+																			memcpy(p717, (byte *)tp_static_351, 32);
+																			goto L60;
 																		}
-																		n728 = 0;
-																		while (n728 != 32) {
-																			store8(inside(p727, n728), load8(inside((byte *)tp_static_351, n728)));
-																			n728 = n728 + 1;
+																		n718 = 0;
+																		while (n718 != 32) {
+																			store8(inside(p717, n718), load8(inside((byte *)tp_static_351, n718)));
+																			n718 = n718 + 1;
 																		}
-L61:
+L60:
 																		{
-																			n685 = n725;
-																			n686 = n724 + 32;
-																			p687 = p726;
-																			goto L57;
+																			n675 = n715;
+																			n676 = n714 + 32;
+																			p677 = p716;
+																			goto L56;
 																		}
 																	}
 																	break;
@@ -88019,54 +87995,54 @@ L61:
 																}
 																}
 																memcpy(p23 + 24, p22, 24);
-																goto L62;
-L57:
+																goto L61;
+L56:
 																{
-																	p729 = p687;
-																	n730 = n686;
-																	n731 = n685;
-																	n732 = 0;
-																	goto L63;
+																	p719 = p677;
+																	n720 = n676;
+																	n721 = n675;
+																	n722 = 0;
+																	goto L62;
 																}
-L55:
+L54:
 																{
 																	memcpy(p23 + 24, p22, 24);
-																	if (n678 == 0) {
-																		p729 = loadptr(p23);
-																		n730 = load64(p23 + 8);
-																		n731 = load64(p23 + 16);
-																		n732 = 0;
-																		goto L63;
+																	if (n668 == 0) {
+																		p719 = loadptr(p23);
+																		n720 = load64(p23 + 8);
+																		n721 = load64(p23 + 16);
+																		n722 = 0;
+																		goto L62;
+																	}
+																}
+L61:
+																{
+																	if (load64u(p23 + 16) == 0) {
+																		p719 = NULL;
+																		n720 = 0;
+																		n721 = 0;
+																		n722 = 1;
+																	} else {
+																		rattle_dealloc(loadptru(p23));
+																		p719 = NULL;
+																		n720 = 0;
+																		n721 = 0;
+																		n722 = 1;
 																	}
 																}
 L62:
 																{
-																	if (load64u(p23 + 16) == 0) {
-																		p729 = NULL;
-																		n730 = 0;
-																		n731 = 0;
-																		n732 = 1;
-																	} else {
-																		rattle_dealloc(loadptru(p23));
-																		p729 = NULL;
-																		n730 = 0;
-																		n731 = 0;
-																		n732 = 1;
-																	}
-																}
-L63:
-																{
-																	p673 = p729;
-																	n674 = n730;
-																	n675 = n731;
-																	n676 = n732;
+																	p663 = p719;
+																	n664 = n720;
+																	n665 = n721;
+																	n666 = n722;
 																}
 																break;
 															}
 															case 1: {
-																byte *p739;
-																uint64_t n740, n741;
-																uint8_t n742;
+																byte *p729;
+																uint64_t n730, n731;
+																uint8_t n732;
 																memset(p18 + 8, 0, 16);
 																memset(p18 + 57, 0, 7);
 																storeptru(p18, p11);
@@ -88079,48 +88055,48 @@ L63:
 																store32u(p18 + 24, 32);
 																memset(p18 + 28, 0, 12);
 																store64u(p18 + 40, UINT64_MAX);
-																bool b733 = tp_Vec_grow_amortized(p18, 37);
-																if (b733) {
-																	uint64_t n738;
-																	uint64_t n734 = load64(p18 + 8);
-																	uint64_t n735 = load64(p18 + 16);
-																	byte *p736 = loadptr(p18);
-																	byte *p737 = at(p736, n734);
-																	if (((uint64_t)(uintptr_t)p737 - (uint64_t)(uintptr_t)(byte *)tp_static_347) >= 37) {
-																		memcpy(p737, (byte *)tp_static_347, 37);
-																		goto L64;
+																bool b723 = tp_Vec_grow_amortized(p18, 37);
+																if (b723) {
+																	uint64_t n728;
+																	uint64_t n724 = load64(p18 + 8);
+																	uint64_t n725 = load64(p18 + 16);
+																	byte *p726 = loadptr(p18);
+																	byte *p727 = at(p726, n724);
+																	if (((uint64_t)(uintptr_t)p727 - (uint64_t)(uintptr_t)(byte *)tp_static_347) >= 37) {
+																		memcpy(p727, (byte *)tp_static_347, 37);
+																		goto L63;
 																	}
-																	n738 = 0;
-																	while (n738 != 37) {
-																		store8(inside(p737, n738), load8(inside((byte *)tp_static_347, n738)));
-																		n738 = n738 + 1;
+																	n728 = 0;
+																	while (n728 != 37) {
+																		store8(inside(p727, n728), load8(inside((byte *)tp_static_347, n728)));
+																		n728 = n728 + 1;
 																	}
-L64:
+L63:
 																	{
-																		p739 = p736;
-																		n740 = n734 + 37;
-																		n741 = n735;
-																		n742 = 0;
+																		p729 = p726;
+																		n730 = n724 + 37;
+																		n731 = n725;
+																		n732 = 0;
 																	}
 																} else {
 																	memcpy(p18 + 24, p17, 24);
 																	if (load64u(p18 + 16) == 0) {
-																		p739 = NULL;
-																		n740 = 0;
-																		n741 = 0;
-																		n742 = 1;
+																		p729 = NULL;
+																		n730 = 0;
+																		n731 = 0;
+																		n732 = 1;
 																	} else {
 																		rattle_dealloc(loadptru(p18));
-																		p739 = NULL;
-																		n740 = 0;
-																		n741 = 0;
-																		n742 = 1;
+																		p729 = NULL;
+																		n730 = 0;
+																		n731 = 0;
+																		n732 = 1;
 																	}
 																}
-																p673 = p739;
-																n674 = n740;
-																n675 = n741;
-																n676 = n742;
+																p663 = p729;
+																n664 = n730;
+																n665 = n731;
+																n666 = n732;
 																break;
 															}
 															default: {
@@ -88133,31 +88109,31 @@ L64:
 															UNREACHABLE();
 														}
 														}
-														if (n676 == 0) {
+														if (n666 == 0) {
 															if ((load8(p10) & 1) == 0)
-																tp_reports_write_located(p10, p3, n4, 1, 0, p673, n674);
-															if (n675 != 0)
-																rattle_dealloc(p673);
+																tp_reports_write_located(p10, p3, n4, 1, 0, p663, n664);
+															if (n665 != 0)
+																rattle_dealloc(p663);
 														} else if ((load8(p10) & 1) == 0) {
 															tp_reports_write_located(p10, p3, n4, 1, 0, (byte *)tp_static_343, 13);
 														}
-L54:
+L53:
 														{
-															uint8_t n744;
-															uint8_t n743 = load8(p25);
-															switch (MOSTLY_0(n743)) {
+															uint8_t n734;
+															uint8_t n733 = load8(p25);
+															switch (MOSTLY_0(n733)) {
 															case 0:
 															case 1:
 															case 2: {
-																n744 = 5;
-																goto L65;
+																n734 = 5;
+																goto L64;
 															}
 															case 3: {
 																switch (load8(p25 + 8)) {
 																case 3:
 																case 4: {
-																	n745 = 5;
-																	goto L66;
+																	n735 = 5;
+																	goto L65;
 																}
 																case 0:
 																case 1:
@@ -88180,28 +88156,28 @@ L54:
 																UNREACHABLE();
 															}
 															}
-															n744 = 1;
-L65:
+															n734 = 1;
+L64:
 															{
-																switch (MOSTLY_0(n743)) {
+																switch (MOSTLY_0(n733)) {
 																case 0: {
-																	byte *p746 = loadptru(p25 + 16);
+																	byte *p736 = loadptru(p25 + 16);
 																	switch (load8(p25 + 8)) {
 																	case 3: {
 																		if (load64u(p25 + 32) == 0) {
-																			n745 = n744;
-																			goto L66;
+																			n735 = n734;
+																			goto L65;
 																		}
-																		rattle_dealloc(p746);
-																		n745 = n744;
-																		goto L66;
+																		rattle_dealloc(p736);
+																		n735 = n734;
+																		goto L65;
 																	}
 																	case 0:
 																	case 1:
 																	case 2:
 																	case 4: {
-																		n745 = n744;
-																		goto L66;
+																		n735 = n734;
+																		goto L65;
 																	}
 																	default: {
 																		UNREACHABLE();
@@ -88213,8 +88189,8 @@ L65:
 																case 2:
 																case 3:
 																case 4: {
-																	n745 = n744;
-																	goto L66;
+																	n735 = n734;
+																	goto L65;
 																}
 																default: {
 																	UNREACHABLE();
@@ -88222,27 +88198,27 @@ L65:
 																}
 															}
 														}
-L42:
+L41:
 														{
 															store8(p26, 1);
-															store64u(p26 + 8, n617);
-															store8(p26 + 16, n618);
-															store8(p26 + 17, n619);
-															store64u(p26 + 24, n620);
+															store64u(p26 + 8, n607);
+															store8(p26 + 16, n608);
+															store8(p26 + 17, n609);
+															store64u(p26 + 24, n610);
 															store64u(p27, 1);
 															storeptru(p27 + 8, p5);
 															store64u(p27 + 16, n6);
-															uint8_t n747 = tp_reports_end_call(p26, p27, p104, p10);
+															uint8_t n737 = tp_reports_end_call(p26, p27, p96, p10);
 															switch (MOSTLY_0(load8(p25))) {
 															case 0: {
-																byte *p748 = loadptru(p25 + 16);
+																byte *p738 = loadptru(p25 + 16);
 																switch (load8(p25 + 8)) {
 																case 3: {
 																	if (load64u(p25 + 32) == 0) {
-																		n745 = n747;
+																		n735 = n737;
 																	} else {
-																		rattle_dealloc(p748);
-																		n745 = n747;
+																		rattle_dealloc(p738);
+																		n735 = n737;
 																	}
 																	break;
 																}
@@ -88250,7 +88226,7 @@ L42:
 																case 1:
 																case 2:
 																case 4: {
-																	n745 = n747;
+																	n735 = n737;
 																	break;
 																}
 																default: {
@@ -88263,7 +88239,7 @@ L42:
 															case 2:
 															case 3:
 															case 4: {
-																n745 = n747;
+																n735 = n737;
 																break;
 															}
 															default: {
@@ -88271,16 +88247,16 @@ L42:
 															}
 															}
 														}
-L66:
+L65:
 														{
-															n589 = n745;
+															n579 = n735;
 														}
 													}
-L39:
+L38:
 													{
-														memcpy(p86 + 3, p104, 16);
-														store8(p1, n589);
-														memcpy(p1 + 1, p86, 19);
+														memcpy(p83 + 3, p96, 16);
+														store8(p1, n579);
+														memcpy(p1 + 1, p83, 19);
 														return;
 													}
 												}
@@ -88288,34 +88264,34 @@ L39:
 										}
 L13:
 										{
-											if (b117) {
-												n120 = 3841;
+											if (b109) {
+												n112 = 3841;
 												goto L8;
 											}
-											rattle_dealloc(p118);
-											n120 = 3841;
+											rattle_dealloc(p110);
+											n112 = 3841;
 											goto L8;
 										}
 									}
-									if (b117) {
-										n120 = n129;
+									if (b109) {
+										n112 = n121;
 										goto L8;
 									}
-									n128 = n129;
+									n120 = n121;
 								}
 L12:
 								{
-									rattle_dealloc(p118);
-									n120 = n128;
+									rattle_dealloc(p110);
+									n112 = n120;
 									goto L8;
 								}
 							}
-							if (b117) {
-								n120 = n123;
+							if (b109) {
+								n112 = n115;
 								goto L8;
 							}
-							rattle_dealloc(p118);
-							n120 = n123;
+							rattle_dealloc(p110);
+							n112 = n115;
 							goto L8;
 						}
 					}
@@ -88323,109 +88299,109 @@ L12:
 L5: ;
 L7:
 				{
-					tp_error_last_error(p69);
-					n109 = load8(p69 + 1);
+					tp_error_last_error(p66);
+					n101 = load8(p66 + 1);
 				}
 			}
 L4:
 			{
-				n120 = (uint64_t)n109 << 8;
+				n112 = (uint64_t)n101 << 8;
 			}
 L8:
 			{
-				(void)os_close(load32u(p79));
-				n750 = n120;
+				(void)os_close(load32u(p76));
+				n740 = n112;
 			}
 		} else {
-			(void)os_close(n106);
-			n750 = n107;
+			(void)os_close(n98);
+			n740 = n99;
 		}
 	} else {
-		n750 = load64(p78 + 8);
+		n740 = load64(p75 + 8);
 	}
 L16:
 	{
-		n753 = n750;
+		n743 = n740;
 	}
 L2:
 	{
-		uint64_t n754 = n753 >> 8;
-		store8(p61, 0);
-		store8(p61 + 1, 1);
-		store8(p61 + 2, 2);
-		store8(p61 + 3, 3);
-		store8(p61 + 4, 4);
-		store8(p61 + 5, 5);
-		store8(p61 + 6, 6);
-		store8(p61 + 7, 7);
-		store8(p61 + 8, 8);
-		store8(p61 + 9, 9);
-		store8(p61 + 10, 10);
-		store8(p61 + 11, 11);
-		store8(p61 + 12, 12);
-		store8(p61 + 13, 13);
-		store8(p61 + 14, 14);
-		store8(p61 + 15, 15);
-		store8(p61 + 16, 16);
-		store8(p61 + 17, 17);
-		store8(p61 + 18, 18);
-		store8(p61 + 19, 19);
-		store8(p61 + 20, 20);
-		store8(p61 + 21, 21);
-		store8(p61 + 22, 22);
-		store8(p61 + 23, 23);
-		store8(p61 + 24, 24);
-		store8(p61 + 25, 25);
-		store8(p61 + 26, 26);
-		store8(p61 + 27, 27);
-		store8(p61 + 28, 28);
-		store8(p61 + 29, 29);
-		store8(p61 + 30, 30);
-		store8(p61 + 31, 31);
-		store8(p61 + 32, 32);
-		store8(p61 + 33, 33);
-		store8(p61 + 34, 34);
-		store8(p61 + 35, 35);
-		store8(p61 + 36, 36);
-		store8(p61 + 37, 37);
-		store8(p61 + 38, 38);
-		store8(p61 + 39, 39);
-		store8(p61 + 40, 40);
-		if ((uint8_t)n754 < 41) {
-			switch (MOSTLY_0(load8(inside(p61, n754 & 63)))) {
+		uint64_t n744 = n743 >> 8;
+		store8(p58, 0);
+		store8(p58 + 1, 1);
+		store8(p58 + 2, 2);
+		store8(p58 + 3, 3);
+		store8(p58 + 4, 4);
+		store8(p58 + 5, 5);
+		store8(p58 + 6, 6);
+		store8(p58 + 7, 7);
+		store8(p58 + 8, 8);
+		store8(p58 + 9, 9);
+		store8(p58 + 10, 10);
+		store8(p58 + 11, 11);
+		store8(p58 + 12, 12);
+		store8(p58 + 13, 13);
+		store8(p58 + 14, 14);
+		store8(p58 + 15, 15);
+		store8(p58 + 16, 16);
+		store8(p58 + 17, 17);
+		store8(p58 + 18, 18);
+		store8(p58 + 19, 19);
+		store8(p58 + 20, 20);
+		store8(p58 + 21, 21);
+		store8(p58 + 22, 22);
+		store8(p58 + 23, 23);
+		store8(p58 + 24, 24);
+		store8(p58 + 25, 25);
+		store8(p58 + 26, 26);
+		store8(p58 + 27, 27);
+		store8(p58 + 28, 28);
+		store8(p58 + 29, 29);
+		store8(p58 + 30, 30);
+		store8(p58 + 31, 31);
+		store8(p58 + 32, 32);
+		store8(p58 + 33, 33);
+		store8(p58 + 34, 34);
+		store8(p58 + 35, 35);
+		store8(p58 + 36, 36);
+		store8(p58 + 37, 37);
+		store8(p58 + 38, 38);
+		store8(p58 + 39, 39);
+		store8(p58 + 40, 40);
+		if ((uint8_t)n744 < 41) {
+			switch (MOSTLY_0(load8(inside(p58, n744 & 63)))) {
 			case 0: {
-				n133 = 25;
-				p134 = (byte *)tp_static_374;
+				n125 = 25;
+				p126 = (byte *)tp_static_374;
 				goto L1;
 			}
 			case 1: {
-				n133 = 17;
-				p134 = (byte *)tp_static_375;
+				n125 = 17;
+				p126 = (byte *)tp_static_375;
 				goto L1;
 			}
 			case 15: {
-				n133 = 14;
-				p134 = (byte *)tp_static_376;
+				n125 = 14;
+				p126 = (byte *)tp_static_376;
 				goto L1;
 			}
 			case 14: {
-				n133 = 15;
-				p134 = (byte *)tp_static_377;
+				n125 = 15;
+				p126 = (byte *)tp_static_377;
 				goto L1;
 			}
 			case 18: {
-				n133 = 33;
-				p134 = (byte *)tp_static_378;
+				n125 = 33;
+				p126 = (byte *)tp_static_378;
 				goto L1;
 			}
 			case 33: {
-				n133 = 18;
-				p134 = (byte *)tp_static_379;
+				n125 = 18;
+				p126 = (byte *)tp_static_379;
 				goto L1;
 			}
 			case 38: {
-				n133 = 13;
-				p134 = (byte *)tp_static_343;
+				n125 = 13;
+				p126 = (byte *)tp_static_343;
 				goto L1;
 			}
 			case 2:
@@ -88470,16 +88446,16 @@ L2:
 			}
 			}
 		}
-		n133 = 13;
-		p134 = (byte *)tp_static_380;
+		n125 = 13;
+		p126 = (byte *)tp_static_380;
 	}
 L1:
 	{
 		if ((load8(p10) & 1) == 0)
-			tp_reports_write_located(p10, p3, n4, 1, 0, p134, n133);
-		memcpy(p86 + 3, p103, 16);
+			tp_reports_write_located(p10, p3, n4, 1, 0, p126, n125);
+		memcpy(p83 + 3, p95, 16);
 		store8(p1, 5);
-		memcpy(p1 + 1, p86, 19);
+		memcpy(p1 + 1, p83, 19);
 		return;
 	}
 }
@@ -92045,24 +92021,24 @@ L11:
 	}
 }
 
-/* timer_commands::render::push_name: crates/timer_commands/src/render.rt */
-OWN uint8_t tp_render_push_name(byte *p1, uint64_t n2, uint8_t n3, uint8_t n4)
+/* timer_commands::render::names::push_name: crates/timer_commands/src/render/names.rt */
+OWN uint8_t tp_names_push_name(byte *p1, uint64_t n2, uint8_t n3, uint8_t n4)
 {
 	switch (n3) {
 	case 3: {
 		if (n2 < 60) {
-			uint8_t n5 = tp_render_push_number(p1, (byte *)tp_static_387, 8, n2);
+			uint8_t n5 = tp_names_push_number(p1, (byte *)tp_static_387, 8, n2);
 			return n5;
 		}
 		if (n2 < 120) {
-			uint8_t n6 = tp_render_push_number(p1, (byte *)tp_static_388, 8, n2 - 60);
+			uint8_t n6 = tp_names_push_number(p1, (byte *)tp_static_388, 8, n2 - 60);
 			return n6;
 		}
 		if (n2 < 144) {
-			uint8_t n7 = tp_render_push_number(p1, (byte *)tp_static_389, 6, n2 - 120);
+			uint8_t n7 = tp_names_push_number(p1, (byte *)tp_static_389, 6, n2 - 120);
 			return n7;
 		}
-		uint8_t n8 = tp_render_push_number(p1, (byte *)tp_static_390, 5, n2 - 144);
+		uint8_t n8 = tp_names_push_number(p1, (byte *)tp_static_390, 5, n2 - 144);
 		return n8;
 	}
 	case 1: {
@@ -92084,17 +92060,17 @@ OWN uint8_t tp_render_push_name(byte *p1, uint64_t n2, uint8_t n3, uint8_t n4)
 			UNREACHABLE();
 		}
 		}
-		uint8_t n10 = tp_render_push_number(p1, (byte *)tp_static_386, 7, n2 / n9);
+		uint8_t n10 = tp_names_push_number(p1, (byte *)tp_static_386, 7, n2 / n9);
 		if ((n10 & 1) != 0)
 			return 1;
-		uint8_t n11 = tp_render_push_number(p1, (byte *)tp_static_385, 6, n2 % n9);
+		uint8_t n11 = tp_names_push_number(p1, (byte *)tp_static_385, 6, n2 % n9);
 		return n11;
 	}
 	case 2: {
-		uint8_t n12 = tp_render_push_number(p1, (byte *)tp_static_386, 7, n2 >> 7);
+		uint8_t n12 = tp_names_push_number(p1, (byte *)tp_static_386, 7, n2 >> 7);
 		if ((n12 & 1) != 0)
 			return 1;
-		uint8_t n13 = tp_render_push_number(p1, (byte *)tp_static_385, 6, n2 & 127);
+		uint8_t n13 = tp_names_push_number(p1, (byte *)tp_static_385, 6, n2 & 127);
 		return n13;
 	}
 	default: {
@@ -92103,8 +92079,8 @@ OWN uint8_t tp_render_push_name(byte *p1, uint64_t n2, uint8_t n3, uint8_t n4)
 	}
 }
 
-/* timer_commands::render::push_list: crates/timer_commands/src/render.rt */
-OWN uint8_t tp_render_push_list(byte *p1, byte *p2, uint64_t n3, uint8_t n4, uint8_t n5, byte *p6)
+/* timer_commands::render::lists::push_list: crates/timer_commands/src/render/lists.rt */
+OWN uint8_t tp_lists_push_list(byte *p1, byte *p2, uint64_t n3, uint8_t n4, uint8_t n5, byte *p6)
 {
 	uint64_t n15, n18, n30;
 	uint8_t n17;
@@ -92113,7 +92089,7 @@ OWN uint8_t tp_render_push_list(byte *p1, byte *p2, uint64_t n3, uint8_t n4, uin
 	uint8_t n9 = load8(p6 + 16);
 	uint64_t n10 = load64u(p6 + 24);
 	uint64_t n11 = load64u(p6 + 32);
-	uint8_t n12 = tp_render_push_name(p1, n3, n4, n5);
+	uint8_t n12 = tp_names_push_name(p1, n3, n4, n5);
 	if ((n12 & 1) != 0)
 		return 1;
 	uint64_t n13 = load64(p1 + 8);
@@ -92159,7 +92135,7 @@ OWN uint8_t tp_render_push_list(byte *p1, byte *p2, uint64_t n3, uint8_t n4, uin
 		} else if (n11 > n24) {
 			goto L1;
 		}
-		n25 = tp_render_push_number(p1, (byte *)tp_static_104, 1, n24);
+		n25 = tp_names_push_number(p1, (byte *)tp_static_104, 1, n24);
 		if ((n25 & 1) != 0)
 			return 1;
 L1:
@@ -92302,7 +92278,7 @@ L4:
 					n33 = (uint8_t)(n36 <= n37);
 				}
 			}
-			n38 = tp_render_push_number(p4, (byte *)tp_static_391, 11, load64(p1 + 16));
+			n38 = tp_names_push_number(p4, (byte *)tp_static_391, 11, load64(p1 + 16));
 			if ((n38 & 1) != 0)
 				goto L5;
 			store8(p5, n17);
@@ -92341,7 +92317,7 @@ L7:
 				storeptr(p4, p44);
 				store64(p4 + 8, n43 + 5);
 				store64(p4 + 16, n42);
-				uint8_t n47 = tp_render_push_name(p4, n13, n22, n23);
+				uint8_t n47 = tp_names_push_name(p4, n13, n22, n23);
 				if ((n47 & 1) != 0)
 					goto L6;
 				uint64_t n48 = load64(p4 + 16);
@@ -92372,7 +92348,7 @@ L8:
 					storeptr(p4, p53);
 					store64(p4 + 8, n52 + 3);
 					store64(p4 + 16, n51);
-					uint8_t n56 = tp_render_push_list(p4, p1 + 40, n25, n22, n23, p5);
+					uint8_t n56 = tp_lists_push_list(p4, p1 + 40, n25, n22, n23, p5);
 					if ((n56 & 1) != 0)
 						goto L5;
 				}
@@ -92409,13 +92385,13 @@ L5:
 OWN uint8_t tp_render_push_work(byte *p1, uint64_t n2, uint64_t n3, uint64_t n4)
 {
 	uint64_t n10;
-	uint8_t n5 = tp_render_push_number(p1, (byte *)tp_static_394, 9, n2);
+	uint8_t n5 = tp_names_push_number(p1, (byte *)tp_static_394, 9, n2);
 	if ((n5 & 1) != 0)
 		return 1;
-	uint8_t n6 = tp_render_push_number(p1, (byte *)tp_static_395, 7, n3);
+	uint8_t n6 = tp_names_push_number(p1, (byte *)tp_static_395, 7, n3);
 	if ((n6 & 1) != 0)
 		return 1;
-	uint8_t n7 = tp_render_push_number(p1, (byte *)tp_static_396, 8, n4);
+	uint8_t n7 = tp_names_push_number(p1, (byte *)tp_static_396, 8, n4);
 	if ((n7 & 1) != 0)
 		return 1;
 	uint64_t n8 = load64(p1 + 8);
@@ -92432,8 +92408,8 @@ OWN uint8_t tp_render_push_work(byte *p1, uint64_t n2, uint64_t n3, uint64_t n4)
 	return 0;
 }
 
-/* timer_commands::render::push_lists: crates/timer_commands/src/render.rt */
-OWN uint8_t tp_render_push_lists(byte *p1, byte *p2, uint8_t n3, uint8_t n4, byte *p5)
+/* timer_commands::render::lists::push_lists: crates/timer_commands/src/render/lists.rt */
+OWN uint8_t tp_lists_push_lists(byte *p1, byte *p2, uint8_t n3, uint8_t n4, byte *p5)
 {
 	ALIGN(8) byte p6[40];
 	memcpy(p6, p5, 40);
@@ -92503,7 +92479,7 @@ L2:
 		}
 		store8(inside(loadptr(p1), n28), 32);
 		store64(p1 + 8, n28 + 1);
-		n29 = tp_render_push_list(p1, p2, n8, n3, n4, p6);
+		n29 = tp_lists_push_list(p1, p2, n8, n3, n4, p6);
 		if ((n29 & 1) != 0)
 			return 1;
 L1:
@@ -93634,7 +93610,7 @@ L21:
 							store64(p12 + 16, n256);
 							store64(p12 + 24, n257);
 							store64(p12 + 32, n258);
-							n259 = tp_render_push_number(p18, (byte *)tp_static_383, 6, n252);
+							n259 = tp_names_push_number(p18, (byte *)tp_static_383, 6, n252);
 							if ((n259 & 1) != 0)
 								goto L25;
 							n260 = load64(p18 + 8);
@@ -93670,7 +93646,7 @@ L21:
 								UNREACHABLE();
 							}
 							}
-							n267 = tp_render_push_lists(p18, p19 + 40, n265, n266, p12);
+							n267 = tp_lists_push_lists(p18, p19 + 40, n265, n266, p12);
 							if ((n267 & 1) != 0)
 								goto L26;
 							n253 = load64(p18 + 8);
@@ -95070,5370 +95046,5278 @@ L11:
 
 #if !defined PIECE || PIECE == 13
 
-/* timer_commands::schemes::over_scheme: crates/timer_commands/src/schemes.rt */
-OWN void tp_schemes_over_scheme(byte *p1, byte *p2, byte *p3, byte *p4, byte *p5, byte *p6)
-{
-	ALIGN(8) byte p7[1];
-	ALIGN(8) byte p8[88];
-	ALIGN(8) byte p9[24];
-	ALIGN(8) byte p10[88];
-	ALIGN(8) byte p11[88];
-	ALIGN(8) byte p12[40];
-	ALIGN(8) byte p13[48];
-	ALIGN(8) byte p14[96];
-	ALIGN(8) byte p15[24];
-	ALIGN(8) byte p16[1520];
-	ALIGN(8) byte p17[96];
-	ALIGN(8) byte p18[24];
-	ALIGN(8) byte p19[88];
-	ALIGN(8) byte p20[48];
-	ALIGN(8) byte p21[72];
-	ALIGN(8) byte p22[24];
-	ALIGN(8) byte p23[1496];
-	ALIGN(8) byte p24[24];
-	ALIGN(8) byte p25[32];
-	ALIGN(8) byte p26[32];
-	ALIGN(8) byte p27[1496];
-	ALIGN(8) byte p28[512];
-	ALIGN(8) byte p29[512];
-	ALIGN(8) byte p30[128];
-	ALIGN(8) byte p31[184];
-	ALIGN(1) byte p32[39];
-	ALIGN(8) byte p33[264];
-	ALIGN(2) byte p34[38];
-	ALIGN(8) byte p35[16];
-	ALIGN(2) byte p36[288];
-	ALIGN(8) byte p37[128];
-	ALIGN(1) byte p38[127];
-	ALIGN(1) byte p39[127];
-	ALIGN(8) byte p40[96];
-	ALIGN(8) byte p41[128];
-	ALIGN(1) byte p42[127];
-	ALIGN(1) byte p43[127];
-	ALIGN(8) byte p44[96];
-	ALIGN(8) byte p45[88];
-	ALIGN(8) byte p46[24];
-	ALIGN(8) byte p47[88];
-	ALIGN(8) byte p48[88];
-	ALIGN(8) byte p49[48];
-	ALIGN(8) byte p50[96];
-	ALIGN(8) byte p51[24];
-	ALIGN(8) byte p52[1264];
-	ALIGN(8) byte p53[96];
-	ALIGN(8) byte p54[24];
-	ALIGN(8) byte p55[88];
-	ALIGN(8) byte p56[48];
-	ALIGN(8) byte p57[72];
-	ALIGN(8) byte p58[24];
-	ALIGN(8) byte p59[1240];
-	ALIGN(8) byte p60[24];
-	ALIGN(8) byte p61[32];
-	ALIGN(8) byte p62[32];
-	ALIGN(8) byte p63[1240];
-	ALIGN(8) byte p64[512];
-	ALIGN(8) byte p65[512];
-	ALIGN(8) byte p66[88];
-	ALIGN(8) byte p67[24];
-	ALIGN(8) byte p68[88];
-	ALIGN(8) byte p69[88];
-	ALIGN(8) byte p70[24];
-	ALIGN(8) byte p71[48];
-	ALIGN(8) byte p72[96];
-	ALIGN(8) byte p73[24];
-	ALIGN(8) byte p74[1192];
-	ALIGN(8) byte p75[96];
-	ALIGN(8) byte p76[24];
-	ALIGN(8) byte p77[88];
-	ALIGN(8) byte p78[48];
-	ALIGN(8) byte p79[72];
-	ALIGN(8) byte p80[24];
-	ALIGN(8) byte p81[1168];
-	ALIGN(8) byte p82[24];
-	ALIGN(8) byte p83[32];
-	ALIGN(8) byte p84[32];
-	ALIGN(8) byte p85[1168];
-	ALIGN(8) byte p86[512];
-	ALIGN(8) byte p87[512];
-	ALIGN(8) byte p88[80];
-	ALIGN(8) byte p92[40];
-	ALIGN(8) byte p93[40];
-	ALIGN(8) byte p94[136];
-	ALIGN(1) byte p95[127];
-	ALIGN(8) byte p96[96];
-	ALIGN(1) byte p97[127];
-	ALIGN(8) byte p98[96];
-	ALIGN(2) byte p99[38];
-	ALIGN(8) byte p100[16];
-	ALIGN(8) byte p101[288];
-	ALIGN(8) byte p102[32];
-	ALIGN(8) byte p103[240];
-	ALIGN(8) byte p104[240];
-	store64(p88, 0);
-	uint8_t n89 = load8(p2);
-	store8(p88, n89);
-	uint8_t n90 = load8(p2 + 1);
-	store8(p88 + 1, n90);
-	uint8_t n91 = load8(p2 + 2);
-	store8(p88 + 2, n91);
-	memcpy(p88 + 8, p2 + 8, 72);
-	memcpy(p92, p3, 40);
-	memcpy(p93, p4, 40);
-	memset(p94, 0, 136);
-	memset(p95, 0, 127);
-	memset(p96, 0, 96);
-	memset(p97, 0, 127);
-	memset(p98, 0, 96);
-	memset(p99, 0, 38);
-	memset(p100, 0, 16);
-	memset(p101, 0, 288);
-	memset(p102, 0, 32);
-	memset(p103, 0, 240);
-	memset(p104, 0, 240);
-	uint64_t n105 = load64(p92 + 32);
-	switch (MOSTLY_0(load8(p92))) {
-	case 0: {
-		uint8_t n123, n124, n126, n127;
-		uint64_t n125, n128;
-		bool b106 = n105 > UINT64_C(1152921504606846975);
-		uint64_t n107 = b106 ? 0 : n105;
-		byte *p108 = b106 ? NULL : p7;
-		uint8_t n109 = load8(p88 + 9);
-		uint8_t n110 = load8(p88 + 10);
-		uint8_t n111 = load8(p88 + 16);
-		uint64_t n112 = load64u(p88 + 24);
-		uint8_t n113 = load8(p88 + 32);
-		uint64_t n114 = load64u(p88 + 40);
-		uint8_t n115 = load8(p88 + 48);
-		uint64_t n116 = load64u(p88 + 56);
-		uint8_t n117 = load8(p88 + 64);
-		uint64_t n118 = load64u(p88 + 72);
-		uint64_t n119 = load64u(p93);
-		uint64_t n120 = load64u(p93 + 8);
-		uint64_t n121 = load64u(p93 + 24);
-		uint64_t n122 = load64u(p93 + 32);
-		if (b106) {
-			switch (MOSTLY_0(n89)) {
-			case 0: {
-				n123 = 1;
-				n124 = 0;
-				n125 = 1;
-				n126 = 3;
-				n127 = 0;
-				n128 = 0;
-				break;
-			}
-			case 1:
-			case 2: {
-				n123 = 1;
-				n124 = 0;
-				n125 = 2;
-				n126 = 2;
-				n127 = 0;
-				n128 = 0;
-				break;
-			}
-			default: {
-				UNREACHABLE();
-			}
-			}
-		} else {
-			uint64_t n272, n275;
-			uint8_t n273, n274, n276, n277;
-			memset(p86, 0, 512);
-			uint64_t n129 = 0;
-			for (;;) {
-				store64(at(p86, n129), n122);
-				uint64_t n130 = n129 + 8;
-				if (n130 == 512)
-					break;
-				n129 = n130;
-			}
-			memcpy(p87, p86, 512);
-			memset(p84, 0, 32);
-			memset(p85, 0, 1168);
-			switch (MOSTLY_0(n89)) {
-			case 0: {
-				uint8_t n278;
-				uint64_t n279;
-				memset(p83, 0, 32);
-				tp_input_read_script(p83, p5);
-				if (load8(p83) == 0) {
-					byte *p135;
-					uint8_t n257;
-					uint64_t n258;
-					byte *p131 = loadptru(p83 + 8);
-					uint64_t n132 = load64u(p83 + 16);
-					bool b133 = load64u(p83 + 24) == 0;
-					memset(p82, 0, 24);
-					store64(p81, n105);
-					store64(p81 + 8, 0);
-					storeptr(p81 + 16, p7);
-					memset(p81 + 24, 0, 32);
-					store64(p81 + 56, n119);
-					store64(p81 + 64, n120);
-					store64(p81 + 72, n121);
-					memcpy(p81 + 80, p87, 512);
-					memset(p81 + 592, 0, 520);
-					storeptr(p81 + 1112, p7);
-					memset(p81 + 1120, 0, 24);
-					storeptru(p81 + 1144, p7);
-					memset(p81 + 1152, 0, 16);
-					uint64_t n134 = (n132 > UINT64_C(4611686018427387903)) ? UINT64_MAX : (n132 << 2);
-					if (n134 != 0) {
-						if ((int64_t)n134 >= (int64_t)0) {
-							of_i64_i64 s136 = rattle_alloc(n134, 1);
-							if ((s136.f0 & 1) != 0) {
-								p135 = (byte *)(uintptr_t)s136.f1;
-								goto L1;
-							}
-							byte *p137 = loadptru(p81 + 1112);
-							bool b138 = load64u(p81 + 1128) == 0;
-							if (load64u(p81 + 32) == 0) {
-								if (b138)
-									goto L2;
-							} else {
-								rattle_dealloc(loadptru(p81 + 16));
-								if (b138)
-									goto L2;
-							}
-							rattle_dealloc(p137);
-						}
-L2:
-						{
-							if (load64u(p81 + 1160) == 0)
-								goto L3;
-							rattle_dealloc(loadptru(p81 + 1144));
-							goto L3;
-						}
-					}
-					p135 = p7;
-L1:
-					{
-						bool b252;
-						uint64_t n253;
-						storeptru(p82, p135);
-						store64u(p82 + 8, 0);
-						store64u(p82 + 16, n134);
-						memset(p80 + 8, 0, 16);
-						storeptru(p80, p7);
-						uint64_t n139 = 0;
-						byte *p140 = p131;
-						uint64_t n141 = n132;
-						for (;;) {
-							uint64_t n180, n182, n183, n184, n185, n199, n200, n201, n202, n203, n206, n207, n208, n209, n212, n213, n214, n215, n218, n220, n221, n222, n245;
-							byte *p181, *p198, *p205, *p211, *p217, *p219, *p244;
-							uint8_t n246;
-							if (n141 == 0)
-								goto L4;
-							if (n141 < 6) {
-								if (n141 != 5)
-									goto L5;
-								uint32_t n142 = ((((uint32_t)load8(p140 + 3) << 24) | ((uint32_t)load8(p140 + 2) << 16)) | ((uint32_t)load8(p140 + 1) << 8)) | (uint32_t)load8(p140);
-								if (n142 != 1886352499)
-									goto L6;
-								uint64_t n143 = 0;
-								bool b144 = false;
-								while (n143 != 1) {
-									n143 = 1;
-									b144 = (int)b144 | (int)(32 != load8(p140 + 4));
-								}
-								uint64_t n145 = 0;
-								bool b146 = false;
-								while (n145 != 1) {
-									n145 = 1;
-									b146 = (int)b146 | (int)(32 != load8(p140 + 4));
-								}
-								uint64_t n147 = 0;
-								bool b148 = false;
-								while (n147 != 1) {
-									n147 = 1;
-									b148 = (int)b148 | (int)(32 != load8(p140 + 4));
-								}
-								if ((int)((int)b144 | (int)b146) | (int)b148)
-									goto L6;
-							} else {
-								uint32_t n149 = ((((uint32_t)load8(p140 + 3) << 24) | ((uint32_t)load8(p140 + 2) << 16)) | ((uint32_t)load8(p140 + 1) << 8)) | (uint32_t)load8(p140);
-								switch (n149) {
-								case 1918989427: {
-									uint64_t n159, n165, n171, n177;
-									uint64_t n150 = 0;
-									bool b151 = false;
-									while (n150 != 1) {
-										n150 = 1;
-										b151 = (int)b151 | (int)(116 != load8(p140 + 4));
-									}
-									uint64_t n152 = 0;
-									bool b153 = false;
-									while (n152 != 1) {
-										n152 = 1;
-										b153 = (int)b153 | (int)(32 != load8(p140 + 5));
-									}
-									uint64_t n154 = 0;
-									bool b155 = false;
-									while (n154 != 1) {
-										n154 = 1;
-										b155 = (int)b155 | (int)(32 != load8(p140 + 5));
-									}
-									if ((int)((int)b151 | (int)b153) | (int)b155)
-										goto L6;
-									uint64_t n156 = n141 - 6;
-									uint64_t n157 = 0;
-									uint64_t n158 = 0;
-									for (;;) {
-										if (n158 == n156) {
-											n159 = n156;
-											break;
-										}
-										uint8_t n160 = load8(at(at(p140, 6), n158));
-										if ((uint8_t)(n160 - 48) >= 10) {
-											n159 = n158;
-											break;
-										}
-										n157 = (n157 * 10) + (uint64_t)(uint8_t)(n160 & 15);
-										n158 = n158 + 1;
-									}
-									switch (n159) {
-									case 0: {
-										goto L7;
-									}
-									case 1: {
-										if (n157 > UINT64_C(1152921504606846975))
-											goto L7;
-										break;
-									}
-									default: {
-										if (((int)(load8(p140 + 6) == 48) | (int)(n159 > 19)) || (n157 > UINT64_C(1152921504606846975)))
-											goto L7;
-										break;
-									}
-									}
-									byte *p161 = at(at(p140, 6), n159);
-									if (n156 == n159)
-										goto L7;
-									if (load8(p161) != 32)
-										goto L7;
-									uint64_t n162 = n156 + (n159 ^ UINT64_MAX);
-									uint64_t n163 = 0;
-									uint64_t n164 = 0;
-									for (;;) {
-										if (n164 == n162) {
-											n165 = n162;
-											break;
-										}
-										uint8_t n166 = load8(at(at(p161, 1), n164));
-										if ((uint8_t)(n166 - 48) >= 10) {
-											n165 = n164;
-											break;
-										}
-										n163 = (n163 * 10) + (uint64_t)(uint8_t)(n166 & 15);
-										n164 = n164 + 1;
-									}
-									switch (n165) {
-									case 0: {
-										goto L7;
-									}
-									case 1: {
-										if (n163 > UINT64_C(1152921504606846975))
-											goto L7;
-										break;
-									}
-									default: {
-										if (((int)(load8(p161 + 1) == 48) | (int)(n165 > 19)) || (n163 > UINT64_C(1152921504606846975)))
-											goto L7;
-										break;
-									}
-									}
-									byte *p167 = at(at(p161, 1), n165);
-									if (n162 == n165)
-										goto L7;
-									if (load8(p167) != 32)
-										goto L7;
-									uint64_t n168 = n162 + (n165 ^ UINT64_MAX);
-									uint64_t n169 = 0;
-									uint64_t n170 = 0;
-									for (;;) {
-										if (n170 == n168) {
-											n171 = n168;
-											break;
-										}
-										uint8_t n172 = load8(at(at(p167, 1), n170));
-										if ((uint8_t)(n172 - 48) >= 10) {
-											n171 = n170;
-											break;
-										}
-										n169 = (n169 * 10) + (uint64_t)(uint8_t)(n172 & 15);
-										n170 = n170 + 1;
-									}
-									switch (n171) {
-									case 0: {
-										goto L7;
-									}
-									case 1: {
-										if (n169 > UINT64_C(1152921504606846975))
-											goto L7;
-										break;
-									}
-									default: {
-										if (((int)(load8(p167 + 1) == 48) | (int)(n171 > 19)) || (n169 > UINT64_C(1152921504606846975)))
-											goto L7;
-										break;
-									}
-									}
-									byte *p173 = at(at(p167, 1), n171);
-									if (n168 == n171)
-										goto L7;
-									if (load8(p173) != 32)
-										goto L7;
-									uint64_t n174 = n168 + (n171 ^ UINT64_MAX);
-									uint64_t n175 = 0;
-									uint64_t n176 = 0;
-									for (;;) {
-										if (n176 == n174) {
-											n177 = n174;
-											break;
-										}
-										uint8_t n178 = load8(at(at(p173, 1), n176));
-										if ((uint8_t)(n178 - 48) >= 10) {
-											n177 = n176;
-											break;
-										}
-										n175 = (n175 * 10) + (uint64_t)(uint8_t)(n178 & 15);
-										n176 = n176 + 1;
-									}
-									switch (n177) {
-									case 0: {
-										goto L7;
-									}
-									case 1: {
-										if (n175 > UINT64_C(1152921504606846975))
-											goto L7;
-										break;
-									}
-									default: {
-										if (((int)(load8(p173 + 1) == 48) | (int)(n177 > 19)) || (n175 > UINT64_C(1152921504606846975)))
-											goto L7;
-										break;
-									}
-									}
-									byte *p179 = at(at(p173, 1), n177);
-									if (n174 == n177)
-										goto L7;
-									if (load8(p179) != 10)
-										goto L7;
-									n180 = n157;
-									p181 = at(p179, 1);
-									n182 = n174 + (n177 ^ UINT64_MAX);
-									n183 = n163;
-									n184 = n169;
-									n185 = n175;
-									goto L8;
-								}
-								case 1886352499: {
-									uint64_t n186 = 0;
-									bool b187 = false;
-									while (n186 != 1) {
-										n186 = 1;
-										b187 = (int)b187 | (int)(32 != load8(p140 + 4));
-									}
-									uint64_t n188 = 0;
-									bool b189 = false;
-									while (n188 != 1) {
-										n188 = 1;
-										b189 = (int)b189 | (int)(32 != load8(p140 + 4));
-									}
-									uint64_t n190 = 0;
-									bool b191 = false;
-									while (n190 != 1) {
-										n190 = 1;
-										b191 = (int)b191 | (int)(32 != load8(p140 + 4));
-									}
-									if ((int)((int)b187 | (int)b189) | (int)b191)
-										goto L6;
-									break;
-								}
-								case 1936682083: {
-									uint64_t n192 = 0;
-									bool b193 = false;
-									while (n192 != 1) {
-										n192 = 1;
-										b193 = (int)b193 | (int)(101 != load8(p140 + 4));
-									}
-									uint64_t n194 = 0;
-									bool b195 = false;
-									while (n194 != 1) {
-										n194 = 1;
-										b195 = (int)b195 | (int)(10 != load8(p140 + 5));
-									}
-									uint64_t n196 = 0;
-									bool b197 = false;
-									while (n196 != 1) {
-										n196 = 1;
-										b197 = (int)b197 | (int)(10 != load8(p140 + 5));
-									}
-									if ((int)((int)b193 | (int)b195) | (int)b197)
-										goto L6;
-									p198 = at(p140, 6);
-									n199 = n141 - 6;
-									goto L9;
-								}
-								default: {
-									goto L6;
-								}
-								}
-							}
-							n200 = n141 - 5;
-							n201 = 0;
-							n202 = 0;
-							for (;;) {
-								if (n201 == n200) {
-									n203 = n200;
-									break;
-								}
-								uint8_t n204 = load8(at(at(p140, 5), n201));
-								if ((uint8_t)(n204 - 48) >= 10) {
-									n203 = n201;
-									break;
-								}
-								n201 = n201 + 1;
-								n202 = (n202 * 10) + (uint64_t)(uint8_t)(n204 & 15);
-							}
-							switch (n203) {
-							case 0: {
-								goto L7;
-							}
-							case 1: {
-								if (n202 > UINT64_C(1152921504606846975))
-									goto L7;
-								break;
-							}
-							default: {
-								if (((int)(load8(p140 + 5) == 48) | (int)(n203 > 19)) || (n202 > UINT64_C(1152921504606846975)))
-									goto L7;
-								break;
-							}
-							}
-							p205 = at(at(p140, 5), n203);
-							if (n200 == n203)
-								goto L7;
-							if (load8(p205) != 32)
-								goto L7;
-							n206 = n200 + (n203 ^ UINT64_MAX);
-							n207 = 0;
-							n208 = 0;
-							for (;;) {
-								if (n207 == n206) {
-									n209 = n206;
-									break;
-								}
-								uint8_t n210 = load8(at(at(p205, 1), n207));
-								if ((uint8_t)(n210 - 48) >= 10) {
-									n209 = n207;
-									break;
-								}
-								n207 = n207 + 1;
-								n208 = (n208 * 10) + (uint64_t)(uint8_t)(n210 & 15);
-							}
-							switch (n209) {
-							case 0: {
-								goto L7;
-							}
-							case 1: {
-								if (n208 > UINT64_C(1152921504606846975))
-									goto L7;
-								break;
-							}
-							default: {
-								if (((int)(load8(p205 + 1) == 48) | (int)(n209 > 19)) || (n208 > UINT64_C(1152921504606846975)))
-									goto L7;
-								break;
-							}
-							}
-							p211 = at(at(p205, 1), n209);
-							if (n206 == n209)
-								goto L7;
-							if (load8(p211) != 32)
-								goto L7;
-							n212 = n206 + (n209 ^ UINT64_MAX);
-							n213 = 0;
-							n214 = 0;
-							for (;;) {
-								if (n213 == n212) {
-									n215 = n212;
-									break;
-								}
-								uint8_t n216 = load8(at(at(p211, 1), n213));
-								if ((uint8_t)(n216 - 48) >= 10) {
-									n215 = n213;
-									break;
-								}
-								n213 = n213 + 1;
-								n214 = (n214 * 10) + (uint64_t)(uint8_t)(n216 & 15);
-							}
-							switch (n215) {
-							case 0: {
-								goto L7;
-							}
-							case 1: {
-								if (n214 > UINT64_C(1152921504606846975))
-									goto L7;
-								break;
-							}
-							default: {
-								if (((int)(load8(p211 + 1) == 48) | (int)(n215 > 19)) || (n214 > UINT64_C(1152921504606846975)))
-									goto L7;
-								break;
-							}
-							}
-							p217 = at(at(p211, 1), n215);
-							if (n212 == n215)
-								goto L7;
-							if (load8(p217) != 10)
-								goto L7;
-							n218 = n202;
-							p219 = at(p217, 1);
-							n220 = n212 + (n215 ^ UINT64_MAX);
-							n221 = n208;
-							n222 = n214;
-							goto L10;
-L6:
-							{
-								uint64_t n230, n232, n235, n236, n237, n238, n239, n241;
-								byte *p231;
-								uint8_t n233, n234;
-								bool b240, b242;
-								memset(p79, 0, 72);
-								uint32_t n223 = ((((uint32_t)load8(p140 + 3) << 24) | ((uint32_t)load8(p140 + 2) << 16)) | ((uint32_t)load8(p140 + 1) << 8)) | (uint32_t)load8(p140);
-								if (n223 == 1801677172) {
-									uint64_t n224 = 0;
-									bool b225 = false;
-									while (n224 != 1) {
-										n224 = 1;
-										b225 = (int)b225 | (int)(32 != load8(p140 + 4));
-									}
-									uint64_t n226 = 0;
-									bool b227 = false;
-									while (n226 != 1) {
-										n226 = 1;
-										b227 = (int)b227 | (int)(32 != load8(p140 + 4));
-									}
-									uint64_t n228 = 0;
-									bool b229 = false;
-									while (n228 != 1) {
-										n228 = 1;
-										b229 = (int)b229 | (int)(32 != load8(p140 + 4));
-									}
-									if (!((int)((int)b225 | (int)b227) | (int)b229)) {
-										tp_lines_read_tick(p79, p140 + 5, n141 - 5);
-										n230 = load64u(p79 + 16);
-										p231 = loadptru(p79 + 56);
-										n232 = load64u(p79 + 64);
-										n233 = load8(p79);
-										n234 = load8(p79 + 8);
-										n235 = load64u(p79 + 24);
-										n236 = load64u(p79 + 32);
-										n237 = load64u(p79 + 40);
-										n238 = load64u(p79 + 48);
-										goto L11;
-									}
-								}
-								if (!((int)(n141 > 7) & (int)(n223 == 1953719666)))
-									goto L5;
-								n239 = 0;
-								b240 = false;
-								while (n239 != 4) {
-									b240 = (int)b240 | (int)(load8(at((byte *)tp_static_296 + 4, n239)) != load8(at(at(p140, 4), n239)));
-									n239 = n239 + 1;
-								}
-								n241 = 0;
-								b242 = false;
-								while (n241 != 4) {
-									b242 = (int)b242 | (int)(load8(at((byte *)tp_static_296 + 4, n241)) != load8(at(at(p140, 4), n241)));
-									n241 = n241 + 1;
-								}
-								if ((int)b240 | (int)b242)
-									goto L5;
-								tp_lines_read_restart(p79, p140 + 8, n141 - 8);
-								n230 = load64u(p79 + 16);
-								p231 = loadptru(p79 + 56);
-								n232 = load64u(p79 + 64);
-								n233 = load8(p79);
-								n234 = load8(p79 + 8);
-								n235 = load64u(p79 + 24);
-								n236 = load64u(p79 + 32);
-								n237 = load64u(p79 + 40);
-								n238 = load64u(p79 + 48);
-L11:
-								{
-									if (n233 != 1)
-										goto L7;
-									switch (MOSTLY_0(n234)) {
-									case 0: {
-										n180 = n230;
-										p181 = p231;
-										n182 = n232;
-										n183 = n235;
-										n184 = n236;
-										n185 = n237;
-										goto L8;
-									}
-									case 2: {
-										n218 = n230;
-										p219 = p231;
-										n220 = n232;
-										n221 = n235;
-										n222 = n236;
-										goto L10;
-									}
-									case 3: {
-										uint8_t n243 = tp_timer_script_script_run_answer_restart_3(p81, n230, n235, n236, n237, n238, p82);
-										p244 = p231;
-										n245 = n232;
-										n246 = n243;
-										goto L12;
-									}
-									case 5: {
-										uint8_t n247 = tp_timer_script_script_run_answer_ticks_3(p81, n230, p80, p82);
-										p244 = p231;
-										n245 = n232;
-										n246 = n247;
-										goto L12;
-									}
-									case 7: {
-										p198 = p231;
-										n199 = n232;
-										break;
-									}
-									case 1:
-									case 4:
-									case 6:
-									case 8: {
-										store64u(p78, (uint64_t)n234);
-										store64u(p78 + 8, n230);
-										store64u(p78 + 16, n235);
-										store64u(p78 + 24, n236);
-										store64u(p78 + 32, n237);
-										store64u(p78 + 40, n238);
-										uint8_t n248 = tp_timer_script_script_run_answer_outs_3(p81, p78, p80, p82);
-										p244 = p231;
-										n245 = n232;
-										n246 = n248;
-										goto L12;
-									}
-									default: {
-										UNREACHABLE();
-									}
-									}
-								}
-							}
-L9:
-							{
-								uint8_t n249 = tp_timer_script_script_run_answer_close_3(p81, p80, p82);
-								p244 = p198;
-								n245 = n199;
-								n246 = n249;
-								goto L12;
-							}
-L10:
-							{
-								uint8_t n250 = tp_timer_script_script_run_answer_stop_3(p81, n218, n221, n222, p82);
-								p244 = p219;
-								n245 = n220;
-								n246 = n250;
-								goto L12;
-							}
-L8:
-							{
-								uint8_t n251 = tp_timer_script_script_run_answer_start_3(p81, n180, n183, n184, n185, p82);
-								p244 = p181;
-								n245 = n182;
-								n246 = n251;
-							}
-L12:
-							{
-								if ((n246 & 1) != 0)
-									break;
-								n139 = n139 + 1;
-								p140 = p244;
-								n141 = n245;
-							}
-						}
-						if (load64u(p80 + 16) == 0) {
-							b252 = true;
-							n253 = 0;
-							goto L13;
-						}
-						rattle_dealloc(loadptru(p80));
-						b252 = true;
-						n253 = 0;
-						goto L13;
-L5: ;
-L7:
-						{
-							uint64_t n254 = n139 + 1;
-							if (load64u(p80 + 16) == 0) {
-								b252 = false;
-								n253 = n254;
-							} else {
-								rattle_dealloc(loadptru(p80));
-								b252 = false;
-								n253 = n254;
-							}
-						}
-L13:
-						{
-							if (load64u(p82 + 16) != 0)
-								rattle_dealloc(loadptru(p82));
-							byte *p255 = loadptru(p81 + 1112);
-							uint64_t n256 = load64u(p81 + 1128);
-							if (load64u(p81 + 32) != 0)
-								rattle_dealloc(loadptru(p81 + 16));
-							if (n256 != 0)
-								rattle_dealloc(p255);
-							if (load64u(p81 + 1160) != 0)
-								rattle_dealloc(loadptru(p81 + 1144));
-							if (b252)
-								goto L14;
-							n257 = 2;
-							n258 = n253;
-							goto L15;
-						}
-L4:
-						{
-							if (load64u(p80 + 16) != 0)
-								rattle_dealloc(loadptru(p80));
-							uint8_t n259 = tp_text_push_end(p82, load64(p81), load64(p81 + 24) - load64(p81 + 40));
-							if ((n259 & 1) == 0) {
-								uint64_t n262 = load64u(p82);
-								uint64_t n263 = load64u(p82 + 8);
-								uint64_t n264 = load64u(p82 + 16);
-								byte *p265 = loadptru(p81 + 1112);
-								uint64_t n266 = load64u(p81 + 1128);
-								if (load64u(p81 + 32) != 0)
-									rattle_dealloc(loadptru(p81 + 16));
-								if (n266 != 0)
-									rattle_dealloc(p265);
-								if (load64u(p81 + 1160) != 0)
-									rattle_dealloc(loadptru(p81 + 1144));
-								byte *p267 = (byte *)(uintptr_t)n262;
-								uint64_t n268 = 0;
-								while (n268 < n263) {
-									uint64_t n269 = n263 - n268;
-									uint64_t n270 = os_write(1, at(p267, n268), n269);
-									if ((int64_t)n270 < (int64_t)0) {
-										tp_error_last_error(p77);
-										goto L16;
-									}
-									uint64_t n271 = umin64(n270, n269);
-									if (n271 == 0)
-										goto L16;
-									n268 = n268 + n271;
-								}
-								if (n264 != 0)
-									rattle_dealloc(p267);
-								if (!b133)
-									rattle_dealloc(p131);
-								n272 = 0;
-								n273 = 0;
-								n274 = 0;
-								n275 = 0;
-								n276 = 0;
-								n277 = 0;
-								goto L17;
-L16:
-								{
-									store8(p5 + 12, 1);
-									if (n264 != 0)
-										rattle_dealloc(p267);
-									if (b133) {
-										n278 = 4;
-										n279 = n268;
-										goto L18;
-									}
-									rattle_dealloc(p131);
-									n278 = 4;
-									n279 = n268;
-									goto L18;
-								}
-							}
-							if (load64u(p82 + 16) != 0)
-								rattle_dealloc(loadptru(p82));
-							byte *p260 = loadptru(p81 + 1112);
-							uint64_t n261 = load64u(p81 + 1128);
-							if (load64u(p81 + 32) != 0)
-								rattle_dealloc(loadptru(p81 + 16));
-							if (n261 != 0)
-								rattle_dealloc(p260);
-							if (load64u(p81 + 1160) != 0)
-								rattle_dealloc(loadptru(p81 + 1144));
-						}
-					}
-L3: ;
-L14:
-					{
-						n257 = 3;
-						n258 = 0;
-					}
-L15:
-					{
-						if (b133) {
-							n278 = n257;
-							n279 = n258;
-						} else {
-							rattle_dealloc(p131);
-							n278 = n257;
-							n279 = n258;
-						}
-					}
-				} else {
-					switch (MOSTLY_0(load8(p83 + 1))) {
-					case 0: {
-						n278 = 0;
-						n279 = 0;
-						break;
-					}
-					case 1: {
-						n278 = 1;
-						n279 = 0;
-						break;
-					}
-					case 2: {
-						n278 = 3;
-						n279 = 0;
-						break;
-					}
-					default: {
-						UNREACHABLE();
-					}
-					}
-				}
-L18:
-				{
-					n272 = n279;
-					n273 = 0;
-					n274 = n278;
-					n275 = 1;
-					n276 = 0;
-					n277 = 1;
-				}
-				break;
-			}
-			case 1: {
-				store64(p85, n105);
-				storeptru(p85 + 16, p7);
-				memset(p85 + 24, 0, 32);
-				store64(p85 + 56, n119);
-				store64(p85 + 64, n120);
-				store64(p85 + 72, n121);
-				memcpy(p85 + 80, p87, 512);
-				memset(p85 + 592, 0, 520);
-				storeptru(p85 + 1112, p7);
-				memset(p85 + 1120, 0, 24);
-				storeptru(p85 + 1144, p7);
-				memset(p85 + 1152, 0, 16);
-				tp_timer_commands_verbs_talk_3(p84, p85, n90, (n91 & 1) != 0, p5, p6);
-				n272 = load64(p84 + 24);
-				n273 = load8(p84 + 17);
-				n274 = load8(p84 + 16);
-				n275 = (uint64_t)load8(p84 + 8);
-				n276 = load8(p84 + 1);
-				n277 = load8(p84);
-				break;
-			}
-			case 2: {
-				uint8_t n281;
-				uint64_t n282;
-				memset(p73, 0, 24);
-				memset(p74, 0, 1192);
-				memset(p75, 0, 96);
-				memset(p76, 0, 24);
-				of_i64_i64 s280 = rattle_alloc(16384, 1);
-				if ((s280.f0 & 1) == 0) {
-					n281 = 2;
-					n282 = 0;
-				} else {
-					uint64_t n288, n308, n323, n333, n376, n378, n383;
-					byte *p340, *p375, *p377;
-					bool b342;
-					uint8_t n373;
-					byte *p283 = (byte *)(uintptr_t)s280.f1;
-					uint64_t n284 = 0;
-					while (n284 != 16383) {
-						store8(inside(p283, n284), 0);
-						n284 = n284 + 1;
-					}
-					store8(p283 + 16383, 0);
-					storeptru(p73, p7);
-					memset(p73 + 8, 0, 16);
-					store64(p74, n107);
-					store64(p74 + 8, 0);
-					storeptru(p74 + 16, p108);
-					memset(p74 + 24, 0, 32);
-					store64(p74 + 56, n119);
-					store64(p74 + 64, n120);
-					store64(p74 + 72, n121);
-					memcpy(p74 + 80, p87, 512);
-					memset(p74 + 592, 0, 520);
-					storeptru(p74 + 1112, p7);
-					memset(p74 + 1120, 0, 24);
-					storeptru(p74 + 1144, p7);
-					memset(p74 + 1152, 0, 16);
-					storeptru(p74 + 1168, p7);
-					memset(p74 + 1176, 0, 16);
-					store64(p75, 0);
-					storeptru(p75 + 8, p7);
-					memset(p75 + 16, 0, 16);
-					storeptru(p75 + 32, p7);
-					memset(p75 + 40, 0, 16);
-					storeptru(p75 + 56, p7);
-					memset(p75 + 64, 0, 16);
-					store64u(p75 + 80, 1);
-					store8(p75 + 88, 1);
-					memset(p75 + 89, 0, 7);
-					uint64_t n285 = 0;
-					for (;;) {
-						if (n285 == UINT64_MAX)
-							goto L19;
-						memset(p72, 0, 96);
-						tp_WatchedRead_read(p72, p5, p283, 16384);
-						uint64_t n286 = load64(p72 + 8);
-						if (load8(p72) != 0)
-							break;
-						tp_Cutter_take_in(p76, p75, p283, n286, p6);
-						if (load8(p76) != 0)
-							goto L20;
-						uint8_t n287 = load8(p76 + 8);
-						n288 = load64u(p76 + 16);
-						byte *p289 = loadptr(p75 + 8);
-						uint64_t n290 = load64(p75 + 16);
-						if (load64(p73 + 8) != 0)
-							store64(p73 + 8, 0);
-						uint64_t n291 = 0;
-						while (n291 != n290) {
-							uint64_t n297;
-							uint8_t n325, n327;
-							byte *p292 = at(p289, n291 * 48);
-							uint64_t n293 = load64(p74 + 72);
-							if ((n109 & 1) != 0) {
-								uint8_t n294 = load8(p292);
-								switch (n294) {
-								case 5: {
-									uint64_t n295 = load64(p292 + 8);
-									for (;;) {
-										uint64_t n307;
-										uint64_t n296 = load64(p74);
-										if (n295 == 0) {
-											n297 = n296;
-											goto L21;
-										}
-										bool b298 = (load8(p74 + 1104) & 1) != 0;
-										byte *p299 = loadptr(p74 + 16);
-										uint64_t n300 = load64(p74 + 24);
-										uint64_t n301 = 0;
-										uint64_t n302 = 0;
-										uint8_t n303 = 0;
-										while (n301 != n300) {
-											uint64_t n305;
-											uint8_t n306;
-											uint64_t n304 = load64(at(p299, n301 * 40) + 24);
-											if (n296 < n304) {
-												if (n303 == 1) {
-													n305 = umin64(n304, n302);
-													n306 = 1;
-												} else {
-													n305 = n304;
-													n306 = 1;
-												}
-											} else {
-												n305 = n302;
-												n306 = n303;
-											}
-											n301 = n301 + 1;
-											n302 = n305;
-											n303 = n306;
-										}
-										if (n303 == 1) {
-											if ((n302 > UINT64_C(1152921504606846975)) || b298) {
-												n307 = n295;
-											} else {
-												n307 = umin64(n302 - n296, n295);
-											}
-										} else {
-											n307 = n295;
-										}
-										n308 = load64(p73 + 8);
-										uint8_t n309 = tp_timer_script_script_run_answer_ticks_3(p74, n307, p74 + 1168, p73);
-										if ((n309 & 1) != 0)
-											goto L22;
-										n295 = n295 - n307;
-									}
-									break;
-								}
-								case 6: {
-									uint64_t n310 = load64(p74);
-									uint64_t n311 = n310;
-									uint64_t n312 = usub_sat64(load64(p292 + 8), n310);
-									for (;;) {
-										uint64_t n322;
-										if (n312 == 0) {
-											n297 = n311;
-											goto L21;
-										}
-										bool b313 = (load8(p74 + 1104) & 1) != 0;
-										byte *p314 = loadptr(p74 + 16);
-										uint64_t n315 = load64(p74 + 24);
-										uint64_t n316 = 0;
-										uint64_t n317 = 0;
-										uint8_t n318 = 0;
-										while (n316 != n315) {
-											uint64_t n320;
-											uint8_t n321;
-											uint64_t n319 = load64(at(p314, n316 * 40) + 24);
-											if (n311 < n319) {
-												if (n318 == 1) {
-													n320 = umin64(n319, n317);
-													n321 = 1;
-												} else {
-													n320 = n319;
-													n321 = 1;
-												}
-											} else {
-												n320 = n317;
-												n321 = n318;
-											}
-											n316 = n316 + 1;
-											n317 = n320;
-											n318 = n321;
-										}
-										if (n318 == 1) {
-											if ((n317 > UINT64_C(1152921504606846975)) || b313) {
-												n322 = n312;
-											} else {
-												n322 = umin64(n317 - n311, n312);
-											}
-										} else {
-											n322 = n312;
-										}
-										n323 = load64(p73 + 8);
-										uint8_t n324 = tp_timer_script_script_run_answer_ticks_3(p74, n322, p74 + 1168, p73);
-										if ((n324 & 1) != 0)
-											goto L23;
-										n311 = load64(p74);
-										n312 = n312 - n322;
-									}
-									break;
-								}
-								case 0:
-								case 1:
-								case 2:
-								case 3:
-								case 4:
-								case 7:
-								case 8: {
-									n325 = n294;
-									break;
-								}
-								default: {
-									UNREACHABLE();
-								}
-								}
-							} else {
-								n325 = load8(p292);
-							}
-							switch (MOSTLY_0(n325)) {
-							case 0: {
-								uint8_t n326 = tp_timer_script_script_run_answer_start_3(p74, load64(p292 + 8), load64(p292 + 16), load64(p292 + 24), load64(p292 + 32), p73);
-								n327 = n326;
-								break;
-							}
-							case 2: {
-								uint8_t n328 = tp_timer_script_script_run_answer_stop_3(p74, load64(p292 + 8), load64(p292 + 16), load64(p292 + 24), p73);
-								n327 = n328;
-								break;
-							}
-							case 3: {
-								uint8_t n329 = tp_timer_script_script_run_answer_restart_3(p74, load64(p292 + 8), load64(p292 + 16), load64(p292 + 24), load64(p292 + 32), load64(p292 + 40), p73);
-								n327 = n329;
-								break;
-							}
-							case 5: {
-								uint8_t n330 = tp_timer_script_script_run_answer_ticks_3(p74, load64(p292 + 8), p74 + 1168, p73);
-								n327 = n330;
-								break;
-							}
-							case 7: {
-								uint8_t n331 = tp_timer_script_script_run_answer_close_3(p74, p74 + 1168, p73);
-								n327 = n331;
-								break;
-							}
-							case 1:
-							case 4:
-							case 6:
-							case 8: {
-								store64u(p71, (uint64_t)n325);
-								store64(p71 + 8, load64u(p292 + 8));
-								store64(p71 + 16, load64u(p292 + 16));
-								store64(p71 + 24, load64u(p292 + 24));
-								store64(p71 + 32, load64u(p292 + 32));
-								store64(p71 + 40, load64u(p292 + 40));
-								uint8_t n332 = tp_timer_script_script_run_answer_outs_3(p74, p71, p74 + 1168, p73);
-								n327 = n332;
-								break;
-							}
-							default: {
-								UNREACHABLE();
-							}
-							}
-							if ((n327 & 1) != 0)
-								goto L24;
-							n297 = load64(p74);
-L21:
-							{
-								uint64_t n334, n336, n338, n341, n343, n344, n347, n348;
-								uint8_t n335, n339;
-								n333 = load64(p73 + 8);
-								if (n115 == 1) {
-									if (n116 > n297)
-										goto L25;
-								}
-								if (n117 == 1) {
-									if (n297 > n118)
-										goto L25;
-								}
-								n334 = ((n110 & 1) != 0) ? n293 : 0;
-								n335 = tp_render_push_number(p73, (byte *)tp_static_383, 6, n297);
-								if ((n335 & 1) != 0)
-									goto L26;
-								n336 = load64(p73 + 8);
-								if (load64(p73 + 16) == n336) {
-									bool b337 = tp_Vec_grow_amortized(p73, 1);
-									if (!b337)
-										goto L26;
-									n338 = load64(p73 + 8);
-								} else {
-									n338 = n336;
-								}
-								store8(inside(loadptr(p73), n338), 10);
-								store64(p73 + 8, n338 + 1);
-								storeptru(p70, p7);
-								memset(p70 + 8, 0, 16);
-								n339 = tp_PlainWheelWheel_list_into(p74, p70);
-								if ((n339 & 1) != 0)
-									goto L27;
-								p340 = loadptr(p70);
-								n341 = load64(p70 + 8);
-								b342 = load64(p70 + 16) == 0;
-								n343 = 0;
-								for (;;) {
-									if (n343 == n341) {
-										n344 = n341;
-										goto L28;
-									}
-									byte *p345 = at(p340, n343 * 40);
-									uint64_t n346 = load64u(p345);
-									if (n111 == 1) {
-										if (n112 != load64u(p345 + 8))
-											break;
-									}
-									if (n113 == 1) {
-										if ((n114 != n346) || (n334 > n346))
-											break;
-									} else if (n334 > n346) {
-										break;
-									}
-									n343 = n343 + 1;
-								}
-								n347 = n343;
-								n348 = n343;
-								for (;;) {
-									uint64_t n352;
-									uint64_t n349 = n347 + 1;
-									if (n349 >= n341) {
-										n344 = n348;
-										break;
-									}
-									byte *p350 = at(p340, n349 * 40);
-									uint64_t n351 = load64u(p350);
-									if (n111 == 1) {
-										if (n112 != load64u(p350 + 8)) {
-											n352 = 0;
-											goto L29;
-										}
-									}
-									if (n113 == 1) {
-										if (n114 != n351) {
-											n352 = 0;
-											goto L29;
-										}
-									}
-									n352 = (uint64_t)(n334 <= n351);
-L29:
-									{
-										memmove(inside(p340, n348 * 40), p350, 40);
-										n347 = n349;
-										n348 = n348 + n352;
-									}
-								}
-L28:
-								{
-									if (n344 == 0) {
-										if (!b342)
-											rattle_dealloc(p340);
-									} else {
-										uint64_t n356, n357, n360;
-										uint64_t n353 = load64(p73 + 16);
-										uint64_t n354 = load64(p73 + 8);
-										if ((n353 - n354) < 10) {
-											bool b355 = tp_Vec_grow_amortized(p73, 10);
-											if (!b355)
-												goto L30;
-											n356 = load64(p73 + 16);
-											n357 = load64(p73 + 8);
-										} else {
-											n356 = n353;
-											n357 = n354;
-										}
-										byte *p358 = loadptr(p73);
-										byte *p359 = at(p358, n357);
-										if (((uint64_t)(uintptr_t)p359 - (uint64_t)(uintptr_t)(byte *)tp_static_384) >= 10) {
-											memcpy(p359, (byte *)tp_static_384, 10);
-											goto L31;
-										}
-										n360 = 0;
-										while (n360 != 10) {
-											store8(inside(p359, n360), load8(inside((byte *)tp_static_384, n360)));
-											n360 = n360 + 1;
-										}
-L31:
-										{
-											uint64_t n367;
-											storeptr(p73, p358);
-											store64(p73 + 8, n357 + 10);
-											store64(p73 + 16, n356);
-											uint64_t n361 = 0;
-											while (n361 != n344) {
-												byte *p362 = at(p340, n361 * 40);
-												uint8_t n363 = tp_render_push_number(p73, (byte *)tp_static_104, 1, load64(p362));
-												if ((n363 & 1) != 0)
-													goto L32;
-												uint8_t n364 = tp_render_push_number(p73, (byte *)tp_static_202, 1, load64(p362 + 24));
-												if ((n364 & 1) != 0)
-													goto L33;
-												n361 = n361 + 1;
-											}
-											uint64_t n365 = load64(p73 + 8);
-											if (load64(p73 + 16) == n365) {
-												bool b366 = tp_Vec_grow_amortized(p73, 1);
-												if (!b366)
-													goto L34;
-												n367 = load64(p73 + 8);
-											} else {
-												n367 = n365;
-											}
-											store8(inside(loadptr(p73), n367), 10);
-											store64(p73 + 8, n367 + 1);
-											if (!b342)
-												rattle_dealloc(p340);
-										}
-									}
-								}
-L25:
-								{
-									byte *p368 = loadptr(p73);
-									uint64_t n369 = load64(p73 + 8);
-									uint64_t n370 = 0;
-									while (n370 < n369) {
-										uint64_t n371 = n369 - n370;
-										uint64_t n372 = os_write(1, at(p368, n370), n371);
-										if ((int64_t)n372 < (int64_t)0) {
-											tp_error_last_error(p68);
-											store8(p5 + 12, 1);
-											n373 = 3;
-											goto L35;
-										}
-										uint64_t n374 = umin64(n372, n371);
-										if (n374 == 0) {
-											store8(p5 + 12, 1);
-											n373 = 3;
-											goto L35;
-										}
-										n370 = n370 + n374;
-									}
-									if (load64(p73 + 8) != 0)
-										store64(p73 + 8, 0);
-									n291 = n291 + 1;
-								}
-							}
-						}
-						if (n287 == 1)
-							goto L36;
-						if (n286 == 0)
-							goto L37;
-						n285 = n285 + 1;
-					}
-					if (load64u(p75 + 24) != 0)
-						rattle_dealloc(loadptru(p75 + 8));
-					if (load64u(p75 + 48) != 0)
-						rattle_dealloc(loadptru(p75 + 32));
-					if (load64u(p75 + 72) != 0)
-						rattle_dealloc(loadptru(p75 + 56));
-					p375 = loadptru(p74 + 1112);
-					n376 = load64u(p74 + 1128);
-					p377 = loadptru(p74 + 1144);
-					n378 = load64u(p74 + 1160);
-					if (load64u(p74 + 32) != 0)
-						rattle_dealloc(loadptru(p74 + 16));
-					if (n376 != 0)
-						rattle_dealloc(p375);
-					if (n378 != 0)
-						rattle_dealloc(p377);
-					if (load64u(p74 + 1184) != 0)
-						rattle_dealloc(loadptru(p74 + 1168));
-					if (load64u(p73 + 16) != 0)
-						rattle_dealloc(loadptru(p73));
-					rattle_dealloc(p283);
-					n281 = 0;
-					n282 = 0;
-					goto L38;
-L20:
-					{
-						if (load64u(p75 + 24) != 0)
-							rattle_dealloc(loadptru(p75 + 8));
-						if (load64u(p75 + 48) != 0)
-							rattle_dealloc(loadptru(p75 + 32));
-						if (load64u(p75 + 72) != 0)
-							rattle_dealloc(loadptru(p75 + 56));
-						byte *p379 = loadptru(p74 + 1112);
-						uint64_t n380 = load64u(p74 + 1128);
-						byte *p381 = loadptru(p74 + 1144);
-						uint64_t n382 = load64u(p74 + 1160);
-						if (load64u(p74 + 32) != 0)
-							rattle_dealloc(loadptru(p74 + 16));
-						if (n380 != 0)
-							rattle_dealloc(p379);
-						if (n382 != 0)
-							rattle_dealloc(p381);
-						if (load64u(p74 + 1184) != 0)
-							rattle_dealloc(loadptru(p74 + 1168));
-						if (load64u(p73 + 16) != 0)
-							rattle_dealloc(loadptru(p73));
-						rattle_dealloc(p283);
-						n281 = 2;
-						n282 = 0;
-						goto L38;
-					}
-L24:
-					{
-						if (load64(p73 + 8) == 0) {
-							n383 = 0;
-							goto L39;
-						}
-						store64(p73 + 8, 0);
-						n383 = 0;
-						goto L39;
-					}
-L23:
-					{
-						uint64_t n384 = load64(p73 + 8);
-						if (!((int)(n384 > n323) | (int)(umin64(n384, n323) != 0))) {
-							n383 = n384;
-							goto L39;
-						}
-						store64(p73 + 8, 0);
-						n383 = 0;
-						goto L39;
-					}
-L22:
-					{
-						uint64_t n385 = load64(p73 + 8);
-						if (!((int)(n385 > n308) | (int)(umin64(n385, n308) != 0))) {
-							n383 = n385;
-							goto L39;
-						}
-						store64(p73 + 8, 0);
-						n383 = 0;
-						goto L39;
-					}
-L30:
-					{
-						if (b342)
-							goto L26;
-						rattle_dealloc(p340);
-						goto L26;
-					}
-L33:
-					{
-						if (b342)
-							goto L26;
-						rattle_dealloc(p340);
-						goto L26;
-					}
-L32:
-					{
-						if (b342)
-							goto L26;
-						rattle_dealloc(p340);
-						goto L26;
-					}
-L34:
-					{
-						if (b342)
-							goto L26;
-						rattle_dealloc(p340);
-						goto L26;
-					}
-L27:
-					{
-						if (load64u(p70 + 16) != 0)
-							rattle_dealloc(loadptru(p70));
-					}
-L26:
-					{
-						uint64_t n386 = load64(p73 + 8);
-						if (n386 > n333) {
-							store64(p73 + 8, n333);
-							n383 = n333;
-						} else {
-							n383 = n386;
-						}
-					}
-L39:
-					{
-						byte *p387 = loadptr(p73);
-						uint64_t n388 = 0;
-						for (;;) {
-							if (n388 >= n383) {
-								n373 = 2;
-								break;
-							}
-							uint64_t n389 = n383 - n388;
-							uint64_t n390 = os_write(1, at(p387, n388), n389);
-							if ((int64_t)n390 < (int64_t)0) {
-								tp_error_last_error(p69);
-								store8(p5 + 12, 1);
-								n373 = 3;
-								break;
-							}
-							uint64_t n391 = umin64(n390, n389);
-							if (n391 == 0) {
-								store8(p5 + 12, 1);
-								n373 = 3;
-								break;
-							}
-							n388 = n388 + n391;
-						}
-					}
-L35:
-					{
-						if (load64u(p75 + 24) != 0)
-							rattle_dealloc(loadptru(p75 + 8));
-						if (load64u(p75 + 48) != 0)
-							rattle_dealloc(loadptru(p75 + 32));
-						if (load64u(p75 + 72) != 0)
-							rattle_dealloc(loadptru(p75 + 56));
-						byte *p392 = loadptru(p74 + 1112);
-						uint64_t n393 = load64u(p74 + 1128);
-						byte *p394 = loadptru(p74 + 1144);
-						uint64_t n395 = load64u(p74 + 1160);
-						if (load64u(p74 + 32) != 0)
-							rattle_dealloc(loadptru(p74 + 16));
-						if (n393 != 0)
-							rattle_dealloc(p392);
-						if (n395 != 0)
-							rattle_dealloc(p394);
-						if (load64u(p74 + 1184) != 0)
-							rattle_dealloc(loadptru(p74 + 1168));
-						if (load64u(p73 + 16) != 0)
-							rattle_dealloc(loadptru(p73));
-						rattle_dealloc(p283);
-						n281 = n373;
-						n282 = 0;
-						goto L38;
-					}
-L37:
-					{
-						uint64_t n396;
-						uint8_t n397, n398;
-						bool b399;
-						memset(p67, 0, 24);
-						tp_Cutter_end(p67, p75, p6);
-						if (load8(p67) == 0) {
-							if (load8(p67 + 8) == 1) {
-								n396 = load64u(p67 + 16);
-								n397 = 1;
-								n398 = 3;
-								b399 = true;
-							} else {
-								if (load64(p73 + 8) != 0)
-									store64(p73 + 8, 0);
-								uint8_t n400 = tp_text_push_end(p73, load64(p74), load64(p74 + 24) - load64(p74 + 40));
-								if ((n400 & 1) != 0) {
-									n396 = 0;
-									n397 = 2;
-									n398 = 3;
-									b399 = true;
-								} else {
-									byte *p401 = loadptr(p73);
-									uint64_t n402 = load64(p73 + 8);
-									uint64_t n403 = 0;
-									while (n403 < n402) {
-										uint64_t n404 = n402 - n403;
-										uint64_t n405 = os_write(1, at(p401, n403), n404);
-										if ((int64_t)n405 < (int64_t)0) {
-											tp_error_last_error(p66);
-											goto L40;
-										}
-										uint64_t n406 = umin64(n405, n404);
-										if (n406 == 0)
-											goto L40;
-										n403 = n403 + n406;
-									}
-									n396 = 0;
-									n397 = 0;
-									n398 = (uint8_t)(((load8(p75 + 88) & 1) != 0) ? 0 : 3);
-									b399 = false;
-									goto L41;
-L40:
-									{
-										store8(p5 + 12, 1);
-										n396 = 0;
-										n397 = 3;
-										n398 = 3;
-										b399 = true;
-									}
-								}
-							}
-						} else {
-							n396 = 0;
-							n397 = 2;
-							n398 = 3;
-							b399 = true;
-						}
-L41:
-						{
-							if (load64u(p75 + 24) != 0)
-								rattle_dealloc(loadptru(p75 + 8));
-							if (load64u(p75 + 48) != 0)
-								rattle_dealloc(loadptru(p75 + 32));
-							if (load64u(p75 + 72) != 0)
-								rattle_dealloc(loadptru(p75 + 56));
-							byte *p407 = loadptru(p74 + 1112);
-							uint64_t n408 = load64u(p74 + 1128);
-							byte *p409 = loadptru(p74 + 1144);
-							uint64_t n410 = load64u(p74 + 1160);
-							if (load64u(p74 + 32) != 0)
-								rattle_dealloc(loadptru(p74 + 16));
-							if (n408 != 0)
-								rattle_dealloc(p407);
-							if (n410 != 0)
-								rattle_dealloc(p409);
-							if (load64u(p74 + 1184) != 0)
-								rattle_dealloc(loadptru(p74 + 1168));
-							if (load64u(p73 + 16) != 0)
-								rattle_dealloc(loadptru(p73));
-							rattle_dealloc(p283);
-							if (b399) {
-								n272 = n396;
-								n273 = 0;
-								n274 = n397;
-								n275 = 2;
-								n276 = 0;
-								n277 = 1;
-								goto L17;
-							}
-							n272 = 0;
-							n273 = 0;
-							n274 = 0;
-							n275 = 0;
-							n276 = n398;
-							n277 = 0;
-							goto L17;
-						}
-					}
-L36:
-					{
-						if (load64u(p75 + 24) != 0)
-							rattle_dealloc(loadptru(p75 + 8));
-						if (load64u(p75 + 48) != 0)
-							rattle_dealloc(loadptru(p75 + 32));
-						if (load64u(p75 + 72) != 0)
-							rattle_dealloc(loadptru(p75 + 56));
-						byte *p411 = loadptru(p74 + 1112);
-						uint64_t n412 = load64u(p74 + 1128);
-						byte *p413 = loadptru(p74 + 1144);
-						uint64_t n414 = load64u(p74 + 1160);
-						if (load64u(p74 + 32) != 0)
-							rattle_dealloc(loadptru(p74 + 16));
-						if (n412 != 0)
-							rattle_dealloc(p411);
-						if (n414 != 0)
-							rattle_dealloc(p413);
-						if (load64u(p74 + 1184) != 0)
-							rattle_dealloc(loadptru(p74 + 1168));
-						if (load64u(p73 + 16) != 0)
-							rattle_dealloc(loadptru(p73));
-						rattle_dealloc(p283);
-						n281 = 1;
-						n282 = n288;
-						goto L38;
-					}
-L19:
-					{
-						if (load64u(p75 + 24) != 0)
-							rattle_dealloc(loadptru(p75 + 8));
-						if (load64u(p75 + 48) != 0)
-							rattle_dealloc(loadptru(p75 + 32));
-						if (load64u(p75 + 72) != 0)
-							rattle_dealloc(loadptru(p75 + 56));
-						byte *p415 = loadptru(p74 + 1112);
-						uint64_t n416 = load64u(p74 + 1128);
-						byte *p417 = loadptru(p74 + 1144);
-						uint64_t n418 = load64u(p74 + 1160);
-						if (load64u(p74 + 32) != 0)
-							rattle_dealloc(loadptru(p74 + 16));
-						if (n416 != 0)
-							rattle_dealloc(p415);
-						if (n418 != 0)
-							rattle_dealloc(p417);
-						if (load64u(p74 + 1184) != 0)
-							rattle_dealloc(loadptru(p74 + 1168));
-						if (load64u(p73 + 16) != 0)
-							rattle_dealloc(loadptru(p73));
-						rattle_dealloc(p283);
-						n281 = 4;
-						n282 = 0;
-					}
-				}
-L38:
-				{
-					n272 = n282;
-					n273 = 0;
-					n274 = n281;
-					n275 = 2;
-					n276 = 0;
-					n277 = 1;
-				}
-				break;
-			}
-			default: {
-				UNREACHABLE();
-			}
-			}
-L17:
-			{
-				n123 = n277;
-				n124 = n276;
-				n125 = n275;
-				n126 = n274;
-				n127 = n273;
-				n128 = n272;
-			}
-		}
-		store8(p102, n123);
-		store8(p102 + 1, n124);
-		store64u(p102 + 8, n125);
-		store8(p102 + 16, n126);
-		store8(p102 + 17, n127);
-		store64u(p102 + 24, n128);
-		break;
-	}
-	case 1: {
-		uint8_t n788, n789, n791, n792;
-		uint64_t n790, n793;
-		tp_HashedWheel_new(p94, load64(p92 + 8), n105);
-		byte *p419 = loadptru(p94 + 40);
-		uint64_t n420 = load64u(p94 + 48);
-		uint64_t n421 = load64u(p94 + 56);
-		byte *p422 = loadptru(p94 + 80);
-		uint64_t n423 = load64u(p94 + 88);
-		uint64_t n424 = load64u(p94 + 96);
-		uint8_t n425 = load8(p88 + 9);
-		uint8_t n426 = load8(p88 + 10);
-		uint8_t n427 = load8(p88 + 16);
-		uint64_t n428 = load64u(p88 + 24);
-		uint8_t n429 = load8(p88 + 32);
-		uint64_t n430 = load64u(p88 + 40);
-		uint8_t n431 = load8(p88 + 48);
-		uint64_t n432 = load64u(p88 + 56);
-		uint8_t n433 = load8(p88 + 64);
-		uint64_t n434 = load64u(p88 + 72);
-		uint64_t n435 = load64u(p93);
-		uint64_t n436 = load64u(p93 + 8);
-		uint64_t n437 = load64u(p93 + 24);
-		uint64_t n438 = load64u(p93 + 32);
-		if (load8(p94) == 0) {
-			uint64_t n603, n606;
-			uint8_t n604, n605, n607, n608;
-			memset(p64, 0, 512);
-			uint64_t n439 = 0;
-			for (;;) {
-				store64(at(p64, n439), n438);
-				uint64_t n440 = n439 + 8;
-				if (n440 == 512)
-					break;
-				n439 = n440;
-			}
-			memcpy(p65, p64, 512);
-			memset(p62, 0, 32);
-			memset(p63, 0, 1240);
-			switch (MOSTLY_0(n89)) {
-			case 0: {
-				uint8_t n609;
-				uint64_t n610;
-				memset(p61, 0, 32);
-				tp_input_read_script(p61, p5);
-				if (load8(p61) == 0) {
-					byte *p445;
-					uint8_t n572;
-					uint64_t n573;
-					byte *p441 = loadptru(p61 + 8);
-					uint64_t n442 = load64u(p61 + 16);
-					bool b443 = load64u(p61 + 24) == 0;
-					memset(p60, 0, 24);
-					memcpy(p59, p94 + 8, 32);
-					storeptr(p59 + 32, p419);
-					store64(p59 + 40, n420);
-					store64(p59 + 48, n421);
-					memcpy(p59 + 56, p94 + 64, 16);
-					storeptr(p59 + 72, p422);
-					store64(p59 + 80, n423);
-					store64(p59 + 88, n424);
-					memcpy(p59 + 96, p94 + 104, 32);
-					store64(p59 + 128, n435);
-					store64(p59 + 136, n436);
-					store64(p59 + 144, n437);
-					memcpy(p59 + 152, p65, 512);
-					memset(p59 + 664, 0, 520);
-					storeptr(p59 + 1184, p7);
-					memset(p59 + 1192, 0, 24);
-					storeptru(p59 + 1216, p7);
-					memset(p59 + 1224, 0, 16);
-					uint64_t n444 = (n442 > UINT64_C(4611686018427387903)) ? UINT64_MAX : (n442 << 2);
-					if (n444 != 0) {
-						bool b446;
-						byte *p447, *p449;
-						uint64_t n448, n450;
-						if ((int64_t)n444 < (int64_t)0) {
-							b446 = true;
-							p447 = p7;
-							n448 = n424;
-							p449 = p422;
-							n450 = n421;
-						} else {
-							of_i64_i64 s451 = rattle_alloc(n444, 1);
-							if ((s451.f0 & 1) != 0) {
-								p445 = (byte *)(uintptr_t)s451.f1;
-								goto L42;
-							}
-							b446 = load64u(p59 + 1200) == 0;
-							p447 = loadptru(p59 + 1184);
-							n448 = load64u(p59 + 88);
-							p449 = loadptru(p59 + 72);
-							n450 = load64u(p59 + 48);
-						}
-						if (n450 != 0)
-							rattle_dealloc(loadptru(p59 + 32));
-						if (n448 != 0)
-							rattle_dealloc(p449);
-						if (!b446)
-							rattle_dealloc(p447);
-						if (load64u(p59 + 1232) == 0)
-							goto L43;
-						rattle_dealloc(loadptru(p59 + 1216));
-						goto L43;
-					}
-					p445 = p7;
-L42:
-					{
-						bool b565;
-						uint64_t n566;
-						storeptru(p60, p445);
-						store64u(p60 + 8, 0);
-						store64u(p60 + 16, n444);
-						memset(p58 + 8, 0, 16);
-						storeptru(p58, p7);
-						uint64_t n452 = 0;
-						byte *p453 = p441;
-						uint64_t n454 = n442;
-						for (;;) {
-							uint64_t n493, n495, n496, n497, n498, n512, n513, n514, n515, n516, n519, n520, n521, n522, n525, n526, n527, n528, n531, n533, n534, n535, n558;
-							byte *p494, *p511, *p518, *p524, *p530, *p532, *p557;
-							uint8_t n559;
-							if (n454 == 0)
-								goto L44;
-							if (n454 < 6) {
-								if (n454 != 5)
-									goto L45;
-								uint32_t n455 = ((((uint32_t)load8(p453 + 3) << 24) | ((uint32_t)load8(p453 + 2) << 16)) | ((uint32_t)load8(p453 + 1) << 8)) | (uint32_t)load8(p453);
-								if (n455 != 1886352499)
-									goto L46;
-								uint64_t n456 = 0;
-								bool b457 = false;
-								while (n456 != 1) {
-									n456 = 1;
-									b457 = (int)b457 | (int)(32 != load8(p453 + 4));
-								}
-								uint64_t n458 = 0;
-								bool b459 = false;
-								while (n458 != 1) {
-									n458 = 1;
-									b459 = (int)b459 | (int)(32 != load8(p453 + 4));
-								}
-								uint64_t n460 = 0;
-								bool b461 = false;
-								while (n460 != 1) {
-									n460 = 1;
-									b461 = (int)b461 | (int)(32 != load8(p453 + 4));
-								}
-								if ((int)((int)b457 | (int)b459) | (int)b461)
-									goto L46;
-							} else {
-								uint32_t n462 = ((((uint32_t)load8(p453 + 3) << 24) | ((uint32_t)load8(p453 + 2) << 16)) | ((uint32_t)load8(p453 + 1) << 8)) | (uint32_t)load8(p453);
-								switch (n462) {
-								case 1918989427: {
-									uint64_t n472, n478, n484, n490;
-									uint64_t n463 = 0;
-									bool b464 = false;
-									while (n463 != 1) {
-										n463 = 1;
-										b464 = (int)b464 | (int)(116 != load8(p453 + 4));
-									}
-									uint64_t n465 = 0;
-									bool b466 = false;
-									while (n465 != 1) {
-										n465 = 1;
-										b466 = (int)b466 | (int)(32 != load8(p453 + 5));
-									}
-									uint64_t n467 = 0;
-									bool b468 = false;
-									while (n467 != 1) {
-										n467 = 1;
-										b468 = (int)b468 | (int)(32 != load8(p453 + 5));
-									}
-									if ((int)((int)b464 | (int)b466) | (int)b468)
-										goto L46;
-									uint64_t n469 = n454 - 6;
-									uint64_t n470 = 0;
-									uint64_t n471 = 0;
-									for (;;) {
-										if (n471 == n469) {
-											n472 = n469;
-											break;
-										}
-										uint8_t n473 = load8(at(at(p453, 6), n471));
-										if ((uint8_t)(n473 - 48) >= 10) {
-											n472 = n471;
-											break;
-										}
-										n470 = (n470 * 10) + (uint64_t)(uint8_t)(n473 & 15);
-										n471 = n471 + 1;
-									}
-									switch (n472) {
-									case 0: {
-										goto L47;
-									}
-									case 1: {
-										if (n470 > UINT64_C(1152921504606846975))
-											goto L47;
-										break;
-									}
-									default: {
-										if (((int)(load8(p453 + 6) == 48) | (int)(n472 > 19)) || (n470 > UINT64_C(1152921504606846975)))
-											goto L47;
-										break;
-									}
-									}
-									byte *p474 = at(at(p453, 6), n472);
-									if (n469 == n472)
-										goto L47;
-									if (load8(p474) != 32)
-										goto L47;
-									uint64_t n475 = n469 + (n472 ^ UINT64_MAX);
-									uint64_t n476 = 0;
-									uint64_t n477 = 0;
-									for (;;) {
-										if (n477 == n475) {
-											n478 = n475;
-											break;
-										}
-										uint8_t n479 = load8(at(at(p474, 1), n477));
-										if ((uint8_t)(n479 - 48) >= 10) {
-											n478 = n477;
-											break;
-										}
-										n476 = (n476 * 10) + (uint64_t)(uint8_t)(n479 & 15);
-										n477 = n477 + 1;
-									}
-									switch (n478) {
-									case 0: {
-										goto L47;
-									}
-									case 1: {
-										if (n476 > UINT64_C(1152921504606846975))
-											goto L47;
-										break;
-									}
-									default: {
-										if (((int)(load8(p474 + 1) == 48) | (int)(n478 > 19)) || (n476 > UINT64_C(1152921504606846975)))
-											goto L47;
-										break;
-									}
-									}
-									byte *p480 = at(at(p474, 1), n478);
-									if (n475 == n478)
-										goto L47;
-									if (load8(p480) != 32)
-										goto L47;
-									uint64_t n481 = n475 + (n478 ^ UINT64_MAX);
-									uint64_t n482 = 0;
-									uint64_t n483 = 0;
-									for (;;) {
-										if (n483 == n481) {
-											n484 = n481;
-											break;
-										}
-										uint8_t n485 = load8(at(at(p480, 1), n483));
-										if ((uint8_t)(n485 - 48) >= 10) {
-											n484 = n483;
-											break;
-										}
-										n482 = (n482 * 10) + (uint64_t)(uint8_t)(n485 & 15);
-										n483 = n483 + 1;
-									}
-									switch (n484) {
-									case 0: {
-										goto L47;
-									}
-									case 1: {
-										if (n482 > UINT64_C(1152921504606846975))
-											goto L47;
-										break;
-									}
-									default: {
-										if (((int)(load8(p480 + 1) == 48) | (int)(n484 > 19)) || (n482 > UINT64_C(1152921504606846975)))
-											goto L47;
-										break;
-									}
-									}
-									byte *p486 = at(at(p480, 1), n484);
-									if (n481 == n484)
-										goto L47;
-									if (load8(p486) != 32)
-										goto L47;
-									uint64_t n487 = n481 + (n484 ^ UINT64_MAX);
-									uint64_t n488 = 0;
-									uint64_t n489 = 0;
-									for (;;) {
-										if (n489 == n487) {
-											n490 = n487;
-											break;
-										}
-										uint8_t n491 = load8(at(at(p486, 1), n489));
-										if ((uint8_t)(n491 - 48) >= 10) {
-											n490 = n489;
-											break;
-										}
-										n488 = (n488 * 10) + (uint64_t)(uint8_t)(n491 & 15);
-										n489 = n489 + 1;
-									}
-									switch (n490) {
-									case 0: {
-										goto L47;
-									}
-									case 1: {
-										if (n488 > UINT64_C(1152921504606846975))
-											goto L47;
-										break;
-									}
-									default: {
-										if (((int)(load8(p486 + 1) == 48) | (int)(n490 > 19)) || (n488 > UINT64_C(1152921504606846975)))
-											goto L47;
-										break;
-									}
-									}
-									byte *p492 = at(at(p486, 1), n490);
-									if (n487 == n490)
-										goto L47;
-									if (load8(p492) != 10)
-										goto L47;
-									n493 = n470;
-									p494 = at(p492, 1);
-									n495 = n487 + (n490 ^ UINT64_MAX);
-									n496 = n476;
-									n497 = n482;
-									n498 = n488;
-									goto L48;
-								}
-								case 1886352499: {
-									uint64_t n499 = 0;
-									bool b500 = false;
-									while (n499 != 1) {
-										n499 = 1;
-										b500 = (int)b500 | (int)(32 != load8(p453 + 4));
-									}
-									uint64_t n501 = 0;
-									bool b502 = false;
-									while (n501 != 1) {
-										n501 = 1;
-										b502 = (int)b502 | (int)(32 != load8(p453 + 4));
-									}
-									uint64_t n503 = 0;
-									bool b504 = false;
-									while (n503 != 1) {
-										n503 = 1;
-										b504 = (int)b504 | (int)(32 != load8(p453 + 4));
-									}
-									if ((int)((int)b500 | (int)b502) | (int)b504)
-										goto L46;
-									break;
-								}
-								case 1936682083: {
-									uint64_t n505 = 0;
-									bool b506 = false;
-									while (n505 != 1) {
-										n505 = 1;
-										b506 = (int)b506 | (int)(101 != load8(p453 + 4));
-									}
-									uint64_t n507 = 0;
-									bool b508 = false;
-									while (n507 != 1) {
-										n507 = 1;
-										b508 = (int)b508 | (int)(10 != load8(p453 + 5));
-									}
-									uint64_t n509 = 0;
-									bool b510 = false;
-									while (n509 != 1) {
-										n509 = 1;
-										b510 = (int)b510 | (int)(10 != load8(p453 + 5));
-									}
-									if ((int)((int)b506 | (int)b508) | (int)b510)
-										goto L46;
-									p511 = at(p453, 6);
-									n512 = n454 - 6;
-									goto L49;
-								}
-								default: {
-									goto L46;
-								}
-								}
-							}
-							n513 = n454 - 5;
-							n514 = 0;
-							n515 = 0;
-							for (;;) {
-								if (n514 == n513) {
-									n516 = n513;
-									break;
-								}
-								uint8_t n517 = load8(at(at(p453, 5), n514));
-								if ((uint8_t)(n517 - 48) >= 10) {
-									n516 = n514;
-									break;
-								}
-								n514 = n514 + 1;
-								n515 = (n515 * 10) + (uint64_t)(uint8_t)(n517 & 15);
-							}
-							switch (n516) {
-							case 0: {
-								goto L47;
-							}
-							case 1: {
-								if (n515 > UINT64_C(1152921504606846975))
-									goto L47;
-								break;
-							}
-							default: {
-								if (((int)(load8(p453 + 5) == 48) | (int)(n516 > 19)) || (n515 > UINT64_C(1152921504606846975)))
-									goto L47;
-								break;
-							}
-							}
-							p518 = at(at(p453, 5), n516);
-							if (n513 == n516)
-								goto L47;
-							if (load8(p518) != 32)
-								goto L47;
-							n519 = n513 + (n516 ^ UINT64_MAX);
-							n520 = 0;
-							n521 = 0;
-							for (;;) {
-								if (n520 == n519) {
-									n522 = n519;
-									break;
-								}
-								uint8_t n523 = load8(at(at(p518, 1), n520));
-								if ((uint8_t)(n523 - 48) >= 10) {
-									n522 = n520;
-									break;
-								}
-								n520 = n520 + 1;
-								n521 = (n521 * 10) + (uint64_t)(uint8_t)(n523 & 15);
-							}
-							switch (n522) {
-							case 0: {
-								goto L47;
-							}
-							case 1: {
-								if (n521 > UINT64_C(1152921504606846975))
-									goto L47;
-								break;
-							}
-							default: {
-								if (((int)(load8(p518 + 1) == 48) | (int)(n522 > 19)) || (n521 > UINT64_C(1152921504606846975)))
-									goto L47;
-								break;
-							}
-							}
-							p524 = at(at(p518, 1), n522);
-							if (n519 == n522)
-								goto L47;
-							if (load8(p524) != 32)
-								goto L47;
-							n525 = n519 + (n522 ^ UINT64_MAX);
-							n526 = 0;
-							n527 = 0;
-							for (;;) {
-								if (n526 == n525) {
-									n528 = n525;
-									break;
-								}
-								uint8_t n529 = load8(at(at(p524, 1), n526));
-								if ((uint8_t)(n529 - 48) >= 10) {
-									n528 = n526;
-									break;
-								}
-								n526 = n526 + 1;
-								n527 = (n527 * 10) + (uint64_t)(uint8_t)(n529 & 15);
-							}
-							switch (n528) {
-							case 0: {
-								goto L47;
-							}
-							case 1: {
-								if (n527 > UINT64_C(1152921504606846975))
-									goto L47;
-								break;
-							}
-							default: {
-								if (((int)(load8(p524 + 1) == 48) | (int)(n528 > 19)) || (n527 > UINT64_C(1152921504606846975)))
-									goto L47;
-								break;
-							}
-							}
-							p530 = at(at(p524, 1), n528);
-							if (n525 == n528)
-								goto L47;
-							if (load8(p530) != 10)
-								goto L47;
-							n531 = n515;
-							p532 = at(p530, 1);
-							n533 = n525 + (n528 ^ UINT64_MAX);
-							n534 = n521;
-							n535 = n527;
-							goto L50;
-L46:
-							{
-								uint64_t n543, n545, n548, n549, n550, n551, n552, n554;
-								byte *p544;
-								uint8_t n546, n547;
-								bool b553, b555;
-								memset(p57, 0, 72);
-								uint32_t n536 = ((((uint32_t)load8(p453 + 3) << 24) | ((uint32_t)load8(p453 + 2) << 16)) | ((uint32_t)load8(p453 + 1) << 8)) | (uint32_t)load8(p453);
-								if (n536 == 1801677172) {
-									uint64_t n537 = 0;
-									bool b538 = false;
-									while (n537 != 1) {
-										n537 = 1;
-										b538 = (int)b538 | (int)(32 != load8(p453 + 4));
-									}
-									uint64_t n539 = 0;
-									bool b540 = false;
-									while (n539 != 1) {
-										n539 = 1;
-										b540 = (int)b540 | (int)(32 != load8(p453 + 4));
-									}
-									uint64_t n541 = 0;
-									bool b542 = false;
-									while (n541 != 1) {
-										n541 = 1;
-										b542 = (int)b542 | (int)(32 != load8(p453 + 4));
-									}
-									if (!((int)((int)b538 | (int)b540) | (int)b542)) {
-										tp_lines_read_tick(p57, p453 + 5, n454 - 5);
-										n543 = load64u(p57 + 16);
-										p544 = loadptru(p57 + 56);
-										n545 = load64u(p57 + 64);
-										n546 = load8(p57);
-										n547 = load8(p57 + 8);
-										n548 = load64u(p57 + 24);
-										n549 = load64u(p57 + 32);
-										n550 = load64u(p57 + 40);
-										n551 = load64u(p57 + 48);
-										goto L51;
-									}
-								}
-								if (!((int)(n454 > 7) & (int)(n536 == 1953719666)))
-									goto L45;
-								n552 = 0;
-								b553 = false;
-								while (n552 != 4) {
-									b553 = (int)b553 | (int)(load8(at((byte *)tp_static_296 + 4, n552)) != load8(at(at(p453, 4), n552)));
-									n552 = n552 + 1;
-								}
-								n554 = 0;
-								b555 = false;
-								while (n554 != 4) {
-									b555 = (int)b555 | (int)(load8(at((byte *)tp_static_296 + 4, n554)) != load8(at(at(p453, 4), n554)));
-									n554 = n554 + 1;
-								}
-								if ((int)b553 | (int)b555)
-									goto L45;
-								tp_lines_read_restart(p57, p453 + 8, n454 - 8);
-								n543 = load64u(p57 + 16);
-								p544 = loadptru(p57 + 56);
-								n545 = load64u(p57 + 64);
-								n546 = load8(p57);
-								n547 = load8(p57 + 8);
-								n548 = load64u(p57 + 24);
-								n549 = load64u(p57 + 32);
-								n550 = load64u(p57 + 40);
-								n551 = load64u(p57 + 48);
-L51:
-								{
-									if (n546 != 1)
-										goto L47;
-									switch (MOSTLY_0(n547)) {
-									case 0: {
-										n493 = n543;
-										p494 = p544;
-										n495 = n545;
-										n496 = n548;
-										n497 = n549;
-										n498 = n550;
-										goto L48;
-									}
-									case 2: {
-										n531 = n543;
-										p532 = p544;
-										n533 = n545;
-										n534 = n548;
-										n535 = n549;
-										goto L50;
-									}
-									case 3: {
-										uint8_t n556 = tp_timer_script_script_run_answer_restart_2(p59, n543, n548, n549, n550, n551, p60);
-										p557 = p544;
-										n558 = n545;
-										n559 = n556;
-										goto L52;
-									}
-									case 5: {
-										uint8_t n560 = tp_timer_script_script_run_answer_ticks_2(p59, n543, p58, p60);
-										p557 = p544;
-										n558 = n545;
-										n559 = n560;
-										goto L52;
-									}
-									case 7: {
-										p511 = p544;
-										n512 = n545;
-										break;
-									}
-									case 1:
-									case 4:
-									case 6:
-									case 8: {
-										store64u(p56, (uint64_t)n547);
-										store64u(p56 + 8, n543);
-										store64u(p56 + 16, n548);
-										store64u(p56 + 24, n549);
-										store64u(p56 + 32, n550);
-										store64u(p56 + 40, n551);
-										uint8_t n561 = tp_timer_script_script_run_answer_outs_2(p59, p56, p58, p60);
-										p557 = p544;
-										n558 = n545;
-										n559 = n561;
-										goto L52;
-									}
-									default: {
-										UNREACHABLE();
-									}
-									}
-								}
-							}
-L49:
-							{
-								uint8_t n562 = tp_timer_script_script_run_answer_close_2(p59, p58, p60);
-								p557 = p511;
-								n558 = n512;
-								n559 = n562;
-								goto L52;
-							}
-L50:
-							{
-								uint8_t n563 = tp_timer_script_script_run_answer_stop_2(p59, n531, n534, n535, p60);
-								p557 = p532;
-								n558 = n533;
-								n559 = n563;
-								goto L52;
-							}
-L48:
-							{
-								uint8_t n564 = tp_timer_script_script_run_answer_start_2(p59, n493, n496, n497, n498, p60);
-								p557 = p494;
-								n558 = n495;
-								n559 = n564;
-							}
-L52:
-							{
-								if ((n559 & 1) != 0)
-									break;
-								n452 = n452 + 1;
-								p453 = p557;
-								n454 = n558;
-							}
-						}
-						if (load64u(p58 + 16) == 0) {
-							b565 = true;
-							n566 = 0;
-							goto L53;
-						}
-						rattle_dealloc(loadptru(p58));
-						b565 = true;
-						n566 = 0;
-						goto L53;
-L45: ;
-L47:
-						{
-							uint64_t n567 = n452 + 1;
-							if (load64u(p58 + 16) == 0) {
-								b565 = false;
-								n566 = n567;
-							} else {
-								rattle_dealloc(loadptru(p58));
-								b565 = false;
-								n566 = n567;
-							}
-						}
-L53:
-						{
-							if (load64u(p60 + 16) != 0)
-								rattle_dealloc(loadptru(p60));
-							byte *p568 = loadptru(p59 + 72);
-							uint64_t n569 = load64u(p59 + 88);
-							byte *p570 = loadptru(p59 + 1184);
-							uint64_t n571 = load64u(p59 + 1200);
-							if (load64u(p59 + 48) != 0)
-								rattle_dealloc(loadptru(p59 + 32));
-							if (n569 != 0)
-								rattle_dealloc(p568);
-							if (n571 != 0)
-								rattle_dealloc(p570);
-							if (load64u(p59 + 1232) != 0)
-								rattle_dealloc(loadptru(p59 + 1216));
-							if (b565)
-								goto L54;
-							n572 = 2;
-							n573 = n566;
-							goto L55;
-						}
-L44:
-						{
-							uint64_t n584;
-							if (load64u(p58 + 16) != 0)
-								rattle_dealloc(loadptru(p58));
-							uint64_t n574 = load64(p59 + 8);
-							uint64_t n575 = load64(p59 + 56);
-							uint64_t n576 = load64(p59 + 24);
-							byte *p577 = loadptr(p59 + 72);
-							uint64_t n578 = (uint64_t)load32(at(p577, n576 << 3) + 4);
-							bool b579 = n576 != n578;
-							uint64_t n580 = load64(p59 + 96);
-							uint64_t n581 = b579 ? (n578 - n580) : 0;
-							uint64_t n582 = 0;
-							bool b583 = b579;
-							for (;;) {
-								if (n582 == n575) {
-									n584 = n575;
-									break;
-								}
-								if (!b583) {
-									n584 = n582;
-									break;
-								}
-								uint64_t n585 = (uint64_t)load32(at(p577, (n580 + n581) << 3) + 4);
-								n581 = usub_sat64(n585, n580);
-								n582 = n582 + 1;
-								b583 = n580 <= n585;
-							}
-							uint8_t n586 = tp_text_push_end(p60, n574, n575 - n584);
-							if ((n586 & 1) == 0) {
-								uint64_t n591 = load64u(p60);
-								uint64_t n592 = load64u(p60 + 8);
-								uint64_t n593 = load64u(p60 + 16);
-								byte *p594 = loadptru(p59 + 72);
-								uint64_t n595 = load64u(p59 + 88);
-								byte *p596 = loadptru(p59 + 1184);
-								uint64_t n597 = load64u(p59 + 1200);
-								if (load64u(p59 + 48) != 0)
-									rattle_dealloc(loadptru(p59 + 32));
-								if (n595 != 0)
-									rattle_dealloc(p594);
-								if (n597 != 0)
-									rattle_dealloc(p596);
-								if (load64u(p59 + 1232) != 0)
-									rattle_dealloc(loadptru(p59 + 1216));
-								byte *p598 = (byte *)(uintptr_t)n591;
-								uint64_t n599 = 0;
-								while (n599 < n592) {
-									uint64_t n600 = n592 - n599;
-									uint64_t n601 = os_write(1, at(p598, n599), n600);
-									if ((int64_t)n601 < (int64_t)0) {
-										tp_error_last_error(p55);
-										goto L56;
-									}
-									uint64_t n602 = umin64(n601, n600);
-									if (n602 == 0)
-										goto L56;
-									n599 = n599 + n602;
-								}
-								if (n593 != 0)
-									rattle_dealloc(p598);
-								if (!b443)
-									rattle_dealloc(p441);
-								n603 = 0;
-								n604 = 0;
-								n605 = 0;
-								n606 = 0;
-								n607 = 0;
-								n608 = 0;
-								goto L57;
-L56:
-								{
-									store8(p5 + 12, 1);
-									if (n593 != 0)
-										rattle_dealloc(p598);
-									if (b443) {
-										n609 = 4;
-										n610 = n599;
-										goto L58;
-									}
-									rattle_dealloc(p441);
-									n609 = 4;
-									n610 = n599;
-									goto L58;
-								}
-							}
-							if (load64u(p60 + 16) != 0)
-								rattle_dealloc(loadptru(p60));
-							byte *p587 = loadptru(p59 + 72);
-							uint64_t n588 = load64u(p59 + 88);
-							byte *p589 = loadptru(p59 + 1184);
-							uint64_t n590 = load64u(p59 + 1200);
-							if (load64u(p59 + 48) != 0)
-								rattle_dealloc(loadptru(p59 + 32));
-							if (n588 != 0)
-								rattle_dealloc(p587);
-							if (n590 != 0)
-								rattle_dealloc(p589);
-							if (load64u(p59 + 1232) != 0)
-								rattle_dealloc(loadptru(p59 + 1216));
-						}
-					}
-L43: ;
-L54:
-					{
-						n572 = 3;
-						n573 = 0;
-					}
-L55:
-					{
-						if (b443) {
-							n609 = n572;
-							n610 = n573;
-						} else {
-							rattle_dealloc(p441);
-							n609 = n572;
-							n610 = n573;
-						}
-					}
-				} else {
-					uint8_t n611;
-					switch (MOSTLY_0(load8(p61 + 1))) {
-					case 0: {
-						n611 = 0;
-						break;
-					}
-					case 1: {
-						n611 = 1;
-						break;
-					}
-					case 2: {
-						n611 = 3;
-						break;
-					}
-					default: {
-						UNREACHABLE();
-					}
-					}
-					if (n421 != 0)
-						rattle_dealloc(p419);
-					if (n424 == 0) {
-						n609 = n611;
-						n610 = 0;
-					} else {
-						rattle_dealloc(p422);
-						n609 = n611;
-						n610 = 0;
-					}
-				}
-L58:
-				{
-					n603 = n610;
-					n604 = 0;
-					n605 = n609;
-					n606 = 1;
-					n607 = 0;
-					n608 = 1;
-				}
-				break;
-			}
-			case 1: {
-				memcpy(p63, p94 + 8, 32);
-				storeptru(p63 + 32, p419);
-				store64u(p63 + 40, n420);
-				store64u(p63 + 48, n421);
-				memcpy(p63 + 56, p94 + 64, 16);
-				storeptru(p63 + 72, p422);
-				store64u(p63 + 80, n423);
-				store64u(p63 + 88, n424);
-				memcpy(p63 + 96, p94 + 104, 32);
-				store64(p63 + 128, n435);
-				store64(p63 + 136, n436);
-				store64(p63 + 144, n437);
-				memcpy(p63 + 152, p65, 512);
-				memset(p63 + 664, 0, 520);
-				storeptru(p63 + 1184, p7);
-				memset(p63 + 1192, 0, 24);
-				storeptru(p63 + 1216, p7);
-				memset(p63 + 1224, 0, 16);
-				tp_timer_commands_verbs_talk_2(p62, p63, n90, (n91 & 1) != 0, p5, p6);
-				n603 = load64(p62 + 24);
-				n604 = load8(p62 + 17);
-				n605 = load8(p62 + 16);
-				n606 = (uint64_t)load8(p62 + 8);
-				n607 = load8(p62 + 1);
-				n608 = load8(p62);
-				break;
-			}
-			case 2: {
-				uint8_t n613;
-				uint64_t n614;
-				memset(p51, 0, 24);
-				memset(p52, 0, 1264);
-				memset(p53, 0, 96);
-				memset(p54, 0, 24);
-				of_i64_i64 s612 = rattle_alloc(16384, 1);
-				if ((s612.f0 & 1) == 0) {
-					if (n421 != 0)
-						rattle_dealloc(p419);
-					if (n424 == 0) {
-						n613 = 2;
-						n614 = 0;
-					} else {
-						rattle_dealloc(p422);
-						n613 = 2;
-						n614 = 0;
-					}
-				} else {
-					uint64_t n620, n638, n651, n661, n721, n723, n725, n732;
-					uint8_t n718;
-					byte *p720, *p722, *p724;
-					byte *p615 = (byte *)(uintptr_t)s612.f1;
-					uint64_t n616 = 0;
-					while (n616 != 16383) {
-						store8(inside(p615, n616), 0);
-						n616 = n616 + 1;
-					}
-					store8(p615 + 16383, 0);
-					storeptru(p51, p7);
-					memset(p51 + 8, 0, 16);
-					memcpy(p52, p94 + 8, 32);
-					storeptru(p52 + 32, p419);
-					store64u(p52 + 40, n420);
-					store64u(p52 + 48, n421);
-					memcpy(p52 + 56, p94 + 64, 16);
-					storeptru(p52 + 72, p422);
-					store64u(p52 + 80, n423);
-					store64u(p52 + 88, n424);
-					memcpy(p52 + 96, p94 + 104, 32);
-					store64(p52 + 128, n435);
-					store64(p52 + 136, n436);
-					store64(p52 + 144, n437);
-					memcpy(p52 + 152, p65, 512);
-					memset(p52 + 664, 0, 520);
-					storeptru(p52 + 1184, p7);
-					memset(p52 + 1192, 0, 24);
-					storeptru(p52 + 1216, p7);
-					memset(p52 + 1224, 0, 16);
-					storeptru(p52 + 1240, p7);
-					memset(p52 + 1248, 0, 16);
-					store64(p53, 0);
-					storeptru(p53 + 8, p7);
-					memset(p53 + 16, 0, 16);
-					storeptru(p53 + 32, p7);
-					memset(p53 + 40, 0, 16);
-					storeptru(p53 + 56, p7);
-					memset(p53 + 64, 0, 16);
-					store64u(p53 + 80, 1);
-					store8(p53 + 88, 1);
-					memset(p53 + 89, 0, 7);
-					uint64_t n617 = 0;
-					for (;;) {
-						if (n617 == UINT64_MAX)
-							goto L59;
-						memset(p50, 0, 96);
-						tp_WatchedRead_read(p50, p5, p615, 16384);
-						uint64_t n618 = load64(p50 + 8);
-						if (load8(p50) != 0)
-							break;
-						tp_Cutter_take_in(p54, p53, p615, n618, p6);
-						if (load8(p54) != 0)
-							goto L60;
-						uint8_t n619 = load8(p54 + 8);
-						n620 = load64u(p54 + 16);
-						byte *p621 = loadptr(p53 + 8);
-						uint64_t n622 = load64(p53 + 16);
-						if (load64(p51 + 8) != 0)
-							store64(p51 + 8, 0);
-						uint64_t n623 = 0;
-						while (n623 != n622) {
-							uint8_t n653, n655;
-							byte *p624 = at(p621, n623 * 48);
-							uint64_t n625 = load64(p52 + 144);
-							if ((n425 & 1) != 0) {
-								uint8_t n626 = load8(p624);
-								switch (n626) {
-								case 5: {
-									uint64_t n627 = load64(p624 + 8);
-									for (;;) {
-										uint64_t n632;
-										if (n627 == 0)
-											goto L61;
-										uint64_t n628 = load64(p52 + 8);
-										uint64_t n629 = load64(p52);
-										bool b630 = (load8(p52 + 1176) & 1) != 0;
-										uint64_t n631 = load64(p52 + 120);
-										if (load64(p52 + 56) == 0) {
-											n632 = n627;
-										} else {
-											uint64_t n635;
-											uint64_t n633 = load64(p52 + 24);
-											uint64_t n634 = 0;
-											for (;;) {
-												if (n634 == n633) {
-													n632 = n627;
-													goto L62;
-												}
-												n635 = n634 + 1;
-												uint64_t n636 = n631 + n635;
-												uint64_t n637 = n636 - ((n636 < n633) ? 0 : n633);
-												if (n637 != (uint64_t)load32(at(loadptr(p52 + 72), n637 << 3) + 4))
-													break;
-												n634 = n635;
-											}
-											if (((n628 + n635) > n629) || b630) {
-												n632 = n627;
-											} else {
-												n632 = umin64(n635, n627);
-											}
-										}
-L62:
-										{
-											n638 = load64(p51 + 8);
-											uint8_t n639 = tp_timer_script_script_run_answer_ticks_2(p52, n632, p52 + 1240, p51);
-											if ((n639 & 1) != 0)
-												goto L63;
-											n627 = n627 - n632;
-										}
-									}
-									break;
-								}
-								case 6: {
-									uint64_t n640 = usub_sat64(load64(p624 + 8), load64(p52 + 8));
-									for (;;) {
-										uint64_t n645;
-										if (n640 == 0)
-											goto L61;
-										uint64_t n641 = load64(p52 + 8);
-										uint64_t n642 = load64(p52);
-										bool b643 = (load8(p52 + 1176) & 1) != 0;
-										uint64_t n644 = load64(p52 + 120);
-										if (load64(p52 + 56) == 0) {
-											n645 = n640;
-										} else {
-											uint64_t n648;
-											uint64_t n646 = load64(p52 + 24);
-											uint64_t n647 = 0;
-											for (;;) {
-												if (n647 == n646) {
-													n645 = n640;
-													goto L64;
-												}
-												n648 = n647 + 1;
-												uint64_t n649 = n644 + n648;
-												uint64_t n650 = n649 - ((n649 < n646) ? 0 : n646);
-												if (n650 != (uint64_t)load32(at(loadptr(p52 + 72), n650 << 3) + 4))
-													break;
-												n647 = n648;
-											}
-											if (((n641 + n648) > n642) || b643) {
-												n645 = n640;
-											} else {
-												n645 = umin64(n648, n640);
-											}
-										}
-L64:
-										{
-											n651 = load64(p51 + 8);
-											uint8_t n652 = tp_timer_script_script_run_answer_ticks_2(p52, n645, p52 + 1240, p51);
-											if ((n652 & 1) != 0)
-												goto L65;
-											n640 = n640 - n645;
-										}
-									}
-									break;
-								}
-								case 0:
-								case 1:
-								case 2:
-								case 3:
-								case 4:
-								case 7:
-								case 8: {
-									n653 = n626;
-									break;
-								}
-								default: {
-									UNREACHABLE();
-								}
-								}
-							} else {
-								n653 = load8(p624);
-							}
-							switch (MOSTLY_0(n653)) {
-							case 0: {
-								uint8_t n654 = tp_timer_script_script_run_answer_start_2(p52, load64(p624 + 8), load64(p624 + 16), load64(p624 + 24), load64(p624 + 32), p51);
-								n655 = n654;
-								break;
-							}
-							case 2: {
-								uint8_t n656 = tp_timer_script_script_run_answer_stop_2(p52, load64(p624 + 8), load64(p624 + 16), load64(p624 + 24), p51);
-								n655 = n656;
-								break;
-							}
-							case 3: {
-								uint8_t n657 = tp_timer_script_script_run_answer_restart_2(p52, load64(p624 + 8), load64(p624 + 16), load64(p624 + 24), load64(p624 + 32), load64(p624 + 40), p51);
-								n655 = n657;
-								break;
-							}
-							case 5: {
-								uint8_t n658 = tp_timer_script_script_run_answer_ticks_2(p52, load64(p624 + 8), p52 + 1240, p51);
-								n655 = n658;
-								break;
-							}
-							case 7: {
-								uint8_t n659 = tp_timer_script_script_run_answer_close_2(p52, p52 + 1240, p51);
-								n655 = n659;
-								break;
-							}
-							case 1:
-							case 4:
-							case 6:
-							case 8: {
-								store64u(p49, (uint64_t)n653);
-								store64(p49 + 8, load64u(p624 + 8));
-								store64(p49 + 16, load64u(p624 + 16));
-								store64(p49 + 24, load64u(p624 + 24));
-								store64(p49 + 32, load64u(p624 + 32));
-								store64(p49 + 40, load64u(p624 + 40));
-								uint8_t n660 = tp_timer_script_script_run_answer_outs_2(p52, p49, p52 + 1240, p51);
-								n655 = n660;
-								break;
-							}
-							default: {
-								UNREACHABLE();
-							}
-							}
-							if ((n655 & 1) != 0)
-								goto L66;
-L61:
-							{
-								uint64_t n663, n664, n666, n668, n669, n670, n671, n672;
-								uint8_t n665;
-								n661 = load64(p51 + 8);
-								uint64_t n662 = load64(p52 + 8);
-								if (n431 == 1) {
-									if (n432 > n662) {
-										n663 = n661;
-										goto L67;
-									}
-								}
-								if (n433 == 1) {
-									if (n662 > n434) {
-										n663 = n661;
-										goto L67;
-									}
-								}
-								n664 = ((n426 & 1) != 0) ? n625 : 0;
-								n665 = tp_render_push_number(p51, (byte *)tp_static_383, 6, n662);
-								if ((n665 & 1) != 0)
-									goto L68;
-								n666 = load64(p51 + 8);
-								if (load64(p51 + 16) == n666) {
-									bool b667 = tp_Vec_grow_amortized(p51, 1);
-									if (!b667)
-										goto L68;
-									n668 = load64(p51 + 8);
-								} else {
-									n668 = n666;
-								}
-								store8(inside(loadptr(p51), n668), 10);
-								n669 = n668 + 1;
-								store64(p51 + 8, n669);
-								n670 = load64(p52 + 96);
-								n671 = n669;
-								n672 = 0;
-								for (;;) {
-									uint64_t n682, n687, n689, n691, n693, n695, n696, n697, n700, n701, n710, n712, n713;
-									uint8_t n688;
-									byte *p692, *p698;
-									bool b694, b699;
-									if (n672 == n670) {
-										n663 = n671;
-										break;
-									}
-									byte *p673 = loadptr(p52 + 72);
-									uint64_t n674 = n672 << 3;
-									uint64_t n675 = (uint64_t)load32(at(p673, n674) + 4);
-									bool b676 = n672 != n675;
-									uint64_t n677 = load64(p52 + 96);
-									uint64_t n678 = load64(p52 + 56);
-									uint64_t n679 = b676 ? (n675 - n677) : 0;
-									uint64_t n680 = 0;
-									bool b681 = b676;
-									for (;;) {
-										if (n680 == n678) {
-											n682 = n671;
-											goto L69;
-										}
-										if (!b681) {
-											n682 = n671;
-											goto L69;
-										}
-										byte *p683 = at(loadptr(p52 + 32), n679 * 56);
-										if (n679 >= load64(p52 + 40)) {
-											n682 = n671;
-											goto L69;
-										}
-										if (load8(p683) != 1) {
-											n682 = n671;
-											goto L69;
-										}
-										uint64_t n684 = load64u(p683 + 8);
-										if (n427 == 1) {
-											if (n428 != load64u(p683 + 16))
-												goto L70;
-										}
-										if (n429 == 1) {
-											if (!((n430 != n684) || (n664 > n684)))
-												break;
-										} else if (n664 <= n684) {
-											break;
-										}
-L70:
-										{
-											uint64_t n685 = (uint64_t)load32(at(p673, (n677 + n679) << 3) + 4);
-											n679 = usub_sat64(n685, n677);
-											n680 = n680 + 1;
-											b681 = n677 <= n685;
-										}
-									}
-									if (load64(p51 + 16) == n671) {
-										bool b686 = tp_Vec_grow_amortized(p51, 1);
-										if (!b686)
-											goto L68;
-										n687 = load64(p51 + 8);
-									} else {
-										n687 = n671;
-									}
-									store8(inside(loadptr(p51), n687), 32);
-									store64(p51 + 8, n687 + 1);
-									n688 = tp_render_push_number(p51, (byte *)tp_static_385, 6, n672);
-									if ((n688 & 1) != 0)
-										goto L68;
-									n689 = load64(p51 + 8);
-									if (load64(p51 + 16) == n689) {
-										bool b690 = tp_Vec_grow_amortized(p51, 1);
-										if (!b690)
-											goto L68;
-										n691 = load64(p51 + 8);
-									} else {
-										n691 = n689;
-									}
-									store8(inside(loadptr(p51), n691), 58);
-									store64(p51 + 8, n691 + 1);
-									p692 = loadptr(p52 + 72);
-									n693 = (uint64_t)load32(at(p692, n674) + 4);
-									b694 = n672 != n693;
-									n695 = load64(p52 + 96);
-									n696 = load64(p52 + 56);
-									n697 = n695;
-									p698 = p692;
-									b699 = b694;
-									n700 = b694 ? (n693 - n695) : 0;
-									n701 = 0;
-									while (n701 != n696) {
-										uint64_t n705;
-										byte *p706;
-										uint8_t n707, n708;
-										if (!b699)
-											break;
-										byte *p702 = at(loadptr(p52 + 32), n700 * 56);
-										if (n700 >= load64(p52 + 40))
-											break;
-										if (load8(p702) != 1)
-											break;
-										uint64_t n703 = load64u(p702 + 8);
-										uint64_t n704 = load64u(p702 + 48);
-										if (n427 == 1) {
-											if (n428 != load64u(p702 + 16)) {
-												n705 = n697;
-												p706 = p698;
-												goto L71;
-											}
-										}
-										if (n429 == 1) {
-											if ((n430 != n703) || (n664 > n703)) {
-												n705 = n697;
-												p706 = p698;
-												goto L71;
-											}
-										} else if (n664 > n703) {
-											n705 = n697;
-											p706 = p698;
-											goto L71;
-										}
-										n707 = tp_render_push_number(p51, (byte *)tp_static_104, 1, n703);
-										if ((n707 & 1) != 0)
-											goto L68;
-										n708 = tp_render_push_number(p51, (byte *)tp_static_202, 1, n704);
-										if ((n708 & 1) != 0)
-											goto L68;
-										n705 = load64(p52 + 96);
-										p706 = loadptr(p52 + 72);
-L71:
-										{
-											uint64_t n709 = (uint64_t)load32(at(p706, (n705 + n700) << 3) + 4);
-											n697 = n705;
-											p698 = p706;
-											b699 = n705 <= n709;
-											n700 = usub_sat64(n709, n705);
-											n701 = n701 + 1;
-										}
-									}
-									n710 = load64(p51 + 8);
-									if (load64(p51 + 16) == n710) {
-										bool b711 = tp_Vec_grow_amortized(p51, 1);
-										if (!b711)
-											goto L68;
-										n712 = load64(p51 + 8);
-									} else {
-										n712 = n710;
-									}
-									store8(inside(loadptr(p51), n712), 10);
-									n713 = n712 + 1;
-									store64(p51 + 8, n713);
-									n682 = n713;
-L69:
-									{
-										n671 = n682;
-										n672 = n672 + 1;
-									}
-								}
-L67:
-								{
-									byte *p714 = loadptr(p51);
-									uint64_t n715 = 0;
-									while (n715 < n663) {
-										uint64_t n716 = n663 - n715;
-										uint64_t n717 = os_write(1, at(p714, n715), n716);
-										if ((int64_t)n717 < (int64_t)0) {
-											tp_error_last_error(p47);
-											store8(p5 + 12, 1);
-											n718 = 3;
-											goto L72;
-										}
-										uint64_t n719 = umin64(n717, n716);
-										if (n719 == 0) {
-											store8(p5 + 12, 1);
-											n718 = 3;
-											goto L72;
-										}
-										n715 = n715 + n719;
-									}
-									if (load64(p51 + 8) != 0)
-										store64(p51 + 8, 0);
-									n623 = n623 + 1;
-								}
-							}
-						}
-						if (n619 == 1)
-							goto L73;
-						if (n618 == 0)
-							goto L74;
-						n617 = n617 + 1;
-					}
-					if (load64u(p53 + 24) != 0)
-						rattle_dealloc(loadptru(p53 + 8));
-					if (load64u(p53 + 48) != 0)
-						rattle_dealloc(loadptru(p53 + 32));
-					if (load64u(p53 + 72) != 0)
-						rattle_dealloc(loadptru(p53 + 56));
-					p720 = loadptru(p52 + 72);
-					n721 = load64u(p52 + 88);
-					p722 = loadptru(p52 + 1184);
-					n723 = load64u(p52 + 1200);
-					p724 = loadptru(p52 + 1216);
-					n725 = load64u(p52 + 1232);
-					if (load64u(p52 + 48) != 0)
-						rattle_dealloc(loadptru(p52 + 32));
-					if (n721 != 0)
-						rattle_dealloc(p720);
-					if (n723 != 0)
-						rattle_dealloc(p722);
-					if (n725 != 0)
-						rattle_dealloc(p724);
-					if (load64u(p52 + 1256) != 0)
-						rattle_dealloc(loadptru(p52 + 1240));
-					if (load64u(p51 + 16) != 0)
-						rattle_dealloc(loadptru(p51));
-					rattle_dealloc(p615);
-					n613 = 0;
-					n614 = 0;
-					goto L75;
-L60:
-					{
-						if (load64u(p53 + 24) != 0)
-							rattle_dealloc(loadptru(p53 + 8));
-						if (load64u(p53 + 48) != 0)
-							rattle_dealloc(loadptru(p53 + 32));
-						if (load64u(p53 + 72) != 0)
-							rattle_dealloc(loadptru(p53 + 56));
-						byte *p726 = loadptru(p52 + 72);
-						uint64_t n727 = load64u(p52 + 88);
-						byte *p728 = loadptru(p52 + 1184);
-						uint64_t n729 = load64u(p52 + 1200);
-						byte *p730 = loadptru(p52 + 1216);
-						uint64_t n731 = load64u(p52 + 1232);
-						if (load64u(p52 + 48) != 0)
-							rattle_dealloc(loadptru(p52 + 32));
-						if (n727 != 0)
-							rattle_dealloc(p726);
-						if (n729 != 0)
-							rattle_dealloc(p728);
-						if (n731 != 0)
-							rattle_dealloc(p730);
-						if (load64u(p52 + 1256) != 0)
-							rattle_dealloc(loadptru(p52 + 1240));
-						if (load64u(p51 + 16) != 0)
-							rattle_dealloc(loadptru(p51));
-						rattle_dealloc(p615);
-						n613 = 2;
-						n614 = 0;
-						goto L75;
-					}
-L66:
-					{
-						if (load64(p51 + 8) == 0) {
-							n732 = 0;
-							goto L76;
-						}
-						store64(p51 + 8, 0);
-						n732 = 0;
-						goto L76;
-					}
-L65:
-					{
-						uint64_t n733 = load64(p51 + 8);
-						if (!((int)(n733 > n651) | (int)(umin64(n733, n651) != 0))) {
-							n732 = n733;
-							goto L76;
-						}
-						store64(p51 + 8, 0);
-						n732 = 0;
-						goto L76;
-					}
-L63:
-					{
-						uint64_t n734 = load64(p51 + 8);
-						if (!((int)(n734 > n638) | (int)(umin64(n734, n638) != 0))) {
-							n732 = n734;
-							goto L76;
-						}
-						store64(p51 + 8, 0);
-						n732 = 0;
-						goto L76;
-					}
-L68:
-					{
-						uint64_t n735 = load64(p51 + 8);
-						if (n735 > n661) {
-							store64(p51 + 8, n661);
-							n732 = n661;
-						} else {
-							n732 = n735;
-						}
-					}
-L76:
-					{
-						byte *p736 = loadptr(p51);
-						uint64_t n737 = 0;
-						for (;;) {
-							if (n737 >= n732) {
-								n718 = 2;
-								break;
-							}
-							uint64_t n738 = n732 - n737;
-							uint64_t n739 = os_write(1, at(p736, n737), n738);
-							if ((int64_t)n739 < (int64_t)0) {
-								tp_error_last_error(p48);
-								store8(p5 + 12, 1);
-								n718 = 3;
-								break;
-							}
-							uint64_t n740 = umin64(n739, n738);
-							if (n740 == 0) {
-								store8(p5 + 12, 1);
-								n718 = 3;
-								break;
-							}
-							n737 = n737 + n740;
-						}
-					}
-L72:
-					{
-						if (load64u(p53 + 24) != 0)
-							rattle_dealloc(loadptru(p53 + 8));
-						if (load64u(p53 + 48) != 0)
-							rattle_dealloc(loadptru(p53 + 32));
-						if (load64u(p53 + 72) != 0)
-							rattle_dealloc(loadptru(p53 + 56));
-						byte *p741 = loadptru(p52 + 72);
-						uint64_t n742 = load64u(p52 + 88);
-						byte *p743 = loadptru(p52 + 1184);
-						uint64_t n744 = load64u(p52 + 1200);
-						byte *p745 = loadptru(p52 + 1216);
-						uint64_t n746 = load64u(p52 + 1232);
-						if (load64u(p52 + 48) != 0)
-							rattle_dealloc(loadptru(p52 + 32));
-						if (n742 != 0)
-							rattle_dealloc(p741);
-						if (n744 != 0)
-							rattle_dealloc(p743);
-						if (n746 != 0)
-							rattle_dealloc(p745);
-						if (load64u(p52 + 1256) != 0)
-							rattle_dealloc(loadptru(p52 + 1240));
-						if (load64u(p51 + 16) != 0)
-							rattle_dealloc(loadptru(p51));
-						rattle_dealloc(p615);
-						n613 = n718;
-						n614 = 0;
-						goto L75;
-					}
-L74:
-					{
-						uint64_t n747;
-						uint8_t n748, n749;
-						bool b750;
-						memset(p46, 0, 24);
-						tp_Cutter_end(p46, p53, p6);
-						if (load8(p46) == 0) {
-							if (load8(p46 + 8) == 1) {
-								n747 = load64u(p46 + 16);
-								n748 = 1;
-								n749 = 3;
-								b750 = true;
-							} else {
-								uint64_t n761;
-								if (load64(p51 + 8) != 0)
-									store64(p51 + 8, 0);
-								uint64_t n751 = load64(p52 + 8);
-								uint64_t n752 = load64(p52 + 56);
-								uint64_t n753 = load64(p52 + 24);
-								byte *p754 = loadptr(p52 + 72);
-								uint64_t n755 = (uint64_t)load32(at(p754, n753 << 3) + 4);
-								bool b756 = n753 != n755;
-								uint64_t n757 = load64(p52 + 96);
-								uint64_t n758 = b756 ? (n755 - n757) : 0;
-								uint64_t n759 = 0;
-								bool b760 = b756;
-								for (;;) {
-									if (n759 == n752) {
-										n761 = n752;
-										break;
-									}
-									if (!b760) {
-										n761 = n759;
-										break;
-									}
-									uint64_t n762 = (uint64_t)load32(at(p754, (n757 + n758) << 3) + 4);
-									n758 = usub_sat64(n762, n757);
-									n759 = n759 + 1;
-									b760 = n757 <= n762;
-								}
-								uint8_t n763 = tp_text_push_end(p51, n751, n752 - n761);
-								if ((n763 & 1) != 0) {
-									n747 = 0;
-									n748 = 2;
-									n749 = 3;
-									b750 = true;
-								} else {
-									byte *p764 = loadptr(p51);
-									uint64_t n765 = load64(p51 + 8);
-									uint64_t n766 = 0;
-									while (n766 < n765) {
-										uint64_t n767 = n765 - n766;
-										uint64_t n768 = os_write(1, at(p764, n766), n767);
-										if ((int64_t)n768 < (int64_t)0) {
-											tp_error_last_error(p45);
-											goto L77;
-										}
-										uint64_t n769 = umin64(n768, n767);
-										if (n769 == 0)
-											goto L77;
-										n766 = n766 + n769;
-									}
-									n747 = 0;
-									n748 = 0;
-									n749 = (uint8_t)(((load8(p53 + 88) & 1) != 0) ? 0 : 3);
-									b750 = false;
-									goto L78;
-L77:
-									{
-										store8(p5 + 12, 1);
-										n747 = 0;
-										n748 = 3;
-										n749 = 3;
-										b750 = true;
-									}
-								}
-							}
-						} else {
-							n747 = 0;
-							n748 = 2;
-							n749 = 3;
-							b750 = true;
-						}
-L78:
-						{
-							if (load64u(p53 + 24) != 0)
-								rattle_dealloc(loadptru(p53 + 8));
-							if (load64u(p53 + 48) != 0)
-								rattle_dealloc(loadptru(p53 + 32));
-							if (load64u(p53 + 72) != 0)
-								rattle_dealloc(loadptru(p53 + 56));
-							byte *p770 = loadptru(p52 + 72);
-							uint64_t n771 = load64u(p52 + 88);
-							byte *p772 = loadptru(p52 + 1184);
-							uint64_t n773 = load64u(p52 + 1200);
-							byte *p774 = loadptru(p52 + 1216);
-							uint64_t n775 = load64u(p52 + 1232);
-							if (load64u(p52 + 48) != 0)
-								rattle_dealloc(loadptru(p52 + 32));
-							if (n771 != 0)
-								rattle_dealloc(p770);
-							if (n773 != 0)
-								rattle_dealloc(p772);
-							if (n775 != 0)
-								rattle_dealloc(p774);
-							if (load64u(p52 + 1256) != 0)
-								rattle_dealloc(loadptru(p52 + 1240));
-							if (load64u(p51 + 16) != 0)
-								rattle_dealloc(loadptru(p51));
-							rattle_dealloc(p615);
-							if (b750) {
-								n603 = n747;
-								n604 = 0;
-								n605 = n748;
-								n606 = 2;
-								n607 = 0;
-								n608 = 1;
-								goto L57;
-							}
-							n603 = 0;
-							n604 = 0;
-							n605 = 0;
-							n606 = 0;
-							n607 = n749;
-							n608 = 0;
-							goto L57;
-						}
-					}
-L73:
-					{
-						if (load64u(p53 + 24) != 0)
-							rattle_dealloc(loadptru(p53 + 8));
-						if (load64u(p53 + 48) != 0)
-							rattle_dealloc(loadptru(p53 + 32));
-						if (load64u(p53 + 72) != 0)
-							rattle_dealloc(loadptru(p53 + 56));
-						byte *p776 = loadptru(p52 + 72);
-						uint64_t n777 = load64u(p52 + 88);
-						byte *p778 = loadptru(p52 + 1184);
-						uint64_t n779 = load64u(p52 + 1200);
-						byte *p780 = loadptru(p52 + 1216);
-						uint64_t n781 = load64u(p52 + 1232);
-						if (load64u(p52 + 48) != 0)
-							rattle_dealloc(loadptru(p52 + 32));
-						if (n777 != 0)
-							rattle_dealloc(p776);
-						if (n779 != 0)
-							rattle_dealloc(p778);
-						if (n781 != 0)
-							rattle_dealloc(p780);
-						if (load64u(p52 + 1256) != 0)
-							rattle_dealloc(loadptru(p52 + 1240));
-						if (load64u(p51 + 16) != 0)
-							rattle_dealloc(loadptru(p51));
-						rattle_dealloc(p615);
-						n613 = 1;
-						n614 = n620;
-						goto L75;
-					}
-L59:
-					{
-						if (load64u(p53 + 24) != 0)
-							rattle_dealloc(loadptru(p53 + 8));
-						if (load64u(p53 + 48) != 0)
-							rattle_dealloc(loadptru(p53 + 32));
-						if (load64u(p53 + 72) != 0)
-							rattle_dealloc(loadptru(p53 + 56));
-						byte *p782 = loadptru(p52 + 72);
-						uint64_t n783 = load64u(p52 + 88);
-						byte *p784 = loadptru(p52 + 1184);
-						uint64_t n785 = load64u(p52 + 1200);
-						byte *p786 = loadptru(p52 + 1216);
-						uint64_t n787 = load64u(p52 + 1232);
-						if (load64u(p52 + 48) != 0)
-							rattle_dealloc(loadptru(p52 + 32));
-						if (n783 != 0)
-							rattle_dealloc(p782);
-						if (n785 != 0)
-							rattle_dealloc(p784);
-						if (n787 != 0)
-							rattle_dealloc(p786);
-						if (load64u(p52 + 1256) != 0)
-							rattle_dealloc(loadptru(p52 + 1240));
-						if (load64u(p51 + 16) != 0)
-							rattle_dealloc(loadptru(p51));
-						rattle_dealloc(p615);
-						n613 = 4;
-						n614 = 0;
-					}
-				}
-L75:
-				{
-					n603 = n614;
-					n604 = 0;
-					n605 = n613;
-					n606 = 2;
-					n607 = 0;
-					n608 = 1;
-				}
-				break;
-			}
-			default: {
-				UNREACHABLE();
-			}
-			}
-L57:
-			{
-				n788 = n608;
-				n789 = n607;
-				n790 = n606;
-				n791 = n605;
-				n792 = n604;
-				n793 = n603;
-			}
-		} else {
-			switch (MOSTLY_0(n89)) {
-			case 0: {
-				n788 = 1;
-				n789 = 0;
-				n790 = 1;
-				n791 = 3;
-				n792 = 0;
-				n793 = 0;
-				break;
-			}
-			case 1:
-			case 2: {
-				n788 = 1;
-				n789 = 0;
-				n790 = 2;
-				n791 = 2;
-				n792 = 0;
-				n793 = 0;
-				break;
-			}
-			default: {
-				UNREACHABLE();
-			}
-			}
-		}
-		store8(p102, n788);
-		store8(p102 + 1, n789);
-		store64u(p102 + 8, n790);
-		store8(p102 + 16, n791);
-		store8(p102 + 17, n792);
-		store64u(p102 + 24, n793);
-		break;
-	}
-	case 2: {
-		uint8_t n794, n795;
-		uint64_t n796;
-		if (n105 > UINT64_C(1152921504606846975)) {
-			memset(p43, 0, 127);
-			memset(p44, 0, 96);
-			n794 = 1;
-			n795 = 1;
-			n796 = 0;
-		} else {
-			memset(p41, 0, 128);
-			memset(p42, 0, 7);
-			tp_Buckets_new(p41, 640, UINT64_C(1152921504606846975), n105);
-			if (load8(p41) == 0) {
-				memcpy(p42 + 7, p41 + 8, 120);
-				memcpy(p43, p42, 127);
-				memset(p44, 0, 96);
-				n794 = 0;
-				n795 = 0;
-				n796 = n105;
-			} else {
-				memset(p43, 0, 127);
-				memset(p44, 0, 96);
-				n794 = 1;
-				n795 = 2;
-				n796 = 0;
-			}
-		}
-		memcpy(p95, p43, 127);
-		memcpy(p96, p44, 96);
-		store8(p103, n794);
-		store8(p103 + 1, n795);
-		store8(p103 + 8, 0);
-		memcpy(p103 + 9, p95, 127);
-		memcpy(p103 + 136, p96, 96);
-		store64u(p103 + 232, n796);
-		tp_schemes_over_wheel(p102, p88, p93, p103, p5, p6);
-		break;
-	}
-	case 3: {
-		uint8_t n797, n798, n799;
-		uint64_t n800;
-		if (n105 > 8639999) {
-			memset(p39, 0, 127);
-			memset(p40, 0, 96);
-			n797 = 1;
-			n798 = 1;
-			n799 = 0;
-			n800 = 0;
-		} else {
-			memset(p37, 0, 128);
-			memset(p38, 0, 7);
-			tp_Buckets_new(p37, 244, 8639999, n105);
-			if (load8(p37) == 0) {
-				memcpy(p38 + 7, p37 + 8, 120);
-				memcpy(p39, p38, 127);
-				memset(p40, 0, 96);
-				n797 = 0;
-				n798 = 0;
-				n799 = 1;
-				n800 = n105;
-			} else {
-				memset(p39, 0, 127);
-				memset(p40, 0, 96);
-				n797 = 1;
-				n798 = 2;
-				n799 = 0;
-				n800 = 0;
-			}
-		}
-		memcpy(p97, p39, 127);
-		memcpy(p98, p40, 96);
-		store8(p104, n797);
-		store8(p104 + 1, n798);
-		store8(p104 + 8, n799);
-		memcpy(p104 + 9, p97, 127);
-		memcpy(p104 + 136, p98, 96);
-		store64u(p104 + 232, n800);
-		tp_schemes_over_wheel(p102, p88, p93, p104, p5, p6);
-		break;
-	}
-	case 4: {
-		uint64_t n801, n802, n804, n805, n831, n834;
-		byte *p803, *p806;
-		bool b807;
-		uint8_t n829, n830, n832, n833;
-		memset(p34, 0, 38);
-		if (n105 > UINT64_C(1152921504606846975)) {
-			memset(p34 + 6, 0, 32);
-			memset(p35, 0, 16);
-			memset(p36, 0, 288);
-			n801 = 0;
-			n802 = 0;
-			p803 = NULL;
-			n804 = 0;
-			n805 = 0;
-			p806 = NULL;
-			b807 = true;
-		} else {
-			memset(p30, 0, 128);
-			tp_Buckets_new(p30, 1280, UINT64_C(1152921504606846975), n105);
-			if (load8(p30) == 0) {
-				byte *p808 = loadptr(p30 + 40);
-				uint64_t n809 = load64(p30 + 48);
-				uint64_t n810 = load64(p30 + 56);
-				memcpy(p35, p30 + 64, 16);
-				byte *p811 = loadptr(p30 + 80);
-				uint64_t n812 = load64(p30 + 88);
-				uint64_t n813 = load64(p30 + 96);
-				memcpy(p31, p30 + 104, 24);
-				memset(p31 + 24, 0, 160);
-				memcpy(p32 + 7, p30 + 8, 32);
-				memcpy(p33, p31, 184);
-				memset(p33 + 184, 0, 80);
-				memcpy(p34 + 6, p32 + 7, 32);
-				memcpy(p36, p33, 264);
-				memset(p36 + 264, 0, 24);
-				n801 = n813;
-				n802 = n812;
-				p803 = p811;
-				n804 = n810;
-				n805 = n809;
-				p806 = p808;
-				b807 = false;
-			} else {
-				memset(p34 + 6, 0, 32);
-				memset(p35, 0, 16);
-				memset(p36, 0, 288);
-				n801 = 0;
-				n802 = 0;
-				p803 = NULL;
-				n804 = 0;
-				n805 = 0;
-				p806 = NULL;
-				b807 = true;
-			}
-		}
-		memcpy(p99 + 6, p34 + 6, 32);
-		memcpy(p100, p35, 16);
-		memcpy(p101, p36, 288);
-		uint8_t n814 = load8(p88 + 8);
-		uint8_t n815 = load8(p88 + 9);
-		uint8_t n816 = load8(p88 + 10);
-		uint8_t n817 = load8(p88 + 16);
-		uint64_t n818 = load64u(p88 + 24);
-		uint8_t n819 = load8(p88 + 32);
-		uint64_t n820 = load64u(p88 + 40);
-		uint8_t n821 = load8(p88 + 48);
-		uint64_t n822 = load64u(p88 + 56);
-		uint8_t n823 = load8(p88 + 64);
-		uint64_t n824 = load64u(p88 + 72);
-		uint64_t n825 = load64u(p93);
-		uint64_t n826 = load64u(p93 + 8);
-		uint64_t n827 = load64u(p93 + 24);
-		uint64_t n828 = load64u(p93 + 32);
-		if (b807) {
-			switch (MOSTLY_0(n89)) {
-			case 0: {
-				n829 = 1;
-				n830 = 0;
-				n831 = 1;
-				n832 = 3;
-				n833 = 0;
-				n834 = 0;
-				break;
-			}
-			case 1:
-			case 2: {
-				n829 = 1;
-				n830 = 0;
-				n831 = 2;
-				n832 = 2;
-				n833 = 0;
-				n834 = 0;
-				break;
-			}
-			default: {
-				UNREACHABLE();
-			}
-			}
-		} else {
-			uint64_t n999, n1002;
-			uint8_t n1000, n1001, n1003, n1004;
-			memset(p28, 0, 512);
-			uint64_t n835 = 0;
-			for (;;) {
-				store64(at(p28, n835), n828);
-				uint64_t n836 = n835 + 8;
-				if (n836 == 512)
-					break;
-				n835 = n836;
-			}
-			memcpy(p29, p28, 512);
-			memset(p26, 0, 32);
-			memset(p27, 0, 1496);
-			switch (MOSTLY_0(n89)) {
-			case 0: {
-				uint8_t n1005;
-				uint64_t n1006;
-				memset(p25, 0, 32);
-				tp_input_read_script(p25, p5);
-				if (load8(p25) == 0) {
-					byte *p841;
-					uint8_t n968;
-					uint64_t n969;
-					byte *p837 = loadptru(p25 + 8);
-					uint64_t n838 = load64u(p25 + 16);
-					bool b839 = load64u(p25 + 24) == 0;
-					memset(p24, 0, 24);
-					memcpy(p23, p99 + 6, 32);
-					storeptr(p23 + 32, p806);
-					store64(p23 + 40, n805);
-					store64(p23 + 48, n804);
-					memcpy(p23 + 56, p100, 16);
-					storeptr(p23 + 72, p803);
-					store64(p23 + 80, n802);
-					store64(p23 + 88, n801);
-					memcpy(p23 + 96, p101, 288);
-					store64(p23 + 384, n825);
-					store64(p23 + 392, n826);
-					store64(p23 + 400, n827);
-					memcpy(p23 + 408, p29, 512);
-					memset(p23 + 920, 0, 520);
-					storeptr(p23 + 1440, p7);
-					memset(p23 + 1448, 0, 24);
-					storeptru(p23 + 1472, p7);
-					memset(p23 + 1480, 0, 16);
-					uint64_t n840 = (n838 > UINT64_C(4611686018427387903)) ? UINT64_MAX : (n838 << 2);
-					if (n840 != 0) {
-						bool b842;
-						byte *p843, *p845;
-						uint64_t n844, n846;
-						if ((int64_t)n840 < (int64_t)0) {
-							b842 = true;
-							p843 = p7;
-							n844 = n801;
-							p845 = p803;
-							n846 = n804;
-						} else {
-							of_i64_i64 s847 = rattle_alloc(n840, 1);
-							if ((s847.f0 & 1) != 0) {
-								p841 = (byte *)(uintptr_t)s847.f1;
-								goto L79;
-							}
-							b842 = load64u(p23 + 1456) == 0;
-							p843 = loadptru(p23 + 1440);
-							n844 = load64u(p23 + 88);
-							p845 = loadptru(p23 + 72);
-							n846 = load64u(p23 + 48);
-						}
-						if (n846 != 0)
-							rattle_dealloc(loadptru(p23 + 32));
-						if (n844 != 0)
-							rattle_dealloc(p845);
-						if (!b842)
-							rattle_dealloc(p843);
-						if (load64u(p23 + 1488) == 0)
-							goto L80;
-						rattle_dealloc(loadptru(p23 + 1472));
-						goto L80;
-					}
-					p841 = p7;
-L79:
-					{
-						bool b961;
-						uint64_t n962;
-						storeptru(p24, p841);
-						store64u(p24 + 8, 0);
-						store64u(p24 + 16, n840);
-						memset(p22 + 8, 0, 16);
-						storeptru(p22, p7);
-						uint64_t n848 = 0;
-						byte *p849 = p837;
-						uint64_t n850 = n838;
-						for (;;) {
-							uint64_t n889, n891, n892, n893, n894, n908, n909, n910, n911, n912, n915, n916, n917, n918, n921, n922, n923, n924, n927, n929, n930, n931, n954;
-							byte *p890, *p907, *p914, *p920, *p926, *p928, *p953;
-							uint8_t n955;
-							if (n850 == 0)
-								goto L81;
-							if (n850 < 6) {
-								if (n850 != 5)
-									goto L82;
-								uint32_t n851 = ((((uint32_t)load8(p849 + 3) << 24) | ((uint32_t)load8(p849 + 2) << 16)) | ((uint32_t)load8(p849 + 1) << 8)) | (uint32_t)load8(p849);
-								if (n851 != 1886352499)
-									goto L83;
-								uint64_t n852 = 0;
-								bool b853 = false;
-								while (n852 != 1) {
-									n852 = 1;
-									b853 = (int)b853 | (int)(32 != load8(p849 + 4));
-								}
-								uint64_t n854 = 0;
-								bool b855 = false;
-								while (n854 != 1) {
-									n854 = 1;
-									b855 = (int)b855 | (int)(32 != load8(p849 + 4));
-								}
-								uint64_t n856 = 0;
-								bool b857 = false;
-								while (n856 != 1) {
-									n856 = 1;
-									b857 = (int)b857 | (int)(32 != load8(p849 + 4));
-								}
-								if ((int)((int)b853 | (int)b855) | (int)b857)
-									goto L83;
-							} else {
-								uint32_t n858 = ((((uint32_t)load8(p849 + 3) << 24) | ((uint32_t)load8(p849 + 2) << 16)) | ((uint32_t)load8(p849 + 1) << 8)) | (uint32_t)load8(p849);
-								switch (n858) {
-								case 1918989427: {
-									uint64_t n868, n874, n880, n886;
-									uint64_t n859 = 0;
-									bool b860 = false;
-									while (n859 != 1) {
-										n859 = 1;
-										b860 = (int)b860 | (int)(116 != load8(p849 + 4));
-									}
-									uint64_t n861 = 0;
-									bool b862 = false;
-									while (n861 != 1) {
-										n861 = 1;
-										b862 = (int)b862 | (int)(32 != load8(p849 + 5));
-									}
-									uint64_t n863 = 0;
-									bool b864 = false;
-									while (n863 != 1) {
-										n863 = 1;
-										b864 = (int)b864 | (int)(32 != load8(p849 + 5));
-									}
-									if ((int)((int)b860 | (int)b862) | (int)b864)
-										goto L83;
-									uint64_t n865 = n850 - 6;
-									uint64_t n866 = 0;
-									uint64_t n867 = 0;
-									for (;;) {
-										if (n867 == n865) {
-											n868 = n865;
-											break;
-										}
-										uint8_t n869 = load8(at(at(p849, 6), n867));
-										if ((uint8_t)(n869 - 48) >= 10) {
-											n868 = n867;
-											break;
-										}
-										n866 = (n866 * 10) + (uint64_t)(uint8_t)(n869 & 15);
-										n867 = n867 + 1;
-									}
-									switch (n868) {
-									case 0: {
-										goto L84;
-									}
-									case 1: {
-										if (n866 > UINT64_C(1152921504606846975))
-											goto L84;
-										break;
-									}
-									default: {
-										if (((int)(load8(p849 + 6) == 48) | (int)(n868 > 19)) || (n866 > UINT64_C(1152921504606846975)))
-											goto L84;
-										break;
-									}
-									}
-									byte *p870 = at(at(p849, 6), n868);
-									if (n865 == n868)
-										goto L84;
-									if (load8(p870) != 32)
-										goto L84;
-									uint64_t n871 = n865 + (n868 ^ UINT64_MAX);
-									uint64_t n872 = 0;
-									uint64_t n873 = 0;
-									for (;;) {
-										if (n873 == n871) {
-											n874 = n871;
-											break;
-										}
-										uint8_t n875 = load8(at(at(p870, 1), n873));
-										if ((uint8_t)(n875 - 48) >= 10) {
-											n874 = n873;
-											break;
-										}
-										n872 = (n872 * 10) + (uint64_t)(uint8_t)(n875 & 15);
-										n873 = n873 + 1;
-									}
-									switch (n874) {
-									case 0: {
-										goto L84;
-									}
-									case 1: {
-										if (n872 > UINT64_C(1152921504606846975))
-											goto L84;
-										break;
-									}
-									default: {
-										if (((int)(load8(p870 + 1) == 48) | (int)(n874 > 19)) || (n872 > UINT64_C(1152921504606846975)))
-											goto L84;
-										break;
-									}
-									}
-									byte *p876 = at(at(p870, 1), n874);
-									if (n871 == n874)
-										goto L84;
-									if (load8(p876) != 32)
-										goto L84;
-									uint64_t n877 = n871 + (n874 ^ UINT64_MAX);
-									uint64_t n878 = 0;
-									uint64_t n879 = 0;
-									for (;;) {
-										if (n879 == n877) {
-											n880 = n877;
-											break;
-										}
-										uint8_t n881 = load8(at(at(p876, 1), n879));
-										if ((uint8_t)(n881 - 48) >= 10) {
-											n880 = n879;
-											break;
-										}
-										n878 = (n878 * 10) + (uint64_t)(uint8_t)(n881 & 15);
-										n879 = n879 + 1;
-									}
-									switch (n880) {
-									case 0: {
-										goto L84;
-									}
-									case 1: {
-										if (n878 > UINT64_C(1152921504606846975))
-											goto L84;
-										break;
-									}
-									default: {
-										if (((int)(load8(p876 + 1) == 48) | (int)(n880 > 19)) || (n878 > UINT64_C(1152921504606846975)))
-											goto L84;
-										break;
-									}
-									}
-									byte *p882 = at(at(p876, 1), n880);
-									if (n877 == n880)
-										goto L84;
-									if (load8(p882) != 32)
-										goto L84;
-									uint64_t n883 = n877 + (n880 ^ UINT64_MAX);
-									uint64_t n884 = 0;
-									uint64_t n885 = 0;
-									for (;;) {
-										if (n885 == n883) {
-											n886 = n883;
-											break;
-										}
-										uint8_t n887 = load8(at(at(p882, 1), n885));
-										if ((uint8_t)(n887 - 48) >= 10) {
-											n886 = n885;
-											break;
-										}
-										n884 = (n884 * 10) + (uint64_t)(uint8_t)(n887 & 15);
-										n885 = n885 + 1;
-									}
-									switch (n886) {
-									case 0: {
-										goto L84;
-									}
-									case 1: {
-										if (n884 > UINT64_C(1152921504606846975))
-											goto L84;
-										break;
-									}
-									default: {
-										if (((int)(load8(p882 + 1) == 48) | (int)(n886 > 19)) || (n884 > UINT64_C(1152921504606846975)))
-											goto L84;
-										break;
-									}
-									}
-									byte *p888 = at(at(p882, 1), n886);
-									if (n883 == n886)
-										goto L84;
-									if (load8(p888) != 10)
-										goto L84;
-									n889 = n866;
-									p890 = at(p888, 1);
-									n891 = n883 + (n886 ^ UINT64_MAX);
-									n892 = n872;
-									n893 = n878;
-									n894 = n884;
-									goto L85;
-								}
-								case 1886352499: {
-									uint64_t n895 = 0;
-									bool b896 = false;
-									while (n895 != 1) {
-										n895 = 1;
-										b896 = (int)b896 | (int)(32 != load8(p849 + 4));
-									}
-									uint64_t n897 = 0;
-									bool b898 = false;
-									while (n897 != 1) {
-										n897 = 1;
-										b898 = (int)b898 | (int)(32 != load8(p849 + 4));
-									}
-									uint64_t n899 = 0;
-									bool b900 = false;
-									while (n899 != 1) {
-										n899 = 1;
-										b900 = (int)b900 | (int)(32 != load8(p849 + 4));
-									}
-									if ((int)((int)b896 | (int)b898) | (int)b900)
-										goto L83;
-									break;
-								}
-								case 1936682083: {
-									uint64_t n901 = 0;
-									bool b902 = false;
-									while (n901 != 1) {
-										n901 = 1;
-										b902 = (int)b902 | (int)(101 != load8(p849 + 4));
-									}
-									uint64_t n903 = 0;
-									bool b904 = false;
-									while (n903 != 1) {
-										n903 = 1;
-										b904 = (int)b904 | (int)(10 != load8(p849 + 5));
-									}
-									uint64_t n905 = 0;
-									bool b906 = false;
-									while (n905 != 1) {
-										n905 = 1;
-										b906 = (int)b906 | (int)(10 != load8(p849 + 5));
-									}
-									if ((int)((int)b902 | (int)b904) | (int)b906)
-										goto L83;
-									p907 = at(p849, 6);
-									n908 = n850 - 6;
-									goto L86;
-								}
-								default: {
-									goto L83;
-								}
-								}
-							}
-							n909 = n850 - 5;
-							n910 = 0;
-							n911 = 0;
-							for (;;) {
-								if (n910 == n909) {
-									n912 = n909;
-									break;
-								}
-								uint8_t n913 = load8(at(at(p849, 5), n910));
-								if ((uint8_t)(n913 - 48) >= 10) {
-									n912 = n910;
-									break;
-								}
-								n910 = n910 + 1;
-								n911 = (n911 * 10) + (uint64_t)(uint8_t)(n913 & 15);
-							}
-							switch (n912) {
-							case 0: {
-								goto L84;
-							}
-							case 1: {
-								if (n911 > UINT64_C(1152921504606846975))
-									goto L84;
-								break;
-							}
-							default: {
-								if (((int)(load8(p849 + 5) == 48) | (int)(n912 > 19)) || (n911 > UINT64_C(1152921504606846975)))
-									goto L84;
-								break;
-							}
-							}
-							p914 = at(at(p849, 5), n912);
-							if (n909 == n912)
-								goto L84;
-							if (load8(p914) != 32)
-								goto L84;
-							n915 = n909 + (n912 ^ UINT64_MAX);
-							n916 = 0;
-							n917 = 0;
-							for (;;) {
-								if (n916 == n915) {
-									n918 = n915;
-									break;
-								}
-								uint8_t n919 = load8(at(at(p914, 1), n916));
-								if ((uint8_t)(n919 - 48) >= 10) {
-									n918 = n916;
-									break;
-								}
-								n916 = n916 + 1;
-								n917 = (n917 * 10) + (uint64_t)(uint8_t)(n919 & 15);
-							}
-							switch (n918) {
-							case 0: {
-								goto L84;
-							}
-							case 1: {
-								if (n917 > UINT64_C(1152921504606846975))
-									goto L84;
-								break;
-							}
-							default: {
-								if (((int)(load8(p914 + 1) == 48) | (int)(n918 > 19)) || (n917 > UINT64_C(1152921504606846975)))
-									goto L84;
-								break;
-							}
-							}
-							p920 = at(at(p914, 1), n918);
-							if (n915 == n918)
-								goto L84;
-							if (load8(p920) != 32)
-								goto L84;
-							n921 = n915 + (n918 ^ UINT64_MAX);
-							n922 = 0;
-							n923 = 0;
-							for (;;) {
-								if (n922 == n921) {
-									n924 = n921;
-									break;
-								}
-								uint8_t n925 = load8(at(at(p920, 1), n922));
-								if ((uint8_t)(n925 - 48) >= 10) {
-									n924 = n922;
-									break;
-								}
-								n922 = n922 + 1;
-								n923 = (n923 * 10) + (uint64_t)(uint8_t)(n925 & 15);
-							}
-							switch (n924) {
-							case 0: {
-								goto L84;
-							}
-							case 1: {
-								if (n923 > UINT64_C(1152921504606846975))
-									goto L84;
-								break;
-							}
-							default: {
-								if (((int)(load8(p920 + 1) == 48) | (int)(n924 > 19)) || (n923 > UINT64_C(1152921504606846975)))
-									goto L84;
-								break;
-							}
-							}
-							p926 = at(at(p920, 1), n924);
-							if (n921 == n924)
-								goto L84;
-							if (load8(p926) != 10)
-								goto L84;
-							n927 = n911;
-							p928 = at(p926, 1);
-							n929 = n921 + (n924 ^ UINT64_MAX);
-							n930 = n917;
-							n931 = n923;
-							goto L87;
-L83:
-							{
-								uint64_t n939, n941, n944, n945, n946, n947, n948, n950;
-								byte *p940;
-								uint8_t n942, n943;
-								bool b949, b951;
-								memset(p21, 0, 72);
-								uint32_t n932 = ((((uint32_t)load8(p849 + 3) << 24) | ((uint32_t)load8(p849 + 2) << 16)) | ((uint32_t)load8(p849 + 1) << 8)) | (uint32_t)load8(p849);
-								if (n932 == 1801677172) {
-									uint64_t n933 = 0;
-									bool b934 = false;
-									while (n933 != 1) {
-										n933 = 1;
-										b934 = (int)b934 | (int)(32 != load8(p849 + 4));
-									}
-									uint64_t n935 = 0;
-									bool b936 = false;
-									while (n935 != 1) {
-										n935 = 1;
-										b936 = (int)b936 | (int)(32 != load8(p849 + 4));
-									}
-									uint64_t n937 = 0;
-									bool b938 = false;
-									while (n937 != 1) {
-										n937 = 1;
-										b938 = (int)b938 | (int)(32 != load8(p849 + 4));
-									}
-									if (!((int)((int)b934 | (int)b936) | (int)b938)) {
-										tp_lines_read_tick(p21, p849 + 5, n850 - 5);
-										n939 = load64u(p21 + 16);
-										p940 = loadptru(p21 + 56);
-										n941 = load64u(p21 + 64);
-										n942 = load8(p21);
-										n943 = load8(p21 + 8);
-										n944 = load64u(p21 + 24);
-										n945 = load64u(p21 + 32);
-										n946 = load64u(p21 + 40);
-										n947 = load64u(p21 + 48);
-										goto L88;
-									}
-								}
-								if (!((int)(n850 > 7) & (int)(n932 == 1953719666)))
-									goto L82;
-								n948 = 0;
-								b949 = false;
-								while (n948 != 4) {
-									b949 = (int)b949 | (int)(load8(at((byte *)tp_static_296 + 4, n948)) != load8(at(at(p849, 4), n948)));
-									n948 = n948 + 1;
-								}
-								n950 = 0;
-								b951 = false;
-								while (n950 != 4) {
-									b951 = (int)b951 | (int)(load8(at((byte *)tp_static_296 + 4, n950)) != load8(at(at(p849, 4), n950)));
-									n950 = n950 + 1;
-								}
-								if ((int)b949 | (int)b951)
-									goto L82;
-								tp_lines_read_restart(p21, p849 + 8, n850 - 8);
-								n939 = load64u(p21 + 16);
-								p940 = loadptru(p21 + 56);
-								n941 = load64u(p21 + 64);
-								n942 = load8(p21);
-								n943 = load8(p21 + 8);
-								n944 = load64u(p21 + 24);
-								n945 = load64u(p21 + 32);
-								n946 = load64u(p21 + 40);
-								n947 = load64u(p21 + 48);
-L88:
-								{
-									if (n942 != 1)
-										goto L84;
-									switch (MOSTLY_0(n943)) {
-									case 0: {
-										n889 = n939;
-										p890 = p940;
-										n891 = n941;
-										n892 = n944;
-										n893 = n945;
-										n894 = n946;
-										goto L85;
-									}
-									case 2: {
-										n927 = n939;
-										p928 = p940;
-										n929 = n941;
-										n930 = n944;
-										n931 = n945;
-										goto L87;
-									}
-									case 3: {
-										uint8_t n952 = tp_script_run_answer_restart(p23, n939, n944, n945, n946, n947, p24);
-										p953 = p940;
-										n954 = n941;
-										n955 = n952;
-										goto L89;
-									}
-									case 5: {
-										uint8_t n956 = tp_script_run_answer_ticks(p23, n939, p22, p24);
-										p953 = p940;
-										n954 = n941;
-										n955 = n956;
-										goto L89;
-									}
-									case 7: {
-										p907 = p940;
-										n908 = n941;
-										break;
-									}
-									case 1:
-									case 4:
-									case 6:
-									case 8: {
-										store64u(p20, (uint64_t)n943);
-										store64u(p20 + 8, n939);
-										store64u(p20 + 16, n944);
-										store64u(p20 + 24, n945);
-										store64u(p20 + 32, n946);
-										store64u(p20 + 40, n947);
-										uint8_t n957 = tp_script_run_answer_outs(p23, p20, p22, p24);
-										p953 = p940;
-										n954 = n941;
-										n955 = n957;
-										goto L89;
-									}
-									default: {
-										UNREACHABLE();
-									}
-									}
-								}
-							}
-L86:
-							{
-								uint8_t n958 = tp_script_run_answer_close(p23, p22, p24);
-								p953 = p907;
-								n954 = n908;
-								n955 = n958;
-								goto L89;
-							}
-L87:
-							{
-								uint8_t n959 = tp_script_run_answer_stop(p23, n927, n930, n931, p24);
-								p953 = p928;
-								n954 = n929;
-								n955 = n959;
-								goto L89;
-							}
-L85:
-							{
-								uint8_t n960 = tp_script_run_answer_start(p23, n889, n892, n893, n894, p24);
-								p953 = p890;
-								n954 = n891;
-								n955 = n960;
-							}
-L89:
-							{
-								if ((n955 & 1) != 0)
-									break;
-								n848 = n848 + 1;
-								p849 = p953;
-								n850 = n954;
-							}
-						}
-						if (load64u(p22 + 16) == 0) {
-							b961 = true;
-							n962 = 0;
-							goto L90;
-						}
-						rattle_dealloc(loadptru(p22));
-						b961 = true;
-						n962 = 0;
-						goto L90;
-L82: ;
-L84:
-						{
-							uint64_t n963 = n848 + 1;
-							if (load64u(p22 + 16) == 0) {
-								b961 = false;
-								n962 = n963;
-							} else {
-								rattle_dealloc(loadptru(p22));
-								b961 = false;
-								n962 = n963;
-							}
-						}
-L90:
-						{
-							if (load64u(p24 + 16) != 0)
-								rattle_dealloc(loadptru(p24));
-							byte *p964 = loadptru(p23 + 72);
-							uint64_t n965 = load64u(p23 + 88);
-							byte *p966 = loadptru(p23 + 1440);
-							uint64_t n967 = load64u(p23 + 1456);
-							if (load64u(p23 + 48) != 0)
-								rattle_dealloc(loadptru(p23 + 32));
-							if (n965 != 0)
-								rattle_dealloc(p964);
-							if (n967 != 0)
-								rattle_dealloc(p966);
-							if (load64u(p23 + 1488) != 0)
-								rattle_dealloc(loadptru(p23 + 1472));
-							if (b961)
-								goto L91;
-							n968 = 2;
-							n969 = n962;
-							goto L92;
-						}
-L81:
-						{
-							uint64_t n980;
-							if (load64u(p22 + 16) != 0)
-								rattle_dealloc(loadptru(p22));
-							uint64_t n970 = load64(p23 + 8);
-							uint64_t n971 = load64(p23 + 56);
-							uint64_t n972 = load64(p23 + 24);
-							byte *p973 = loadptr(p23 + 72);
-							uint64_t n974 = (uint64_t)load32(at(p973, n972 << 3) + 4);
-							bool b975 = n972 != n974;
-							uint64_t n976 = load64(p23 + 96);
-							uint64_t n977 = b975 ? (n974 - n976) : 0;
-							uint64_t n978 = 0;
-							bool b979 = b975;
-							for (;;) {
-								if (n978 == n971) {
-									n980 = n971;
-									break;
-								}
-								if (!b979) {
-									n980 = n978;
-									break;
-								}
-								uint64_t n981 = (uint64_t)load32(at(p973, (n976 + n977) << 3) + 4);
-								n977 = usub_sat64(n981, n976);
-								n978 = n978 + 1;
-								b979 = n976 <= n981;
-							}
-							uint8_t n982 = tp_text_push_end(p24, n970, n971 - n980);
-							if ((n982 & 1) == 0) {
-								uint64_t n987 = load64u(p24);
-								uint64_t n988 = load64u(p24 + 8);
-								uint64_t n989 = load64u(p24 + 16);
-								byte *p990 = loadptru(p23 + 72);
-								uint64_t n991 = load64u(p23 + 88);
-								byte *p992 = loadptru(p23 + 1440);
-								uint64_t n993 = load64u(p23 + 1456);
-								if (load64u(p23 + 48) != 0)
-									rattle_dealloc(loadptru(p23 + 32));
-								if (n991 != 0)
-									rattle_dealloc(p990);
-								if (n993 != 0)
-									rattle_dealloc(p992);
-								if (load64u(p23 + 1488) != 0)
-									rattle_dealloc(loadptru(p23 + 1472));
-								byte *p994 = (byte *)(uintptr_t)n987;
-								uint64_t n995 = 0;
-								while (n995 < n988) {
-									uint64_t n996 = n988 - n995;
-									uint64_t n997 = os_write(1, at(p994, n995), n996);
-									if ((int64_t)n997 < (int64_t)0) {
-										tp_error_last_error(p19);
-										goto L93;
-									}
-									uint64_t n998 = umin64(n997, n996);
-									if (n998 == 0)
-										goto L93;
-									n995 = n995 + n998;
-								}
-								if (n989 != 0)
-									rattle_dealloc(p994);
-								if (!b839)
-									rattle_dealloc(p837);
-								n999 = 0;
-								n1000 = 0;
-								n1001 = 0;
-								n1002 = 0;
-								n1003 = 0;
-								n1004 = 0;
-								goto L94;
-L93:
-								{
-									store8(p5 + 12, 1);
-									if (n989 != 0)
-										rattle_dealloc(p994);
-									if (b839) {
-										n1005 = 4;
-										n1006 = n995;
-										goto L95;
-									}
-									rattle_dealloc(p837);
-									n1005 = 4;
-									n1006 = n995;
-									goto L95;
-								}
-							}
-							if (load64u(p24 + 16) != 0)
-								rattle_dealloc(loadptru(p24));
-							byte *p983 = loadptru(p23 + 72);
-							uint64_t n984 = load64u(p23 + 88);
-							byte *p985 = loadptru(p23 + 1440);
-							uint64_t n986 = load64u(p23 + 1456);
-							if (load64u(p23 + 48) != 0)
-								rattle_dealloc(loadptru(p23 + 32));
-							if (n984 != 0)
-								rattle_dealloc(p983);
-							if (n986 != 0)
-								rattle_dealloc(p985);
-							if (load64u(p23 + 1488) != 0)
-								rattle_dealloc(loadptru(p23 + 1472));
-						}
-					}
-L80: ;
-L91:
-					{
-						n968 = 3;
-						n969 = 0;
-					}
-L92:
-					{
-						if (b839) {
-							n1005 = n968;
-							n1006 = n969;
-						} else {
-							rattle_dealloc(p837);
-							n1005 = n968;
-							n1006 = n969;
-						}
-					}
-				} else {
-					uint8_t n1007;
-					switch (MOSTLY_0(load8(p25 + 1))) {
-					case 0: {
-						n1007 = 0;
-						break;
-					}
-					case 1: {
-						n1007 = 1;
-						break;
-					}
-					case 2: {
-						n1007 = 3;
-						break;
-					}
-					default: {
-						UNREACHABLE();
-					}
-					}
-					if (n804 != 0)
-						rattle_dealloc(p806);
-					if (n801 == 0) {
-						n1005 = n1007;
-						n1006 = 0;
-					} else {
-						rattle_dealloc(p803);
-						n1005 = n1007;
-						n1006 = 0;
-					}
-				}
-L95:
-				{
-					n999 = n1006;
-					n1000 = 0;
-					n1001 = n1005;
-					n1002 = 1;
-					n1003 = 0;
-					n1004 = 1;
-				}
-				break;
-			}
-			case 1: {
-				memcpy(p27, p99 + 6, 32);
-				storeptru(p27 + 32, p806);
-				store64u(p27 + 40, n805);
-				store64u(p27 + 48, n804);
-				memcpy(p27 + 56, p100, 16);
-				storeptru(p27 + 72, p803);
-				store64u(p27 + 80, n802);
-				store64u(p27 + 88, n801);
-				memcpy(p27 + 96, p101, 288);
-				store64(p27 + 384, n825);
-				store64(p27 + 392, n826);
-				store64(p27 + 400, n827);
-				memcpy(p27 + 408, p29, 512);
-				memset(p27 + 920, 0, 520);
-				storeptru(p27 + 1440, p7);
-				memset(p27 + 1448, 0, 24);
-				storeptru(p27 + 1472, p7);
-				memset(p27 + 1480, 0, 16);
-				tp_verbs_talk(p26, p27, n90, (n91 & 1) != 0, p5, p6);
-				n999 = load64(p26 + 24);
-				n1000 = load8(p26 + 17);
-				n1001 = load8(p26 + 16);
-				n1002 = (uint64_t)load8(p26 + 8);
-				n1003 = load8(p26 + 1);
-				n1004 = load8(p26);
-				break;
-			}
-			case 2: {
-				uint8_t n1009;
-				uint64_t n1010;
-				memset(p15, 0, 24);
-				memset(p16, 0, 1520);
-				memset(p17, 0, 96);
-				memset(p18, 0, 24);
-				of_i64_i64 s1008 = rattle_alloc(16384, 1);
-				if ((s1008.f0 & 1) == 0) {
-					if (n804 != 0)
-						rattle_dealloc(p806);
-					if (n801 == 0) {
-						n1009 = 2;
-						n1010 = 0;
-					} else {
-						rattle_dealloc(p803);
-						n1009 = 2;
-						n1010 = 0;
-					}
-				} else {
-					uint64_t n1016, n1027, n1033, n1043, n1065, n1067, n1069, n1076;
-					uint8_t n1062;
-					byte *p1064, *p1066, *p1068;
-					byte *p1011 = (byte *)(uintptr_t)s1008.f1;
-					uint64_t n1012 = 0;
-					while (n1012 != 16383) {
-						store8(inside(p1011, n1012), 0);
-						n1012 = n1012 + 1;
-					}
-					store8(p1011 + 16383, 0);
-					storeptru(p15, p7);
-					memset(p15 + 8, 0, 16);
-					memcpy(p16, p99 + 6, 32);
-					storeptru(p16 + 32, p806);
-					store64u(p16 + 40, n805);
-					store64u(p16 + 48, n804);
-					memcpy(p16 + 56, p100, 16);
-					storeptru(p16 + 72, p803);
-					store64u(p16 + 80, n802);
-					store64u(p16 + 88, n801);
-					memcpy(p16 + 96, p101, 288);
-					store64(p16 + 384, n825);
-					store64(p16 + 392, n826);
-					store64(p16 + 400, n827);
-					memcpy(p16 + 408, p29, 512);
-					memset(p16 + 920, 0, 520);
-					storeptru(p16 + 1440, p7);
-					memset(p16 + 1448, 0, 24);
-					storeptru(p16 + 1472, p7);
-					memset(p16 + 1480, 0, 16);
-					storeptru(p16 + 1496, p7);
-					memset(p16 + 1504, 0, 16);
-					store64(p17, 0);
-					storeptru(p17 + 8, p7);
-					memset(p17 + 16, 0, 16);
-					storeptru(p17 + 32, p7);
-					memset(p17 + 40, 0, 16);
-					storeptru(p17 + 56, p7);
-					memset(p17 + 64, 0, 16);
-					store64u(p17 + 80, 1);
-					store8(p17 + 88, 1);
-					memset(p17 + 89, 0, 7);
-					uint64_t n1013 = 0;
-					for (;;) {
-						if (n1013 == UINT64_MAX)
-							goto L96;
-						memset(p14, 0, 96);
-						tp_WatchedRead_read(p14, p5, p1011, 16384);
-						uint64_t n1014 = load64(p14 + 8);
-						if (load8(p14) != 0)
-							break;
-						tp_Cutter_take_in(p18, p17, p1011, n1014, p6);
-						if (load8(p18) != 0)
-							goto L97;
-						uint8_t n1015 = load8(p18 + 8);
-						n1016 = load64u(p18 + 16);
-						byte *p1017 = loadptr(p17 + 8);
-						uint64_t n1018 = load64(p17 + 16);
-						if (load64(p15 + 8) != 0)
-							store64(p15 + 8, 0);
-						uint64_t n1019 = 0;
-						while (n1019 != n1018) {
-							uint8_t n1035, n1037;
-							byte *p1020 = at(p1017, n1019 * 48);
-							uint64_t n1021 = load64(p16 + 400);
-							if ((n815 & 1) != 0) {
-								uint8_t n1022 = load8(p1020);
-								switch (n1022) {
-								case 5: {
-									uint64_t n1023 = load64(p1020 + 8);
-									for (;;) {
-										uint64_t n1026;
-										if (n1023 == 0)
-											goto L98;
-										uint64_t n1024 = load64(p16 + 8);
-										of_i8_i64 s1025 = tp_SmoothWheelWheel_quiet_until(p16);
-										if (s1025.f0 == 1) {
-											if ((s1025.f1 > load64(p16)) || ((load8(p16 + 1432) & 1) != 0)) {
-												n1026 = n1023;
-											} else {
-												n1026 = umin64(s1025.f1 - n1024, n1023);
-											}
-										} else {
-											n1026 = n1023;
-										}
-										n1027 = load64(p15 + 8);
-										uint8_t n1028 = tp_script_run_answer_ticks(p16, n1026, p16 + 1496, p15);
-										if ((n1028 & 1) != 0)
-											goto L99;
-										n1023 = n1023 - n1026;
-									}
-									break;
-								}
-								case 6: {
-									uint64_t n1029 = usub_sat64(load64(p1020 + 8), load64(p16 + 8));
-									for (;;) {
-										uint64_t n1032;
-										if (n1029 == 0)
-											goto L98;
-										uint64_t n1030 = load64(p16 + 8);
-										of_i8_i64 s1031 = tp_SmoothWheelWheel_quiet_until(p16);
-										if (s1031.f0 == 1) {
-											if ((s1031.f1 > load64(p16)) || ((load8(p16 + 1432) & 1) != 0)) {
-												n1032 = n1029;
-											} else {
-												n1032 = umin64(s1031.f1 - n1030, n1029);
-											}
-										} else {
-											n1032 = n1029;
-										}
-										n1033 = load64(p15 + 8);
-										uint8_t n1034 = tp_script_run_answer_ticks(p16, n1032, p16 + 1496, p15);
-										if ((n1034 & 1) != 0)
-											goto L100;
-										n1029 = n1029 - n1032;
-									}
-									break;
-								}
-								case 0:
-								case 1:
-								case 2:
-								case 3:
-								case 4:
-								case 7:
-								case 8: {
-									n1035 = n1022;
-									break;
-								}
-								default: {
-									UNREACHABLE();
-								}
-								}
-							} else {
-								n1035 = load8(p1020);
-							}
-							switch (MOSTLY_0(n1035)) {
-							case 0: {
-								uint8_t n1036 = tp_script_run_answer_start(p16, load64(p1020 + 8), load64(p1020 + 16), load64(p1020 + 24), load64(p1020 + 32), p15);
-								n1037 = n1036;
-								break;
-							}
-							case 2: {
-								uint8_t n1038 = tp_script_run_answer_stop(p16, load64(p1020 + 8), load64(p1020 + 16), load64(p1020 + 24), p15);
-								n1037 = n1038;
-								break;
-							}
-							case 3: {
-								uint8_t n1039 = tp_script_run_answer_restart(p16, load64(p1020 + 8), load64(p1020 + 16), load64(p1020 + 24), load64(p1020 + 32), load64(p1020 + 40), p15);
-								n1037 = n1039;
-								break;
-							}
-							case 5: {
-								uint8_t n1040 = tp_script_run_answer_ticks(p16, load64(p1020 + 8), p16 + 1496, p15);
-								n1037 = n1040;
-								break;
-							}
-							case 7: {
-								uint8_t n1041 = tp_script_run_answer_close(p16, p16 + 1496, p15);
-								n1037 = n1041;
-								break;
-							}
-							case 1:
-							case 4:
-							case 6:
-							case 8: {
-								store64u(p13, (uint64_t)n1035);
-								store64(p13 + 8, load64u(p1020 + 8));
-								store64(p13 + 16, load64u(p1020 + 16));
-								store64(p13 + 24, load64u(p1020 + 24));
-								store64(p13 + 32, load64u(p1020 + 32));
-								store64(p13 + 40, load64u(p1020 + 40));
-								uint8_t n1042 = tp_script_run_answer_outs(p16, p13, p16 + 1496, p15);
-								n1037 = n1042;
-								break;
-							}
-							default: {
-								UNREACHABLE();
-							}
-							}
-							if ((n1037 & 1) != 0)
-								goto L101;
-L98:
-							{
-								uint64_t n1045, n1048, n1050;
-								bool b1046;
-								uint8_t n1047, n1057;
-								n1043 = load64(p15 + 8);
-								uint64_t n1044 = load64(p16 + 8);
-								if (n821 == 1) {
-									if (n822 > n1044) {
-										n1045 = n1043;
-										goto L102;
-									}
-								}
-								if (n823 == 1) {
-									if (n1044 > n824) {
-										n1045 = n1043;
-										goto L102;
-									}
-								}
-								b1046 = (n814 & 1) != 0;
-								store64(p12, (uint64_t)n817);
-								store64(p12 + 8, n818);
-								store64(p12 + 16, (uint64_t)n819);
-								store64(p12 + 24, n820);
-								store64(p12 + 32, ((n816 & 1) != 0) ? n1021 : 0);
-								n1047 = tp_render_push_number(p15, (byte *)tp_static_383, 6, n1044);
-								if ((n1047 & 1) != 0)
-									goto L103;
-								n1048 = load64(p15 + 8);
-								if (load64(p15 + 16) == n1048) {
-									bool b1049 = tp_Vec_grow_amortized(p15, 1);
-									if (!b1049)
-										goto L103;
-									n1050 = load64(p15 + 8);
-								} else {
-									n1050 = n1048;
-								}
-								store8(inside(loadptr(p15), n1050), 10);
-								store64(p15 + 8, n1050 + 1);
-								if (b1046) {
-									uint64_t n1056;
-									uint64_t n1051 = load64(p16 + 376);
-									uint8_t n1052 = tp_render_push_number(p15, (byte *)tp_static_394, 9, load64(p16 + 368));
-									if ((n1052 & 1) != 0)
-										goto L103;
-									uint8_t n1053 = tp_render_push_number(p15, (byte *)tp_static_395, 7, n1051);
-									if ((n1053 & 1) != 0)
-										goto L103;
-									uint64_t n1054 = load64(p15 + 8);
-									if (load64(p15 + 16) == n1054) {
-										bool b1055 = tp_Vec_grow_amortized(p15, 1);
-										if (!b1055)
-											goto L103;
-										n1056 = load64(p15 + 8);
-									} else {
-										n1056 = n1054;
-									}
-									store8(inside(loadptr(p15), n1056), 10);
-									store64(p15 + 8, n1056 + 1);
-								}
-								n1057 = tp_render_push_lists(p15, p16 + 32, 2, 0, p12);
-								if ((n1057 & 1) != 0)
-									goto L104;
-								n1045 = load64(p15 + 8);
-L102:
-								{
-									byte *p1058 = loadptr(p15);
-									uint64_t n1059 = 0;
-									while (n1059 < n1045) {
-										uint64_t n1060 = n1045 - n1059;
-										uint64_t n1061 = os_write(1, at(p1058, n1059), n1060);
-										if ((int64_t)n1061 < (int64_t)0) {
-											tp_error_last_error(p10);
-											store8(p5 + 12, 1);
-											n1062 = 3;
-											goto L105;
-										}
-										uint64_t n1063 = umin64(n1061, n1060);
-										if (n1063 == 0) {
-											store8(p5 + 12, 1);
-											n1062 = 3;
-											goto L105;
-										}
-										n1059 = n1059 + n1063;
-									}
-									if (load64(p15 + 8) != 0)
-										store64(p15 + 8, 0);
-									n1019 = n1019 + 1;
-								}
-							}
-						}
-						if (n1015 == 1)
-							goto L106;
-						if (n1014 == 0)
-							goto L107;
-						n1013 = n1013 + 1;
-					}
-					if (load64u(p17 + 24) != 0)
-						rattle_dealloc(loadptru(p17 + 8));
-					if (load64u(p17 + 48) != 0)
-						rattle_dealloc(loadptru(p17 + 32));
-					if (load64u(p17 + 72) != 0)
-						rattle_dealloc(loadptru(p17 + 56));
-					p1064 = loadptru(p16 + 72);
-					n1065 = load64u(p16 + 88);
-					p1066 = loadptru(p16 + 1440);
-					n1067 = load64u(p16 + 1456);
-					p1068 = loadptru(p16 + 1472);
-					n1069 = load64u(p16 + 1488);
-					if (load64u(p16 + 48) != 0)
-						rattle_dealloc(loadptru(p16 + 32));
-					if (n1065 != 0)
-						rattle_dealloc(p1064);
-					if (n1067 != 0)
-						rattle_dealloc(p1066);
-					if (n1069 != 0)
-						rattle_dealloc(p1068);
-					if (load64u(p16 + 1512) != 0)
-						rattle_dealloc(loadptru(p16 + 1496));
-					if (load64u(p15 + 16) != 0)
-						rattle_dealloc(loadptru(p15));
-					rattle_dealloc(p1011);
-					n1009 = 0;
-					n1010 = 0;
-					goto L108;
-L97:
-					{
-						if (load64u(p17 + 24) != 0)
-							rattle_dealloc(loadptru(p17 + 8));
-						if (load64u(p17 + 48) != 0)
-							rattle_dealloc(loadptru(p17 + 32));
-						if (load64u(p17 + 72) != 0)
-							rattle_dealloc(loadptru(p17 + 56));
-						byte *p1070 = loadptru(p16 + 72);
-						uint64_t n1071 = load64u(p16 + 88);
-						byte *p1072 = loadptru(p16 + 1440);
-						uint64_t n1073 = load64u(p16 + 1456);
-						byte *p1074 = loadptru(p16 + 1472);
-						uint64_t n1075 = load64u(p16 + 1488);
-						if (load64u(p16 + 48) != 0)
-							rattle_dealloc(loadptru(p16 + 32));
-						if (n1071 != 0)
-							rattle_dealloc(p1070);
-						if (n1073 != 0)
-							rattle_dealloc(p1072);
-						if (n1075 != 0)
-							rattle_dealloc(p1074);
-						if (load64u(p16 + 1512) != 0)
-							rattle_dealloc(loadptru(p16 + 1496));
-						if (load64u(p15 + 16) != 0)
-							rattle_dealloc(loadptru(p15));
-						rattle_dealloc(p1011);
-						n1009 = 2;
-						n1010 = 0;
-						goto L108;
-					}
-L101:
-					{
-						if (load64(p15 + 8) == 0) {
-							n1076 = 0;
-							goto L109;
-						}
-						store64(p15 + 8, 0);
-						n1076 = 0;
-						goto L109;
-					}
-L100:
-					{
-						uint64_t n1077 = load64(p15 + 8);
-						if (!((int)(n1077 > n1033) | (int)(umin64(n1077, n1033) != 0))) {
-							n1076 = n1077;
-							goto L109;
-						}
-						store64(p15 + 8, 0);
-						n1076 = 0;
-						goto L109;
-					}
-L99:
-					{
-						uint64_t n1078 = load64(p15 + 8);
-						if (!((int)(n1078 > n1027) | (int)(umin64(n1078, n1027) != 0))) {
-							n1076 = n1078;
-							goto L109;
-						}
-						store64(p15 + 8, 0);
-						n1076 = 0;
-						goto L109;
-					}
-L103: ;
-L104:
-					{
-						uint64_t n1079 = load64(p15 + 8);
-						if (n1079 > n1043) {
-							store64(p15 + 8, n1043);
-							n1076 = n1043;
-						} else {
-							n1076 = n1079;
-						}
-					}
-L109:
-					{
-						byte *p1080 = loadptr(p15);
-						uint64_t n1081 = 0;
-						for (;;) {
-							if (n1081 >= n1076) {
-								n1062 = 2;
-								break;
-							}
-							uint64_t n1082 = n1076 - n1081;
-							uint64_t n1083 = os_write(1, at(p1080, n1081), n1082);
-							if ((int64_t)n1083 < (int64_t)0) {
-								tp_error_last_error(p11);
-								store8(p5 + 12, 1);
-								n1062 = 3;
-								break;
-							}
-							uint64_t n1084 = umin64(n1083, n1082);
-							if (n1084 == 0) {
-								store8(p5 + 12, 1);
-								n1062 = 3;
-								break;
-							}
-							n1081 = n1081 + n1084;
-						}
-					}
-L105:
-					{
-						if (load64u(p17 + 24) != 0)
-							rattle_dealloc(loadptru(p17 + 8));
-						if (load64u(p17 + 48) != 0)
-							rattle_dealloc(loadptru(p17 + 32));
-						if (load64u(p17 + 72) != 0)
-							rattle_dealloc(loadptru(p17 + 56));
-						byte *p1085 = loadptru(p16 + 72);
-						uint64_t n1086 = load64u(p16 + 88);
-						byte *p1087 = loadptru(p16 + 1440);
-						uint64_t n1088 = load64u(p16 + 1456);
-						byte *p1089 = loadptru(p16 + 1472);
-						uint64_t n1090 = load64u(p16 + 1488);
-						if (load64u(p16 + 48) != 0)
-							rattle_dealloc(loadptru(p16 + 32));
-						if (n1086 != 0)
-							rattle_dealloc(p1085);
-						if (n1088 != 0)
-							rattle_dealloc(p1087);
-						if (n1090 != 0)
-							rattle_dealloc(p1089);
-						if (load64u(p16 + 1512) != 0)
-							rattle_dealloc(loadptru(p16 + 1496));
-						if (load64u(p15 + 16) != 0)
-							rattle_dealloc(loadptru(p15));
-						rattle_dealloc(p1011);
-						n1009 = n1062;
-						n1010 = 0;
-						goto L108;
-					}
-L107:
-					{
-						uint64_t n1091;
-						uint8_t n1092, n1093;
-						bool b1094;
-						memset(p9, 0, 24);
-						tp_Cutter_end(p9, p17, p6);
-						if (load8(p9) == 0) {
-							if (load8(p9 + 8) == 1) {
-								n1091 = load64u(p9 + 16);
-								n1092 = 1;
-								n1093 = 3;
-								b1094 = true;
-							} else {
-								uint64_t n1105;
-								if (load64(p15 + 8) != 0)
-									store64(p15 + 8, 0);
-								uint64_t n1095 = load64(p16 + 8);
-								uint64_t n1096 = load64(p16 + 56);
-								uint64_t n1097 = load64(p16 + 24);
-								byte *p1098 = loadptr(p16 + 72);
-								uint64_t n1099 = (uint64_t)load32(at(p1098, n1097 << 3) + 4);
-								bool b1100 = n1097 != n1099;
-								uint64_t n1101 = load64(p16 + 96);
-								uint64_t n1102 = b1100 ? (n1099 - n1101) : 0;
-								uint64_t n1103 = 0;
-								bool b1104 = b1100;
-								for (;;) {
-									if (n1103 == n1096) {
-										n1105 = n1096;
-										break;
-									}
-									if (!b1104) {
-										n1105 = n1103;
-										break;
-									}
-									uint64_t n1106 = (uint64_t)load32(at(p1098, (n1101 + n1102) << 3) + 4);
-									n1102 = usub_sat64(n1106, n1101);
-									n1103 = n1103 + 1;
-									b1104 = n1101 <= n1106;
-								}
-								uint8_t n1107 = tp_text_push_end(p15, n1095, n1096 - n1105);
-								if ((n1107 & 1) != 0) {
-									n1091 = 0;
-									n1092 = 2;
-									n1093 = 3;
-									b1094 = true;
-								} else {
-									byte *p1108 = loadptr(p15);
-									uint64_t n1109 = load64(p15 + 8);
-									uint64_t n1110 = 0;
-									while (n1110 < n1109) {
-										uint64_t n1111 = n1109 - n1110;
-										uint64_t n1112 = os_write(1, at(p1108, n1110), n1111);
-										if ((int64_t)n1112 < (int64_t)0) {
-											tp_error_last_error(p8);
-											goto L110;
-										}
-										uint64_t n1113 = umin64(n1112, n1111);
-										if (n1113 == 0)
-											goto L110;
-										n1110 = n1110 + n1113;
-									}
-									n1091 = 0;
-									n1092 = 0;
-									n1093 = (uint8_t)(((load8(p17 + 88) & 1) != 0) ? 0 : 3);
-									b1094 = false;
-									goto L111;
-L110:
-									{
-										store8(p5 + 12, 1);
-										n1091 = 0;
-										n1092 = 3;
-										n1093 = 3;
-										b1094 = true;
-									}
-								}
-							}
-						} else {
-							n1091 = 0;
-							n1092 = 2;
-							n1093 = 3;
-							b1094 = true;
-						}
-L111:
-						{
-							if (load64u(p17 + 24) != 0)
-								rattle_dealloc(loadptru(p17 + 8));
-							if (load64u(p17 + 48) != 0)
-								rattle_dealloc(loadptru(p17 + 32));
-							if (load64u(p17 + 72) != 0)
-								rattle_dealloc(loadptru(p17 + 56));
-							byte *p1114 = loadptru(p16 + 72);
-							uint64_t n1115 = load64u(p16 + 88);
-							byte *p1116 = loadptru(p16 + 1440);
-							uint64_t n1117 = load64u(p16 + 1456);
-							byte *p1118 = loadptru(p16 + 1472);
-							uint64_t n1119 = load64u(p16 + 1488);
-							if (load64u(p16 + 48) != 0)
-								rattle_dealloc(loadptru(p16 + 32));
-							if (n1115 != 0)
-								rattle_dealloc(p1114);
-							if (n1117 != 0)
-								rattle_dealloc(p1116);
-							if (n1119 != 0)
-								rattle_dealloc(p1118);
-							if (load64u(p16 + 1512) != 0)
-								rattle_dealloc(loadptru(p16 + 1496));
-							if (load64u(p15 + 16) != 0)
-								rattle_dealloc(loadptru(p15));
-							rattle_dealloc(p1011);
-							if (b1094) {
-								n999 = n1091;
-								n1000 = 0;
-								n1001 = n1092;
-								n1002 = 2;
-								n1003 = 0;
-								n1004 = 1;
-								goto L94;
-							}
-							n999 = 0;
-							n1000 = 0;
-							n1001 = 0;
-							n1002 = 0;
-							n1003 = n1093;
-							n1004 = 0;
-							goto L94;
-						}
-					}
-L106:
-					{
-						if (load64u(p17 + 24) != 0)
-							rattle_dealloc(loadptru(p17 + 8));
-						if (load64u(p17 + 48) != 0)
-							rattle_dealloc(loadptru(p17 + 32));
-						if (load64u(p17 + 72) != 0)
-							rattle_dealloc(loadptru(p17 + 56));
-						byte *p1120 = loadptru(p16 + 72);
-						uint64_t n1121 = load64u(p16 + 88);
-						byte *p1122 = loadptru(p16 + 1440);
-						uint64_t n1123 = load64u(p16 + 1456);
-						byte *p1124 = loadptru(p16 + 1472);
-						uint64_t n1125 = load64u(p16 + 1488);
-						if (load64u(p16 + 48) != 0)
-							rattle_dealloc(loadptru(p16 + 32));
-						if (n1121 != 0)
-							rattle_dealloc(p1120);
-						if (n1123 != 0)
-							rattle_dealloc(p1122);
-						if (n1125 != 0)
-							rattle_dealloc(p1124);
-						if (load64u(p16 + 1512) != 0)
-							rattle_dealloc(loadptru(p16 + 1496));
-						if (load64u(p15 + 16) != 0)
-							rattle_dealloc(loadptru(p15));
-						rattle_dealloc(p1011);
-						n1009 = 1;
-						n1010 = n1016;
-						goto L108;
-					}
-L96:
-					{
-						if (load64u(p17 + 24) != 0)
-							rattle_dealloc(loadptru(p17 + 8));
-						if (load64u(p17 + 48) != 0)
-							rattle_dealloc(loadptru(p17 + 32));
-						if (load64u(p17 + 72) != 0)
-							rattle_dealloc(loadptru(p17 + 56));
-						byte *p1126 = loadptru(p16 + 72);
-						uint64_t n1127 = load64u(p16 + 88);
-						byte *p1128 = loadptru(p16 + 1440);
-						uint64_t n1129 = load64u(p16 + 1456);
-						byte *p1130 = loadptru(p16 + 1472);
-						uint64_t n1131 = load64u(p16 + 1488);
-						if (load64u(p16 + 48) != 0)
-							rattle_dealloc(loadptru(p16 + 32));
-						if (n1127 != 0)
-							rattle_dealloc(p1126);
-						if (n1129 != 0)
-							rattle_dealloc(p1128);
-						if (n1131 != 0)
-							rattle_dealloc(p1130);
-						if (load64u(p16 + 1512) != 0)
-							rattle_dealloc(loadptru(p16 + 1496));
-						if (load64u(p15 + 16) != 0)
-							rattle_dealloc(loadptru(p15));
-						rattle_dealloc(p1011);
-						n1009 = 4;
-						n1010 = 0;
-					}
-				}
-L108:
-				{
-					n999 = n1010;
-					n1000 = 0;
-					n1001 = n1009;
-					n1002 = 2;
-					n1003 = 0;
-					n1004 = 1;
-				}
-				break;
-			}
-			default: {
-				UNREACHABLE();
-			}
-			}
-L94:
-			{
-				n829 = n1004;
-				n830 = n1003;
-				n831 = n1002;
-				n832 = n1001;
-				n833 = n1000;
-				n834 = n999;
-			}
-		}
-		store8(p102, n829);
-		store8(p102 + 1, n830);
-		store64u(p102 + 8, n831);
-		store8(p102 + 16, n832);
-		store8(p102 + 17, n833);
-		store64u(p102 + 24, n834);
-		break;
-	}
-	default: {
-		UNREACHABLE();
-	}
-	}
-	uint8_t n1132 = load8(p102 + 1);
-	uint64_t n1133 = (uint64_t)load8(p102 + 8);
-	uint8_t n1134 = load8(p102 + 16);
-	uint8_t n1135 = load8(p102 + 17);
-	uint64_t n1136 = load64(p102 + 24);
-	store8(p1, load8(p102));
-	store8(p1 + 1, n1132);
-	store64u(p1 + 8, n1133);
-	store8(p1 + 16, n1134);
-	store8(p1 + 17, n1135);
-	store64u(p1 + 24, n1136);
-	return;
-}
-
 /* timer_commands::schemes::run_new: crates/timer_commands/src/schemes.rt */
 OWN void tp_schemes_run_new(byte *p1, byte *p2, byte *p3, byte *p4, byte *p5)
 {
-	ALIGN(8) byte p6[80];
-	ALIGN(8) byte p12[40];
-	ALIGN(8) byte p13[32];
-	ALIGN(8) byte p14[40];
-	uint64_t n15, n16, n18, n21;
-	uint8_t n19, n20, n22, n23;
-	store64(p6, 0);
-	store8(p6, load8(p2));
-	store8(p6 + 1, load8(p2 + 1));
-	store8(p6 + 2, load8(p2 + 2));
-	memcpy(p6 + 8, p2 + 8, 72);
-	uint8_t n7 = load8(p3);
-	uint64_t n8 = load64u(p3 + 8);
-	uint64_t n9 = load64u(p3 + 16);
-	uint64_t n10 = load64u(p3 + 24);
-	uint64_t n11 = load64u(p3 + 32);
-	memset(p13, 0, 32);
-	if ((n9 - 65) < UINT64_C(18446744073709551552)) {
-		n15 = 0;
-		n16 = 0;
-	} else if ((n10 - 1048577) < UINT64_C(18446744073708503040)) {
-		n15 = 0;
-		n16 = 256;
-	} else if (n11 > UINT64_C(1152921504606846975)) {
-		n15 = 0;
-		n16 = 512;
-	} else if ((n8 - 65537) < UINT64_C(18446744073709486080)) {
-		n15 = 0;
-		n16 = 1;
+	ALIGN(8) byte p6[1];
+	ALIGN(8) byte p7[88];
+	ALIGN(8) byte p8[24];
+	ALIGN(8) byte p9[88];
+	ALIGN(8) byte p10[88];
+	ALIGN(8) byte p11[40];
+	ALIGN(8) byte p12[48];
+	ALIGN(8) byte p13[96];
+	ALIGN(8) byte p14[24];
+	ALIGN(8) byte p15[1520];
+	ALIGN(8) byte p16[96];
+	ALIGN(8) byte p17[24];
+	ALIGN(8) byte p18[88];
+	ALIGN(8) byte p19[48];
+	ALIGN(8) byte p20[72];
+	ALIGN(8) byte p21[24];
+	ALIGN(8) byte p22[1496];
+	ALIGN(8) byte p23[24];
+	ALIGN(8) byte p24[32];
+	ALIGN(8) byte p25[32];
+	ALIGN(8) byte p26[1496];
+	ALIGN(8) byte p27[512];
+	ALIGN(8) byte p28[512];
+	ALIGN(8) byte p29[128];
+	ALIGN(8) byte p30[184];
+	ALIGN(1) byte p31[39];
+	ALIGN(8) byte p32[264];
+	ALIGN(2) byte p33[38];
+	ALIGN(8) byte p34[16];
+	ALIGN(2) byte p35[288];
+	ALIGN(8) byte p36[128];
+	ALIGN(1) byte p37[127];
+	ALIGN(1) byte p38[127];
+	ALIGN(8) byte p39[96];
+	ALIGN(8) byte p40[128];
+	ALIGN(1) byte p41[127];
+	ALIGN(1) byte p42[127];
+	ALIGN(8) byte p43[96];
+	ALIGN(8) byte p44[88];
+	ALIGN(8) byte p45[24];
+	ALIGN(8) byte p46[88];
+	ALIGN(8) byte p47[88];
+	ALIGN(8) byte p48[48];
+	ALIGN(8) byte p49[96];
+	ALIGN(8) byte p50[24];
+	ALIGN(8) byte p51[1264];
+	ALIGN(8) byte p52[96];
+	ALIGN(8) byte p53[24];
+	ALIGN(8) byte p54[88];
+	ALIGN(8) byte p55[48];
+	ALIGN(8) byte p56[72];
+	ALIGN(8) byte p57[24];
+	ALIGN(8) byte p58[1240];
+	ALIGN(8) byte p59[24];
+	ALIGN(8) byte p60[32];
+	ALIGN(8) byte p61[32];
+	ALIGN(8) byte p62[1240];
+	ALIGN(8) byte p63[512];
+	ALIGN(8) byte p64[512];
+	ALIGN(8) byte p65[88];
+	ALIGN(8) byte p66[24];
+	ALIGN(8) byte p67[88];
+	ALIGN(8) byte p68[88];
+	ALIGN(8) byte p69[24];
+	ALIGN(8) byte p70[48];
+	ALIGN(8) byte p71[96];
+	ALIGN(8) byte p72[24];
+	ALIGN(8) byte p73[1192];
+	ALIGN(8) byte p74[96];
+	ALIGN(8) byte p75[24];
+	ALIGN(8) byte p76[88];
+	ALIGN(8) byte p77[48];
+	ALIGN(8) byte p78[72];
+	ALIGN(8) byte p79[24];
+	ALIGN(8) byte p80[1168];
+	ALIGN(8) byte p81[24];
+	ALIGN(8) byte p82[32];
+	ALIGN(8) byte p83[32];
+	ALIGN(8) byte p84[1168];
+	ALIGN(8) byte p85[512];
+	ALIGN(8) byte p86[512];
+	ALIGN(8) byte p87[80];
+	ALIGN(1) byte p96[7];
+	ALIGN(8) byte p97[40];
+	ALIGN(8) byte p98[136];
+	ALIGN(1) byte p99[127];
+	ALIGN(8) byte p100[96];
+	ALIGN(1) byte p101[127];
+	ALIGN(8) byte p102[96];
+	ALIGN(2) byte p103[38];
+	ALIGN(8) byte p104[16];
+	ALIGN(8) byte p105[288];
+	ALIGN(8) byte p106[32];
+	ALIGN(8) byte p107[40];
+	ALIGN(8) byte p108[240];
+	ALIGN(8) byte p109[40];
+	ALIGN(8) byte p110[240];
+	uint64_t n111, n112;
+	store64(p87, 0);
+	uint8_t n88 = load8(p2);
+	store8(p87, n88);
+	uint8_t n89 = load8(p2 + 1);
+	store8(p87 + 1, n89);
+	uint8_t n90 = load8(p2 + 2);
+	store8(p87 + 2, n90);
+	memcpy(p87 + 8, p2 + 8, 72);
+	uint8_t n91 = load8(p3);
+	uint64_t n92 = load64u(p3 + 8);
+	uint64_t n93 = load64u(p3 + 16);
+	uint64_t n94 = load64u(p3 + 24);
+	uint64_t n95 = load64u(p3 + 32);
+	memset(p97, 0, 40);
+	memset(p98, 0, 136);
+	memset(p99, 0, 127);
+	memset(p100, 0, 96);
+	memset(p101, 0, 127);
+	memset(p102, 0, 96);
+	memset(p103, 0, 38);
+	memset(p104, 0, 16);
+	memset(p105, 0, 288);
+	memset(p106, 0, 32);
+	memset(p107, 0, 40);
+	memset(p108, 0, 240);
+	memset(p109, 0, 40);
+	memset(p110, 0, 240);
+	memcpy(p96, p3 + 1, 7);
+	if ((n93 - 65) < UINT64_C(18446744073709551552)) {
+		n111 = 0;
+		n112 = 0;
+	} else if ((n94 - 1048577) < UINT64_C(18446744073708503040)) {
+		n111 = 0;
+		n112 = 256;
+	} else if (n95 > UINT64_C(1152921504606846975)) {
+		n111 = 0;
+		n112 = 512;
+	} else if ((n92 - 65537) < UINT64_C(18446744073709486080)) {
+		n111 = 0;
+		n112 = 1;
 	} else {
-		uint64_t n17;
-		switch (MOSTLY_0(n7)) {
+		uint64_t n113;
+		switch (MOSTLY_0(n91)) {
 		case 0:
 		case 1:
 		case 2:
 		case 4: {
-			n17 = UINT64_C(1152921504606846975);
+			n113 = UINT64_C(1152921504606846975);
 			break;
 		}
 		case 3: {
-			n17 = 8639999;
+			n113 = 8639999;
 			break;
 		}
 		default: {
 			UNREACHABLE();
 		}
 		}
-		if (n17 >= n11) {
-			store64u(p12, n9);
-			store64u(p12 + 8, n10);
-			store64u(p12 + 16, n11);
-			store64u(p12 + 24, 1);
-			store64u(p12 + 32, 1);
-			store8(p14, n7);
-			memcpy(p14 + 1, p3 + 1, 7);
-			store64u(p14 + 8, n8);
-			store64u(p14 + 16, n9);
-			store64u(p14 + 24, n10);
-			store64u(p14 + 32, n11);
-			tp_schemes_over_scheme(p13, p6, p14, p12, p4, p5);
-			n18 = load64(p13 + 24);
-			n19 = load8(p13 + 17);
-			n20 = load8(p13 + 16);
-			n21 = (uint64_t)load8(p13 + 8);
-			n22 = load8(p13 + 1);
-			n23 = load8(p13);
-			goto L1;
-		}
-		n15 = n17;
-		n16 = 2;
-	}
-	n18 = n15;
-	n19 = (uint8_t)(n16 >> 8);
-	n20 = (uint8_t)n16;
-	n21 = 0;
-	n22 = 0;
-	n23 = 1;
+		bool b114 = n113 < n95;
+		uint64_t n115 = b114 ? 2 : n93;
+		uint64_t n116 = b114 ? n113 : n94;
+		uint64_t n117 = (uint64_t)!b114;
+		if (!b114) {
+			store64u(p97, n93);
+			store64u(p97 + 8, n94);
+			store64u(p97 + 16, n95);
+			store64u(p97 + 24, n117);
+			store64u(p97 + 32, n117);
+			switch (MOSTLY_0(n91)) {
+			case 0: {
+				uint64_t n271, n274;
+				uint8_t n272, n273, n275, n276;
+				uint8_t n118 = load8(p87 + 9);
+				uint8_t n119 = load8(p87 + 10);
+				uint8_t n120 = load8(p87 + 16);
+				uint64_t n121 = load64u(p87 + 24);
+				uint8_t n122 = load8(p87 + 32);
+				uint64_t n123 = load64u(p87 + 40);
+				uint8_t n124 = load8(p87 + 48);
+				uint64_t n125 = load64u(p87 + 56);
+				uint8_t n126 = load8(p87 + 64);
+				uint64_t n127 = load64u(p87 + 72);
+				memset(p85, 0, 512);
+				uint64_t n128 = 0;
+				for (;;) {
+					store64(at(p85, n128), n117);
+					uint64_t n129 = n128 + 8;
+					if (n129 == 512)
+						break;
+					n128 = n129;
+				}
+				memcpy(p86, p85, 512);
+				memset(p83, 0, 32);
+				memset(p84, 0, 1168);
+				switch (MOSTLY_0(n88)) {
+				case 0: {
+					uint8_t n277;
+					uint64_t n278;
+					memset(p82, 0, 32);
+					tp_input_read_script(p82, p4);
+					if (load8(p82) == 0) {
+						byte *p134;
+						uint8_t n256;
+						uint64_t n257;
+						byte *p130 = loadptru(p82 + 8);
+						uint64_t n131 = load64u(p82 + 16);
+						bool b132 = load64u(p82 + 24) == 0;
+						memset(p81, 0, 24);
+						store64(p80, n95);
+						store64(p80 + 8, 0);
+						storeptr(p80 + 16, p6);
+						memset(p80 + 24, 0, 32);
+						store64(p80 + 56, n93);
+						store64(p80 + 64, n94);
+						store64(p80 + 72, n117);
+						memcpy(p80 + 80, p86, 512);
+						memset(p80 + 592, 0, 520);
+						storeptr(p80 + 1112, p6);
+						memset(p80 + 1120, 0, 24);
+						storeptru(p80 + 1144, p6);
+						memset(p80 + 1152, 0, 16);
+						uint64_t n133 = (n131 > UINT64_C(4611686018427387903)) ? UINT64_MAX : (n131 << 2);
+						if (n133 != 0) {
+							if ((int64_t)n133 >= (int64_t)0) {
+								of_i64_i64 s135 = rattle_alloc(n133, 1);
+								if ((s135.f0 & 1) != 0) {
+									p134 = (byte *)(uintptr_t)s135.f1;
+									goto L1;
+								}
+								byte *p136 = loadptru(p80 + 1112);
+								bool b137 = load64u(p80 + 1128) == 0;
+								if (load64u(p80 + 32) == 0) {
+									if (b137)
+										goto L2;
+								} else {
+									rattle_dealloc(loadptru(p80 + 16));
+									if (b137)
+										goto L2;
+								}
+								rattle_dealloc(p136);
+							}
+L2:
+							{
+								if (load64u(p80 + 1160) == 0)
+									goto L3;
+								rattle_dealloc(loadptru(p80 + 1144));
+								goto L3;
+							}
+						}
+						p134 = p6;
 L1:
-	{
-		store8(p1, n23);
-		store8(p1 + 1, n22);
-		store64u(p1 + 8, n21);
-		store8(p1 + 16, n20);
-		store8(p1 + 17, n19);
-		store64u(p1 + 24, n18);
-		return;
+						{
+							bool b251;
+							uint64_t n252;
+							storeptru(p81, p134);
+							store64u(p81 + 8, 0);
+							store64u(p81 + 16, n133);
+							memset(p79 + 8, 0, 16);
+							storeptru(p79, p6);
+							uint64_t n138 = 0;
+							byte *p139 = p130;
+							uint64_t n140 = n131;
+							for (;;) {
+								uint64_t n179, n181, n182, n183, n184, n198, n199, n200, n201, n202, n205, n206, n207, n208, n211, n212, n213, n214, n217, n219, n220, n221, n244;
+								byte *p180, *p197, *p204, *p210, *p216, *p218, *p243;
+								uint8_t n245;
+								if (n140 == 0)
+									goto L4;
+								if (n140 < 6) {
+									if (n140 != 5)
+										goto L5;
+									uint32_t n141 = ((((uint32_t)load8(p139 + 3) << 24) | ((uint32_t)load8(p139 + 2) << 16)) | ((uint32_t)load8(p139 + 1) << 8)) | (uint32_t)load8(p139);
+									if (n141 != 1886352499)
+										goto L6;
+									uint64_t n142 = 0;
+									bool b143 = false;
+									while (n142 != 1) {
+										n142 = 1;
+										b143 = (int)b143 | (int)(32 != load8(p139 + 4));
+									}
+									uint64_t n144 = 0;
+									bool b145 = false;
+									while (n144 != 1) {
+										n144 = 1;
+										b145 = (int)b145 | (int)(32 != load8(p139 + 4));
+									}
+									uint64_t n146 = 0;
+									bool b147 = false;
+									while (n146 != 1) {
+										n146 = 1;
+										b147 = (int)b147 | (int)(32 != load8(p139 + 4));
+									}
+									if ((int)((int)b143 | (int)b145) | (int)b147)
+										goto L6;
+								} else {
+									uint32_t n148 = ((((uint32_t)load8(p139 + 3) << 24) | ((uint32_t)load8(p139 + 2) << 16)) | ((uint32_t)load8(p139 + 1) << 8)) | (uint32_t)load8(p139);
+									switch (n148) {
+									case 1918989427: {
+										uint64_t n158, n164, n170, n176;
+										uint64_t n149 = 0;
+										bool b150 = false;
+										while (n149 != 1) {
+											n149 = 1;
+											b150 = (int)b150 | (int)(116 != load8(p139 + 4));
+										}
+										uint64_t n151 = 0;
+										bool b152 = false;
+										while (n151 != 1) {
+											n151 = 1;
+											b152 = (int)b152 | (int)(32 != load8(p139 + 5));
+										}
+										uint64_t n153 = 0;
+										bool b154 = false;
+										while (n153 != 1) {
+											n153 = 1;
+											b154 = (int)b154 | (int)(32 != load8(p139 + 5));
+										}
+										if ((int)((int)b150 | (int)b152) | (int)b154)
+											goto L6;
+										uint64_t n155 = n140 - 6;
+										uint64_t n156 = 0;
+										uint64_t n157 = 0;
+										for (;;) {
+											if (n157 == n155) {
+												n158 = n155;
+												break;
+											}
+											uint8_t n159 = load8(at(at(p139, 6), n157));
+											if ((uint8_t)(n159 - 48) >= 10) {
+												n158 = n157;
+												break;
+											}
+											n156 = (n156 * 10) + (uint64_t)(uint8_t)(n159 & 15);
+											n157 = n157 + 1;
+										}
+										switch (n158) {
+										case 0: {
+											goto L7;
+										}
+										case 1: {
+											if (n156 > UINT64_C(1152921504606846975))
+												goto L7;
+											break;
+										}
+										default: {
+											if (((int)(load8(p139 + 6) == 48) | (int)(n158 > 19)) || (n156 > UINT64_C(1152921504606846975)))
+												goto L7;
+											break;
+										}
+										}
+										byte *p160 = at(at(p139, 6), n158);
+										if (n155 == n158)
+											goto L7;
+										if (load8(p160) != 32)
+											goto L7;
+										uint64_t n161 = n155 + (n158 ^ UINT64_MAX);
+										uint64_t n162 = 0;
+										uint64_t n163 = 0;
+										for (;;) {
+											if (n163 == n161) {
+												n164 = n161;
+												break;
+											}
+											uint8_t n165 = load8(at(at(p160, 1), n163));
+											if ((uint8_t)(n165 - 48) >= 10) {
+												n164 = n163;
+												break;
+											}
+											n162 = (n162 * 10) + (uint64_t)(uint8_t)(n165 & 15);
+											n163 = n163 + 1;
+										}
+										switch (n164) {
+										case 0: {
+											goto L7;
+										}
+										case 1: {
+											if (n162 > UINT64_C(1152921504606846975))
+												goto L7;
+											break;
+										}
+										default: {
+											if (((int)(load8(p160 + 1) == 48) | (int)(n164 > 19)) || (n162 > UINT64_C(1152921504606846975)))
+												goto L7;
+											break;
+										}
+										}
+										byte *p166 = at(at(p160, 1), n164);
+										if (n161 == n164)
+											goto L7;
+										if (load8(p166) != 32)
+											goto L7;
+										uint64_t n167 = n161 + (n164 ^ UINT64_MAX);
+										uint64_t n168 = 0;
+										uint64_t n169 = 0;
+										for (;;) {
+											if (n169 == n167) {
+												n170 = n167;
+												break;
+											}
+											uint8_t n171 = load8(at(at(p166, 1), n169));
+											if ((uint8_t)(n171 - 48) >= 10) {
+												n170 = n169;
+												break;
+											}
+											n168 = (n168 * 10) + (uint64_t)(uint8_t)(n171 & 15);
+											n169 = n169 + 1;
+										}
+										switch (n170) {
+										case 0: {
+											goto L7;
+										}
+										case 1: {
+											if (n168 > UINT64_C(1152921504606846975))
+												goto L7;
+											break;
+										}
+										default: {
+											if (((int)(load8(p166 + 1) == 48) | (int)(n170 > 19)) || (n168 > UINT64_C(1152921504606846975)))
+												goto L7;
+											break;
+										}
+										}
+										byte *p172 = at(at(p166, 1), n170);
+										if (n167 == n170)
+											goto L7;
+										if (load8(p172) != 32)
+											goto L7;
+										uint64_t n173 = n167 + (n170 ^ UINT64_MAX);
+										uint64_t n174 = 0;
+										uint64_t n175 = 0;
+										for (;;) {
+											if (n175 == n173) {
+												n176 = n173;
+												break;
+											}
+											uint8_t n177 = load8(at(at(p172, 1), n175));
+											if ((uint8_t)(n177 - 48) >= 10) {
+												n176 = n175;
+												break;
+											}
+											n174 = (n174 * 10) + (uint64_t)(uint8_t)(n177 & 15);
+											n175 = n175 + 1;
+										}
+										switch (n176) {
+										case 0: {
+											goto L7;
+										}
+										case 1: {
+											if (n174 > UINT64_C(1152921504606846975))
+												goto L7;
+											break;
+										}
+										default: {
+											if (((int)(load8(p172 + 1) == 48) | (int)(n176 > 19)) || (n174 > UINT64_C(1152921504606846975)))
+												goto L7;
+											break;
+										}
+										}
+										byte *p178 = at(at(p172, 1), n176);
+										if (n173 == n176)
+											goto L7;
+										if (load8(p178) != 10)
+											goto L7;
+										n179 = n156;
+										p180 = at(p178, 1);
+										n181 = n173 + (n176 ^ UINT64_MAX);
+										n182 = n162;
+										n183 = n168;
+										n184 = n174;
+										goto L8;
+									}
+									case 1886352499: {
+										uint64_t n185 = 0;
+										bool b186 = false;
+										while (n185 != 1) {
+											n185 = 1;
+											b186 = (int)b186 | (int)(32 != load8(p139 + 4));
+										}
+										uint64_t n187 = 0;
+										bool b188 = false;
+										while (n187 != 1) {
+											n187 = 1;
+											b188 = (int)b188 | (int)(32 != load8(p139 + 4));
+										}
+										uint64_t n189 = 0;
+										bool b190 = false;
+										while (n189 != 1) {
+											n189 = 1;
+											b190 = (int)b190 | (int)(32 != load8(p139 + 4));
+										}
+										if ((int)((int)b186 | (int)b188) | (int)b190)
+											goto L6;
+										break;
+									}
+									case 1936682083: {
+										uint64_t n191 = 0;
+										bool b192 = false;
+										while (n191 != 1) {
+											n191 = 1;
+											b192 = (int)b192 | (int)(101 != load8(p139 + 4));
+										}
+										uint64_t n193 = 0;
+										bool b194 = false;
+										while (n193 != 1) {
+											n193 = 1;
+											b194 = (int)b194 | (int)(10 != load8(p139 + 5));
+										}
+										uint64_t n195 = 0;
+										bool b196 = false;
+										while (n195 != 1) {
+											n195 = 1;
+											b196 = (int)b196 | (int)(10 != load8(p139 + 5));
+										}
+										if ((int)((int)b192 | (int)b194) | (int)b196)
+											goto L6;
+										p197 = at(p139, 6);
+										n198 = n140 - 6;
+										goto L9;
+									}
+									default: {
+										goto L6;
+									}
+									}
+								}
+								n199 = n140 - 5;
+								n200 = 0;
+								n201 = 0;
+								for (;;) {
+									if (n200 == n199) {
+										n202 = n199;
+										break;
+									}
+									uint8_t n203 = load8(at(at(p139, 5), n200));
+									if ((uint8_t)(n203 - 48) >= 10) {
+										n202 = n200;
+										break;
+									}
+									n200 = n200 + 1;
+									n201 = (n201 * 10) + (uint64_t)(uint8_t)(n203 & 15);
+								}
+								switch (n202) {
+								case 0: {
+									goto L7;
+								}
+								case 1: {
+									if (n201 > UINT64_C(1152921504606846975))
+										goto L7;
+									break;
+								}
+								default: {
+									if (((int)(load8(p139 + 5) == 48) | (int)(n202 > 19)) || (n201 > UINT64_C(1152921504606846975)))
+										goto L7;
+									break;
+								}
+								}
+								p204 = at(at(p139, 5), n202);
+								if (n199 == n202)
+									goto L7;
+								if (load8(p204) != 32)
+									goto L7;
+								n205 = n199 + (n202 ^ UINT64_MAX);
+								n206 = 0;
+								n207 = 0;
+								for (;;) {
+									if (n206 == n205) {
+										n208 = n205;
+										break;
+									}
+									uint8_t n209 = load8(at(at(p204, 1), n206));
+									if ((uint8_t)(n209 - 48) >= 10) {
+										n208 = n206;
+										break;
+									}
+									n206 = n206 + 1;
+									n207 = (n207 * 10) + (uint64_t)(uint8_t)(n209 & 15);
+								}
+								switch (n208) {
+								case 0: {
+									goto L7;
+								}
+								case 1: {
+									if (n207 > UINT64_C(1152921504606846975))
+										goto L7;
+									break;
+								}
+								default: {
+									if (((int)(load8(p204 + 1) == 48) | (int)(n208 > 19)) || (n207 > UINT64_C(1152921504606846975)))
+										goto L7;
+									break;
+								}
+								}
+								p210 = at(at(p204, 1), n208);
+								if (n205 == n208)
+									goto L7;
+								if (load8(p210) != 32)
+									goto L7;
+								n211 = n205 + (n208 ^ UINT64_MAX);
+								n212 = 0;
+								n213 = 0;
+								for (;;) {
+									if (n212 == n211) {
+										n214 = n211;
+										break;
+									}
+									uint8_t n215 = load8(at(at(p210, 1), n212));
+									if ((uint8_t)(n215 - 48) >= 10) {
+										n214 = n212;
+										break;
+									}
+									n212 = n212 + 1;
+									n213 = (n213 * 10) + (uint64_t)(uint8_t)(n215 & 15);
+								}
+								switch (n214) {
+								case 0: {
+									goto L7;
+								}
+								case 1: {
+									if (n213 > UINT64_C(1152921504606846975))
+										goto L7;
+									break;
+								}
+								default: {
+									if (((int)(load8(p210 + 1) == 48) | (int)(n214 > 19)) || (n213 > UINT64_C(1152921504606846975)))
+										goto L7;
+									break;
+								}
+								}
+								p216 = at(at(p210, 1), n214);
+								if (n211 == n214)
+									goto L7;
+								if (load8(p216) != 10)
+									goto L7;
+								n217 = n201;
+								p218 = at(p216, 1);
+								n219 = n211 + (n214 ^ UINT64_MAX);
+								n220 = n207;
+								n221 = n213;
+								goto L10;
+L6:
+								{
+									uint64_t n229, n231, n234, n235, n236, n237, n238, n240;
+									byte *p230;
+									uint8_t n232, n233;
+									bool b239, b241;
+									memset(p78, 0, 72);
+									uint32_t n222 = ((((uint32_t)load8(p139 + 3) << 24) | ((uint32_t)load8(p139 + 2) << 16)) | ((uint32_t)load8(p139 + 1) << 8)) | (uint32_t)load8(p139);
+									if (n222 == 1801677172) {
+										uint64_t n223 = 0;
+										bool b224 = false;
+										while (n223 != 1) {
+											n223 = 1;
+											b224 = (int)b224 | (int)(32 != load8(p139 + 4));
+										}
+										uint64_t n225 = 0;
+										bool b226 = false;
+										while (n225 != 1) {
+											n225 = 1;
+											b226 = (int)b226 | (int)(32 != load8(p139 + 4));
+										}
+										uint64_t n227 = 0;
+										bool b228 = false;
+										while (n227 != 1) {
+											n227 = 1;
+											b228 = (int)b228 | (int)(32 != load8(p139 + 4));
+										}
+										if (!((int)((int)b224 | (int)b226) | (int)b228)) {
+											tp_lines_read_tick(p78, p139 + 5, n140 - 5);
+											n229 = load64u(p78 + 16);
+											p230 = loadptru(p78 + 56);
+											n231 = load64u(p78 + 64);
+											n232 = load8(p78);
+											n233 = load8(p78 + 8);
+											n234 = load64u(p78 + 24);
+											n235 = load64u(p78 + 32);
+											n236 = load64u(p78 + 40);
+											n237 = load64u(p78 + 48);
+											goto L11;
+										}
+									}
+									if (!((int)(n140 > 7) & (int)(n222 == 1953719666)))
+										goto L5;
+									n238 = 0;
+									b239 = false;
+									while (n238 != 4) {
+										b239 = (int)b239 | (int)(load8(at((byte *)tp_static_296 + 4, n238)) != load8(at(at(p139, 4), n238)));
+										n238 = n238 + 1;
+									}
+									n240 = 0;
+									b241 = false;
+									while (n240 != 4) {
+										b241 = (int)b241 | (int)(load8(at((byte *)tp_static_296 + 4, n240)) != load8(at(at(p139, 4), n240)));
+										n240 = n240 + 1;
+									}
+									if ((int)b239 | (int)b241)
+										goto L5;
+									tp_lines_read_restart(p78, p139 + 8, n140 - 8);
+									n229 = load64u(p78 + 16);
+									p230 = loadptru(p78 + 56);
+									n231 = load64u(p78 + 64);
+									n232 = load8(p78);
+									n233 = load8(p78 + 8);
+									n234 = load64u(p78 + 24);
+									n235 = load64u(p78 + 32);
+									n236 = load64u(p78 + 40);
+									n237 = load64u(p78 + 48);
+L11:
+									{
+										if (n232 != 1)
+											goto L7;
+										switch (MOSTLY_0(n233)) {
+										case 0: {
+											n179 = n229;
+											p180 = p230;
+											n181 = n231;
+											n182 = n234;
+											n183 = n235;
+											n184 = n236;
+											goto L8;
+										}
+										case 2: {
+											n217 = n229;
+											p218 = p230;
+											n219 = n231;
+											n220 = n234;
+											n221 = n235;
+											goto L10;
+										}
+										case 3: {
+											uint8_t n242 = tp_timer_script_script_run_answer_restart_3(p80, n229, n234, n235, n236, n237, p81);
+											p243 = p230;
+											n244 = n231;
+											n245 = n242;
+											goto L12;
+										}
+										case 5: {
+											uint8_t n246 = tp_timer_script_script_run_answer_ticks_3(p80, n229, p79, p81);
+											p243 = p230;
+											n244 = n231;
+											n245 = n246;
+											goto L12;
+										}
+										case 7: {
+											p197 = p230;
+											n198 = n231;
+											break;
+										}
+										case 1:
+										case 4:
+										case 6:
+										case 8: {
+											store64u(p77, (uint64_t)n233);
+											store64u(p77 + 8, n229);
+											store64u(p77 + 16, n234);
+											store64u(p77 + 24, n235);
+											store64u(p77 + 32, n236);
+											store64u(p77 + 40, n237);
+											uint8_t n247 = tp_timer_script_script_run_answer_outs_3(p80, p77, p79, p81);
+											p243 = p230;
+											n244 = n231;
+											n245 = n247;
+											goto L12;
+										}
+										default: {
+											UNREACHABLE();
+										}
+										}
+									}
+								}
+L9:
+								{
+									uint8_t n248 = tp_timer_script_script_run_answer_close_3(p80, p79, p81);
+									p243 = p197;
+									n244 = n198;
+									n245 = n248;
+									goto L12;
+								}
+L10:
+								{
+									uint8_t n249 = tp_timer_script_script_run_answer_stop_3(p80, n217, n220, n221, p81);
+									p243 = p218;
+									n244 = n219;
+									n245 = n249;
+									goto L12;
+								}
+L8:
+								{
+									uint8_t n250 = tp_timer_script_script_run_answer_start_3(p80, n179, n182, n183, n184, p81);
+									p243 = p180;
+									n244 = n181;
+									n245 = n250;
+								}
+L12:
+								{
+									if ((n245 & 1) != 0)
+										break;
+									n138 = n138 + 1;
+									p139 = p243;
+									n140 = n244;
+								}
+							}
+							if (load64u(p79 + 16) == 0) {
+								b251 = true;
+								n252 = 0;
+								goto L13;
+							}
+							rattle_dealloc(loadptru(p79));
+							b251 = true;
+							n252 = 0;
+							goto L13;
+L5: ;
+L7:
+							{
+								uint64_t n253 = n138 + 1;
+								if (load64u(p79 + 16) == 0) {
+									b251 = false;
+									n252 = n253;
+								} else {
+									rattle_dealloc(loadptru(p79));
+									b251 = false;
+									n252 = n253;
+								}
+							}
+L13:
+							{
+								if (load64u(p81 + 16) != 0)
+									rattle_dealloc(loadptru(p81));
+								byte *p254 = loadptru(p80 + 1112);
+								uint64_t n255 = load64u(p80 + 1128);
+								if (load64u(p80 + 32) != 0)
+									rattle_dealloc(loadptru(p80 + 16));
+								if (n255 != 0)
+									rattle_dealloc(p254);
+								if (load64u(p80 + 1160) != 0)
+									rattle_dealloc(loadptru(p80 + 1144));
+								if (b251)
+									goto L14;
+								n256 = 2;
+								n257 = n252;
+								goto L15;
+							}
+L4:
+							{
+								if (load64u(p79 + 16) != 0)
+									rattle_dealloc(loadptru(p79));
+								uint8_t n258 = tp_text_push_end(p81, load64(p80), load64(p80 + 24) - load64(p80 + 40));
+								if ((n258 & 1) == 0) {
+									uint64_t n261 = load64u(p81);
+									uint64_t n262 = load64u(p81 + 8);
+									uint64_t n263 = load64u(p81 + 16);
+									byte *p264 = loadptru(p80 + 1112);
+									uint64_t n265 = load64u(p80 + 1128);
+									if (load64u(p80 + 32) != 0)
+										rattle_dealloc(loadptru(p80 + 16));
+									if (n265 != 0)
+										rattle_dealloc(p264);
+									if (load64u(p80 + 1160) != 0)
+										rattle_dealloc(loadptru(p80 + 1144));
+									byte *p266 = (byte *)(uintptr_t)n261;
+									uint64_t n267 = 0;
+									while (n267 < n262) {
+										uint64_t n268 = n262 - n267;
+										uint64_t n269 = os_write(1, at(p266, n267), n268);
+										if ((int64_t)n269 < (int64_t)0) {
+											tp_error_last_error(p76);
+											goto L16;
+										}
+										uint64_t n270 = umin64(n269, n268);
+										if (n270 == 0)
+											goto L16;
+										n267 = n267 + n270;
+									}
+									if (n263 != 0)
+										rattle_dealloc(p266);
+									if (!b132)
+										rattle_dealloc(p130);
+									n271 = 0;
+									n272 = 0;
+									n273 = 0;
+									n274 = 0;
+									n275 = 0;
+									n276 = 0;
+									goto L17;
+L16:
+									{
+										store8(p4 + 12, 1);
+										if (n263 != 0)
+											rattle_dealloc(p266);
+										if (b132) {
+											n277 = 4;
+											n278 = n267;
+											goto L18;
+										}
+										rattle_dealloc(p130);
+										n277 = 4;
+										n278 = n267;
+										goto L18;
+									}
+								}
+								if (load64u(p81 + 16) != 0)
+									rattle_dealloc(loadptru(p81));
+								byte *p259 = loadptru(p80 + 1112);
+								uint64_t n260 = load64u(p80 + 1128);
+								if (load64u(p80 + 32) != 0)
+									rattle_dealloc(loadptru(p80 + 16));
+								if (n260 != 0)
+									rattle_dealloc(p259);
+								if (load64u(p80 + 1160) != 0)
+									rattle_dealloc(loadptru(p80 + 1144));
+							}
+						}
+L3: ;
+L14:
+						{
+							n256 = 3;
+							n257 = 0;
+						}
+L15:
+						{
+							if (b132) {
+								n277 = n256;
+								n278 = n257;
+							} else {
+								rattle_dealloc(p130);
+								n277 = n256;
+								n278 = n257;
+							}
+						}
+					} else {
+						switch (MOSTLY_0(load8(p82 + 1))) {
+						case 0: {
+							n277 = 0;
+							n278 = 0;
+							break;
+						}
+						case 1: {
+							n277 = 1;
+							n278 = 0;
+							break;
+						}
+						case 2: {
+							n277 = 3;
+							n278 = 0;
+							break;
+						}
+						default: {
+							UNREACHABLE();
+						}
+						}
+					}
+L18:
+					{
+						n271 = n278;
+						n272 = 0;
+						n273 = n277;
+						n274 = 1;
+						n275 = 0;
+						n276 = 1;
+					}
+					break;
+				}
+				case 1: {
+					store64(p84, n95);
+					storeptru(p84 + 16, p6);
+					memset(p84 + 24, 0, 32);
+					store64(p84 + 56, n93);
+					store64(p84 + 64, n94);
+					store64(p84 + 72, n117);
+					memcpy(p84 + 80, p86, 512);
+					memset(p84 + 592, 0, 520);
+					storeptru(p84 + 1112, p6);
+					memset(p84 + 1120, 0, 24);
+					storeptru(p84 + 1144, p6);
+					memset(p84 + 1152, 0, 16);
+					tp_timer_commands_verbs_talk_3(p83, p84, n89, (n90 & 1) != 0, p4, p5);
+					n271 = load64(p83 + 24);
+					n272 = load8(p83 + 17);
+					n273 = load8(p83 + 16);
+					n274 = (uint64_t)load8(p83 + 8);
+					n275 = load8(p83 + 1);
+					n276 = load8(p83);
+					break;
+				}
+				case 2: {
+					uint8_t n280;
+					uint64_t n281;
+					memset(p72, 0, 24);
+					memset(p73, 0, 1192);
+					memset(p74, 0, 96);
+					memset(p75, 0, 24);
+					of_i64_i64 s279 = rattle_alloc(16384, 1);
+					if ((s279.f0 & 1) == 0) {
+						n280 = 2;
+						n281 = 0;
+					} else {
+						uint64_t n287, n307, n322, n332, n375, n377, n382;
+						byte *p339, *p374, *p376;
+						bool b341;
+						uint8_t n372;
+						byte *p282 = (byte *)(uintptr_t)s279.f1;
+						uint64_t n283 = 0;
+						while (n283 != 16383) {
+							store8(inside(p282, n283), 0);
+							n283 = n283 + 1;
+						}
+						store8(p282 + 16383, 0);
+						storeptru(p72, p6);
+						memset(p72 + 8, 0, 16);
+						store64(p73, n95);
+						store64(p73 + 8, 0);
+						storeptru(p73 + 16, p6);
+						memset(p73 + 24, 0, 32);
+						store64(p73 + 56, n115);
+						store64(p73 + 64, n116);
+						store64(p73 + 72, n117);
+						memcpy(p73 + 80, p86, 512);
+						memset(p73 + 592, 0, 520);
+						storeptru(p73 + 1112, p6);
+						memset(p73 + 1120, 0, 24);
+						storeptru(p73 + 1144, p6);
+						memset(p73 + 1152, 0, 16);
+						storeptru(p73 + 1168, p6);
+						memset(p73 + 1176, 0, 16);
+						store64(p74, 0);
+						storeptru(p74 + 8, p6);
+						memset(p74 + 16, 0, 16);
+						storeptru(p74 + 32, p6);
+						memset(p74 + 40, 0, 16);
+						storeptru(p74 + 56, p6);
+						memset(p74 + 64, 0, 16);
+						store64u(p74 + 80, 1);
+						store8(p74 + 88, 1);
+						memset(p74 + 89, 0, 7);
+						uint64_t n284 = 0;
+						for (;;) {
+							if (n284 == UINT64_MAX)
+								goto L19;
+							memset(p71, 0, 96);
+							tp_WatchedRead_read(p71, p4, p282, 16384);
+							uint64_t n285 = load64(p71 + 8);
+							if (load8(p71) != 0)
+								break;
+							tp_Cutter_take_in(p75, p74, p282, n285, p5);
+							if (load8(p75) != 0)
+								goto L20;
+							uint8_t n286 = load8(p75 + 8);
+							n287 = load64u(p75 + 16);
+							byte *p288 = loadptr(p74 + 8);
+							uint64_t n289 = load64(p74 + 16);
+							if (load64(p72 + 8) != 0)
+								store64(p72 + 8, 0);
+							uint64_t n290 = 0;
+							while (n290 != n289) {
+								uint64_t n296;
+								uint8_t n324, n326;
+								byte *p291 = at(p288, n290 * 48);
+								uint64_t n292 = load64(p73 + 72);
+								if ((n118 & 1) != 0) {
+									uint8_t n293 = load8(p291);
+									switch (n293) {
+									case 5: {
+										uint64_t n294 = load64(p291 + 8);
+										for (;;) {
+											uint64_t n306;
+											uint64_t n295 = load64(p73);
+											if (n294 == 0) {
+												n296 = n295;
+												goto L21;
+											}
+											bool b297 = (load8(p73 + 1104) & 1) != 0;
+											byte *p298 = loadptr(p73 + 16);
+											uint64_t n299 = load64(p73 + 24);
+											uint64_t n300 = 0;
+											uint64_t n301 = 0;
+											uint8_t n302 = 0;
+											while (n300 != n299) {
+												uint64_t n304;
+												uint8_t n305;
+												uint64_t n303 = load64(at(p298, n300 * 40) + 24);
+												if (n295 < n303) {
+													if (n302 == 1) {
+														n304 = umin64(n303, n301);
+														n305 = 1;
+													} else {
+														n304 = n303;
+														n305 = 1;
+													}
+												} else {
+													n304 = n301;
+													n305 = n302;
+												}
+												n300 = n300 + 1;
+												n301 = n304;
+												n302 = n305;
+											}
+											if (n302 == 1) {
+												if ((n301 > UINT64_C(1152921504606846975)) || b297) {
+													n306 = n294;
+												} else {
+													n306 = umin64(n301 - n295, n294);
+												}
+											} else {
+												n306 = n294;
+											}
+											n307 = load64(p72 + 8);
+											uint8_t n308 = tp_timer_script_script_run_answer_ticks_3(p73, n306, p73 + 1168, p72);
+											if ((n308 & 1) != 0)
+												goto L22;
+											n294 = n294 - n306;
+										}
+										break;
+									}
+									case 6: {
+										uint64_t n309 = load64(p73);
+										uint64_t n310 = n309;
+										uint64_t n311 = usub_sat64(load64(p291 + 8), n309);
+										for (;;) {
+											uint64_t n321;
+											if (n311 == 0) {
+												n296 = n310;
+												goto L21;
+											}
+											bool b312 = (load8(p73 + 1104) & 1) != 0;
+											byte *p313 = loadptr(p73 + 16);
+											uint64_t n314 = load64(p73 + 24);
+											uint64_t n315 = 0;
+											uint64_t n316 = 0;
+											uint8_t n317 = 0;
+											while (n315 != n314) {
+												uint64_t n319;
+												uint8_t n320;
+												uint64_t n318 = load64(at(p313, n315 * 40) + 24);
+												if (n310 < n318) {
+													if (n317 == 1) {
+														n319 = umin64(n318, n316);
+														n320 = 1;
+													} else {
+														n319 = n318;
+														n320 = 1;
+													}
+												} else {
+													n319 = n316;
+													n320 = n317;
+												}
+												n315 = n315 + 1;
+												n316 = n319;
+												n317 = n320;
+											}
+											if (n317 == 1) {
+												if ((n316 > UINT64_C(1152921504606846975)) || b312) {
+													n321 = n311;
+												} else {
+													n321 = umin64(n316 - n310, n311);
+												}
+											} else {
+												n321 = n311;
+											}
+											n322 = load64(p72 + 8);
+											uint8_t n323 = tp_timer_script_script_run_answer_ticks_3(p73, n321, p73 + 1168, p72);
+											if ((n323 & 1) != 0)
+												goto L23;
+											n310 = load64(p73);
+											n311 = n311 - n321;
+										}
+										break;
+									}
+									case 0:
+									case 1:
+									case 2:
+									case 3:
+									case 4:
+									case 7:
+									case 8: {
+										n324 = n293;
+										break;
+									}
+									default: {
+										UNREACHABLE();
+									}
+									}
+								} else {
+									n324 = load8(p291);
+								}
+								switch (MOSTLY_0(n324)) {
+								case 0: {
+									uint8_t n325 = tp_timer_script_script_run_answer_start_3(p73, load64(p291 + 8), load64(p291 + 16), load64(p291 + 24), load64(p291 + 32), p72);
+									n326 = n325;
+									break;
+								}
+								case 2: {
+									uint8_t n327 = tp_timer_script_script_run_answer_stop_3(p73, load64(p291 + 8), load64(p291 + 16), load64(p291 + 24), p72);
+									n326 = n327;
+									break;
+								}
+								case 3: {
+									uint8_t n328 = tp_timer_script_script_run_answer_restart_3(p73, load64(p291 + 8), load64(p291 + 16), load64(p291 + 24), load64(p291 + 32), load64(p291 + 40), p72);
+									n326 = n328;
+									break;
+								}
+								case 5: {
+									uint8_t n329 = tp_timer_script_script_run_answer_ticks_3(p73, load64(p291 + 8), p73 + 1168, p72);
+									n326 = n329;
+									break;
+								}
+								case 7: {
+									uint8_t n330 = tp_timer_script_script_run_answer_close_3(p73, p73 + 1168, p72);
+									n326 = n330;
+									break;
+								}
+								case 1:
+								case 4:
+								case 6:
+								case 8: {
+									store64u(p70, (uint64_t)n324);
+									store64(p70 + 8, load64u(p291 + 8));
+									store64(p70 + 16, load64u(p291 + 16));
+									store64(p70 + 24, load64u(p291 + 24));
+									store64(p70 + 32, load64u(p291 + 32));
+									store64(p70 + 40, load64u(p291 + 40));
+									uint8_t n331 = tp_timer_script_script_run_answer_outs_3(p73, p70, p73 + 1168, p72);
+									n326 = n331;
+									break;
+								}
+								default: {
+									UNREACHABLE();
+								}
+								}
+								if ((n326 & 1) != 0)
+									goto L24;
+								n296 = load64(p73);
+L21:
+								{
+									uint64_t n333, n335, n337, n340, n342, n343, n346, n347;
+									uint8_t n334, n338;
+									n332 = load64(p72 + 8);
+									if (n124 == 1) {
+										if (n125 > n296)
+											goto L25;
+									}
+									if (n126 == 1) {
+										if (n296 > n127)
+											goto L25;
+									}
+									n333 = ((n119 & 1) != 0) ? n292 : 0;
+									n334 = tp_names_push_number(p72, (byte *)tp_static_383, 6, n296);
+									if ((n334 & 1) != 0)
+										goto L26;
+									n335 = load64(p72 + 8);
+									if (load64(p72 + 16) == n335) {
+										bool b336 = tp_Vec_grow_amortized(p72, 1);
+										if (!b336)
+											goto L26;
+										n337 = load64(p72 + 8);
+									} else {
+										n337 = n335;
+									}
+									store8(inside(loadptr(p72), n337), 10);
+									store64(p72 + 8, n337 + 1);
+									storeptru(p69, p6);
+									memset(p69 + 8, 0, 16);
+									n338 = tp_PlainWheelWheel_list_into(p73, p69);
+									if ((n338 & 1) != 0)
+										goto L27;
+									p339 = loadptr(p69);
+									n340 = load64(p69 + 8);
+									b341 = load64(p69 + 16) == 0;
+									n342 = 0;
+									for (;;) {
+										if (n342 == n340) {
+											n343 = n340;
+											goto L28;
+										}
+										byte *p344 = at(p339, n342 * 40);
+										uint64_t n345 = load64u(p344);
+										if (n120 == 1) {
+											if (n121 != load64u(p344 + 8))
+												break;
+										}
+										if (n122 == 1) {
+											if ((n123 != n345) || (n333 > n345))
+												break;
+										} else if (n333 > n345) {
+											break;
+										}
+										n342 = n342 + 1;
+									}
+									n346 = n342;
+									n347 = n342;
+									for (;;) {
+										uint64_t n351;
+										uint64_t n348 = n346 + 1;
+										if (n348 >= n340) {
+											n343 = n347;
+											break;
+										}
+										byte *p349 = at(p339, n348 * 40);
+										uint64_t n350 = load64u(p349);
+										if (n120 == 1) {
+											if (n121 != load64u(p349 + 8)) {
+												n351 = 0;
+												goto L29;
+											}
+										}
+										if (n122 == 1) {
+											if (n123 != n350) {
+												n351 = 0;
+												goto L29;
+											}
+										}
+										n351 = (uint64_t)(n333 <= n350);
+L29:
+										{
+											memmove(inside(p339, n347 * 40), p349, 40);
+											n346 = n348;
+											n347 = n347 + n351;
+										}
+									}
+L28:
+									{
+										if (n343 == 0) {
+											if (!b341)
+												rattle_dealloc(p339);
+										} else {
+											uint64_t n355, n356, n359;
+											uint64_t n352 = load64(p72 + 16);
+											uint64_t n353 = load64(p72 + 8);
+											if ((n352 - n353) < 10) {
+												bool b354 = tp_Vec_grow_amortized(p72, 10);
+												if (!b354)
+													goto L30;
+												n355 = load64(p72 + 16);
+												n356 = load64(p72 + 8);
+											} else {
+												n355 = n352;
+												n356 = n353;
+											}
+											byte *p357 = loadptr(p72);
+											byte *p358 = at(p357, n356);
+											if (((uint64_t)(uintptr_t)p358 - (uint64_t)(uintptr_t)(byte *)tp_static_384) >= 10) {
+												memcpy(p358, (byte *)tp_static_384, 10);
+												goto L31;
+											}
+											n359 = 0;
+											while (n359 != 10) {
+												store8(inside(p358, n359), load8(inside((byte *)tp_static_384, n359)));
+												n359 = n359 + 1;
+											}
+L31:
+											{
+												uint64_t n366;
+												storeptr(p72, p357);
+												store64(p72 + 8, n356 + 10);
+												store64(p72 + 16, n355);
+												uint64_t n360 = 0;
+												while (n360 != n343) {
+													byte *p361 = at(p339, n360 * 40);
+													uint8_t n362 = tp_names_push_number(p72, (byte *)tp_static_104, 1, load64(p361));
+													if ((n362 & 1) != 0)
+														goto L32;
+													uint8_t n363 = tp_names_push_number(p72, (byte *)tp_static_202, 1, load64(p361 + 24));
+													if ((n363 & 1) != 0)
+														goto L33;
+													n360 = n360 + 1;
+												}
+												uint64_t n364 = load64(p72 + 8);
+												if (load64(p72 + 16) == n364) {
+													bool b365 = tp_Vec_grow_amortized(p72, 1);
+													if (!b365)
+														goto L34;
+													n366 = load64(p72 + 8);
+												} else {
+													n366 = n364;
+												}
+												store8(inside(loadptr(p72), n366), 10);
+												store64(p72 + 8, n366 + 1);
+												if (!b341)
+													rattle_dealloc(p339);
+											}
+										}
+									}
+L25:
+									{
+										byte *p367 = loadptr(p72);
+										uint64_t n368 = load64(p72 + 8);
+										uint64_t n369 = 0;
+										while (n369 < n368) {
+											uint64_t n370 = n368 - n369;
+											uint64_t n371 = os_write(1, at(p367, n369), n370);
+											if ((int64_t)n371 < (int64_t)0) {
+												tp_error_last_error(p67);
+												store8(p4 + 12, 1);
+												n372 = 3;
+												goto L35;
+											}
+											uint64_t n373 = umin64(n371, n370);
+											if (n373 == 0) {
+												store8(p4 + 12, 1);
+												n372 = 3;
+												goto L35;
+											}
+											n369 = n369 + n373;
+										}
+										if (load64(p72 + 8) != 0)
+											store64(p72 + 8, 0);
+										n290 = n290 + 1;
+									}
+								}
+							}
+							if (n286 == 1)
+								goto L36;
+							if (n285 == 0)
+								goto L37;
+							n284 = n284 + 1;
+						}
+						if (load64u(p74 + 24) != 0)
+							rattle_dealloc(loadptru(p74 + 8));
+						if (load64u(p74 + 48) != 0)
+							rattle_dealloc(loadptru(p74 + 32));
+						if (load64u(p74 + 72) != 0)
+							rattle_dealloc(loadptru(p74 + 56));
+						p374 = loadptru(p73 + 1112);
+						n375 = load64u(p73 + 1128);
+						p376 = loadptru(p73 + 1144);
+						n377 = load64u(p73 + 1160);
+						if (load64u(p73 + 32) != 0)
+							rattle_dealloc(loadptru(p73 + 16));
+						if (n375 != 0)
+							rattle_dealloc(p374);
+						if (n377 != 0)
+							rattle_dealloc(p376);
+						if (load64u(p73 + 1184) != 0)
+							rattle_dealloc(loadptru(p73 + 1168));
+						if (load64u(p72 + 16) != 0)
+							rattle_dealloc(loadptru(p72));
+						rattle_dealloc(p282);
+						n280 = 0;
+						n281 = 0;
+						goto L38;
+L20:
+						{
+							if (load64u(p74 + 24) != 0)
+								rattle_dealloc(loadptru(p74 + 8));
+							if (load64u(p74 + 48) != 0)
+								rattle_dealloc(loadptru(p74 + 32));
+							if (load64u(p74 + 72) != 0)
+								rattle_dealloc(loadptru(p74 + 56));
+							byte *p378 = loadptru(p73 + 1112);
+							uint64_t n379 = load64u(p73 + 1128);
+							byte *p380 = loadptru(p73 + 1144);
+							uint64_t n381 = load64u(p73 + 1160);
+							if (load64u(p73 + 32) != 0)
+								rattle_dealloc(loadptru(p73 + 16));
+							if (n379 != 0)
+								rattle_dealloc(p378);
+							if (n381 != 0)
+								rattle_dealloc(p380);
+							if (load64u(p73 + 1184) != 0)
+								rattle_dealloc(loadptru(p73 + 1168));
+							if (load64u(p72 + 16) != 0)
+								rattle_dealloc(loadptru(p72));
+							rattle_dealloc(p282);
+							n280 = 2;
+							n281 = 0;
+							goto L38;
+						}
+L24:
+						{
+							if (load64(p72 + 8) == 0) {
+								n382 = 0;
+								goto L39;
+							}
+							store64(p72 + 8, 0);
+							n382 = 0;
+							goto L39;
+						}
+L23:
+						{
+							uint64_t n383 = load64(p72 + 8);
+							if (!((int)(n383 > n322) | (int)(umin64(n383, n322) != 0))) {
+								n382 = n383;
+								goto L39;
+							}
+							store64(p72 + 8, 0);
+							n382 = 0;
+							goto L39;
+						}
+L22:
+						{
+							uint64_t n384 = load64(p72 + 8);
+							if (!((int)(n384 > n307) | (int)(umin64(n384, n307) != 0))) {
+								n382 = n384;
+								goto L39;
+							}
+							store64(p72 + 8, 0);
+							n382 = 0;
+							goto L39;
+						}
+L30:
+						{
+							if (b341)
+								goto L26;
+							rattle_dealloc(p339);
+							goto L26;
+						}
+L33:
+						{
+							if (b341)
+								goto L26;
+							rattle_dealloc(p339);
+							goto L26;
+						}
+L32:
+						{
+							if (b341)
+								goto L26;
+							rattle_dealloc(p339);
+							goto L26;
+						}
+L34:
+						{
+							if (b341)
+								goto L26;
+							rattle_dealloc(p339);
+							goto L26;
+						}
+L27:
+						{
+							if (load64u(p69 + 16) != 0)
+								rattle_dealloc(loadptru(p69));
+						}
+L26:
+						{
+							uint64_t n385 = load64(p72 + 8);
+							if (n385 > n332) {
+								store64(p72 + 8, n332);
+								n382 = n332;
+							} else {
+								n382 = n385;
+							}
+						}
+L39:
+						{
+							byte *p386 = loadptr(p72);
+							uint64_t n387 = 0;
+							for (;;) {
+								if (n387 >= n382) {
+									n372 = 2;
+									break;
+								}
+								uint64_t n388 = n382 - n387;
+								uint64_t n389 = os_write(1, at(p386, n387), n388);
+								if ((int64_t)n389 < (int64_t)0) {
+									tp_error_last_error(p68);
+									store8(p4 + 12, 1);
+									n372 = 3;
+									break;
+								}
+								uint64_t n390 = umin64(n389, n388);
+								if (n390 == 0) {
+									store8(p4 + 12, 1);
+									n372 = 3;
+									break;
+								}
+								n387 = n387 + n390;
+							}
+						}
+L35:
+						{
+							if (load64u(p74 + 24) != 0)
+								rattle_dealloc(loadptru(p74 + 8));
+							if (load64u(p74 + 48) != 0)
+								rattle_dealloc(loadptru(p74 + 32));
+							if (load64u(p74 + 72) != 0)
+								rattle_dealloc(loadptru(p74 + 56));
+							byte *p391 = loadptru(p73 + 1112);
+							uint64_t n392 = load64u(p73 + 1128);
+							byte *p393 = loadptru(p73 + 1144);
+							uint64_t n394 = load64u(p73 + 1160);
+							if (load64u(p73 + 32) != 0)
+								rattle_dealloc(loadptru(p73 + 16));
+							if (n392 != 0)
+								rattle_dealloc(p391);
+							if (n394 != 0)
+								rattle_dealloc(p393);
+							if (load64u(p73 + 1184) != 0)
+								rattle_dealloc(loadptru(p73 + 1168));
+							if (load64u(p72 + 16) != 0)
+								rattle_dealloc(loadptru(p72));
+							rattle_dealloc(p282);
+							n280 = n372;
+							n281 = 0;
+							goto L38;
+						}
+L37:
+						{
+							uint64_t n395;
+							uint8_t n396, n397;
+							bool b398;
+							memset(p66, 0, 24);
+							tp_Cutter_end(p66, p74, p5);
+							if (load8(p66) == 0) {
+								if (load8(p66 + 8) == 1) {
+									n395 = load64u(p66 + 16);
+									n396 = 1;
+									n397 = 3;
+									b398 = true;
+								} else {
+									if (load64(p72 + 8) != 0)
+										store64(p72 + 8, 0);
+									uint8_t n399 = tp_text_push_end(p72, load64(p73), load64(p73 + 24) - load64(p73 + 40));
+									if ((n399 & 1) != 0) {
+										n395 = 0;
+										n396 = 2;
+										n397 = 3;
+										b398 = true;
+									} else {
+										byte *p400 = loadptr(p72);
+										uint64_t n401 = load64(p72 + 8);
+										uint64_t n402 = 0;
+										while (n402 < n401) {
+											uint64_t n403 = n401 - n402;
+											uint64_t n404 = os_write(1, at(p400, n402), n403);
+											if ((int64_t)n404 < (int64_t)0) {
+												tp_error_last_error(p65);
+												goto L40;
+											}
+											uint64_t n405 = umin64(n404, n403);
+											if (n405 == 0)
+												goto L40;
+											n402 = n402 + n405;
+										}
+										n395 = 0;
+										n396 = 0;
+										n397 = (uint8_t)(((load8(p74 + 88) & 1) != 0) ? 0 : 3);
+										b398 = false;
+										goto L41;
+L40:
+										{
+											store8(p4 + 12, 1);
+											n395 = 0;
+											n396 = 3;
+											n397 = 3;
+											b398 = true;
+										}
+									}
+								}
+							} else {
+								n395 = 0;
+								n396 = 2;
+								n397 = 3;
+								b398 = true;
+							}
+L41:
+							{
+								if (load64u(p74 + 24) != 0)
+									rattle_dealloc(loadptru(p74 + 8));
+								if (load64u(p74 + 48) != 0)
+									rattle_dealloc(loadptru(p74 + 32));
+								if (load64u(p74 + 72) != 0)
+									rattle_dealloc(loadptru(p74 + 56));
+								byte *p406 = loadptru(p73 + 1112);
+								uint64_t n407 = load64u(p73 + 1128);
+								byte *p408 = loadptru(p73 + 1144);
+								uint64_t n409 = load64u(p73 + 1160);
+								if (load64u(p73 + 32) != 0)
+									rattle_dealloc(loadptru(p73 + 16));
+								if (n407 != 0)
+									rattle_dealloc(p406);
+								if (n409 != 0)
+									rattle_dealloc(p408);
+								if (load64u(p73 + 1184) != 0)
+									rattle_dealloc(loadptru(p73 + 1168));
+								if (load64u(p72 + 16) != 0)
+									rattle_dealloc(loadptru(p72));
+								rattle_dealloc(p282);
+								if (b398) {
+									n271 = n395;
+									n272 = 0;
+									n273 = n396;
+									n274 = 2;
+									n275 = 0;
+									n276 = 1;
+									goto L17;
+								}
+								n271 = 0;
+								n272 = 0;
+								n273 = 0;
+								n274 = 0;
+								n275 = n397;
+								n276 = 0;
+								goto L17;
+							}
+						}
+L36:
+						{
+							if (load64u(p74 + 24) != 0)
+								rattle_dealloc(loadptru(p74 + 8));
+							if (load64u(p74 + 48) != 0)
+								rattle_dealloc(loadptru(p74 + 32));
+							if (load64u(p74 + 72) != 0)
+								rattle_dealloc(loadptru(p74 + 56));
+							byte *p410 = loadptru(p73 + 1112);
+							uint64_t n411 = load64u(p73 + 1128);
+							byte *p412 = loadptru(p73 + 1144);
+							uint64_t n413 = load64u(p73 + 1160);
+							if (load64u(p73 + 32) != 0)
+								rattle_dealloc(loadptru(p73 + 16));
+							if (n411 != 0)
+								rattle_dealloc(p410);
+							if (n413 != 0)
+								rattle_dealloc(p412);
+							if (load64u(p73 + 1184) != 0)
+								rattle_dealloc(loadptru(p73 + 1168));
+							if (load64u(p72 + 16) != 0)
+								rattle_dealloc(loadptru(p72));
+							rattle_dealloc(p282);
+							n280 = 1;
+							n281 = n287;
+							goto L38;
+						}
+L19:
+						{
+							if (load64u(p74 + 24) != 0)
+								rattle_dealloc(loadptru(p74 + 8));
+							if (load64u(p74 + 48) != 0)
+								rattle_dealloc(loadptru(p74 + 32));
+							if (load64u(p74 + 72) != 0)
+								rattle_dealloc(loadptru(p74 + 56));
+							byte *p414 = loadptru(p73 + 1112);
+							uint64_t n415 = load64u(p73 + 1128);
+							byte *p416 = loadptru(p73 + 1144);
+							uint64_t n417 = load64u(p73 + 1160);
+							if (load64u(p73 + 32) != 0)
+								rattle_dealloc(loadptru(p73 + 16));
+							if (n415 != 0)
+								rattle_dealloc(p414);
+							if (n417 != 0)
+								rattle_dealloc(p416);
+							if (load64u(p73 + 1184) != 0)
+								rattle_dealloc(loadptru(p73 + 1168));
+							if (load64u(p72 + 16) != 0)
+								rattle_dealloc(loadptru(p72));
+							rattle_dealloc(p282);
+							n280 = 4;
+							n281 = 0;
+						}
+					}
+L38:
+					{
+						n271 = n281;
+						n272 = 0;
+						n273 = n280;
+						n274 = 2;
+						n275 = 0;
+						n276 = 1;
+					}
+					break;
+				}
+				default: {
+					UNREACHABLE();
+				}
+				}
+L17:
+				{
+					store8(p106, n276);
+					store8(p106 + 1, n275);
+					store64u(p106 + 8, n274);
+					store8(p106 + 16, n273);
+					store8(p106 + 17, n272);
+					store64u(p106 + 24, n271);
+				}
+				break;
+			}
+			case 1: {
+				uint8_t n783, n784, n786, n787;
+				uint64_t n785, n788;
+				tp_HashedWheel_new(p98, n92, n95);
+				byte *p418 = loadptru(p98 + 40);
+				uint64_t n419 = load64u(p98 + 48);
+				uint64_t n420 = load64u(p98 + 56);
+				byte *p421 = loadptru(p98 + 80);
+				uint64_t n422 = load64u(p98 + 88);
+				uint64_t n423 = load64u(p98 + 96);
+				uint8_t n424 = load8(p87 + 9);
+				uint8_t n425 = load8(p87 + 10);
+				uint8_t n426 = load8(p87 + 16);
+				uint64_t n427 = load64u(p87 + 24);
+				uint8_t n428 = load8(p87 + 32);
+				uint64_t n429 = load64u(p87 + 40);
+				uint8_t n430 = load8(p87 + 48);
+				uint64_t n431 = load64u(p87 + 56);
+				uint8_t n432 = load8(p87 + 64);
+				uint64_t n433 = load64u(p87 + 72);
+				if (load8(p98) == 0) {
+					uint64_t n598, n601;
+					uint8_t n599, n600, n602, n603;
+					memset(p63, 0, 512);
+					uint64_t n434 = 0;
+					for (;;) {
+						store64(at(p63, n434), n117);
+						uint64_t n435 = n434 + 8;
+						if (n435 == 512)
+							break;
+						n434 = n435;
+					}
+					memcpy(p64, p63, 512);
+					memset(p61, 0, 32);
+					memset(p62, 0, 1240);
+					switch (MOSTLY_0(n88)) {
+					case 0: {
+						uint8_t n604;
+						uint64_t n605;
+						memset(p60, 0, 32);
+						tp_input_read_script(p60, p4);
+						if (load8(p60) == 0) {
+							byte *p440;
+							uint8_t n567;
+							uint64_t n568;
+							byte *p436 = loadptru(p60 + 8);
+							uint64_t n437 = load64u(p60 + 16);
+							bool b438 = load64u(p60 + 24) == 0;
+							memset(p59, 0, 24);
+							memcpy(p58, p98 + 8, 32);
+							storeptr(p58 + 32, p418);
+							store64(p58 + 40, n419);
+							store64(p58 + 48, n420);
+							memcpy(p58 + 56, p98 + 64, 16);
+							storeptr(p58 + 72, p421);
+							store64(p58 + 80, n422);
+							store64(p58 + 88, n423);
+							memcpy(p58 + 96, p98 + 104, 32);
+							store64(p58 + 128, n93);
+							store64(p58 + 136, n94);
+							store64(p58 + 144, n117);
+							memcpy(p58 + 152, p64, 512);
+							memset(p58 + 664, 0, 520);
+							storeptr(p58 + 1184, p6);
+							memset(p58 + 1192, 0, 24);
+							storeptru(p58 + 1216, p6);
+							memset(p58 + 1224, 0, 16);
+							uint64_t n439 = (n437 > UINT64_C(4611686018427387903)) ? UINT64_MAX : (n437 << 2);
+							if (n439 != 0) {
+								bool b441;
+								byte *p442, *p444;
+								uint64_t n443, n445;
+								if ((int64_t)n439 < (int64_t)0) {
+									b441 = true;
+									p442 = p6;
+									n443 = n423;
+									p444 = p421;
+									n445 = n420;
+								} else {
+									of_i64_i64 s446 = rattle_alloc(n439, 1);
+									if ((s446.f0 & 1) != 0) {
+										p440 = (byte *)(uintptr_t)s446.f1;
+										goto L42;
+									}
+									b441 = load64u(p58 + 1200) == 0;
+									p442 = loadptru(p58 + 1184);
+									n443 = load64u(p58 + 88);
+									p444 = loadptru(p58 + 72);
+									n445 = load64u(p58 + 48);
+								}
+								if (n445 != 0)
+									rattle_dealloc(loadptru(p58 + 32));
+								if (n443 != 0)
+									rattle_dealloc(p444);
+								if (!b441)
+									rattle_dealloc(p442);
+								if (load64u(p58 + 1232) == 0)
+									goto L43;
+								rattle_dealloc(loadptru(p58 + 1216));
+								goto L43;
+							}
+							p440 = p6;
+L42:
+							{
+								bool b560;
+								uint64_t n561;
+								storeptru(p59, p440);
+								store64u(p59 + 8, 0);
+								store64u(p59 + 16, n439);
+								memset(p57 + 8, 0, 16);
+								storeptru(p57, p6);
+								uint64_t n447 = 0;
+								byte *p448 = p436;
+								uint64_t n449 = n437;
+								for (;;) {
+									uint64_t n488, n490, n491, n492, n493, n507, n508, n509, n510, n511, n514, n515, n516, n517, n520, n521, n522, n523, n526, n528, n529, n530, n553;
+									byte *p489, *p506, *p513, *p519, *p525, *p527, *p552;
+									uint8_t n554;
+									if (n449 == 0)
+										goto L44;
+									if (n449 < 6) {
+										if (n449 != 5)
+											goto L45;
+										uint32_t n450 = ((((uint32_t)load8(p448 + 3) << 24) | ((uint32_t)load8(p448 + 2) << 16)) | ((uint32_t)load8(p448 + 1) << 8)) | (uint32_t)load8(p448);
+										if (n450 != 1886352499)
+											goto L46;
+										uint64_t n451 = 0;
+										bool b452 = false;
+										while (n451 != 1) {
+											n451 = 1;
+											b452 = (int)b452 | (int)(32 != load8(p448 + 4));
+										}
+										uint64_t n453 = 0;
+										bool b454 = false;
+										while (n453 != 1) {
+											n453 = 1;
+											b454 = (int)b454 | (int)(32 != load8(p448 + 4));
+										}
+										uint64_t n455 = 0;
+										bool b456 = false;
+										while (n455 != 1) {
+											n455 = 1;
+											b456 = (int)b456 | (int)(32 != load8(p448 + 4));
+										}
+										if ((int)((int)b452 | (int)b454) | (int)b456)
+											goto L46;
+									} else {
+										uint32_t n457 = ((((uint32_t)load8(p448 + 3) << 24) | ((uint32_t)load8(p448 + 2) << 16)) | ((uint32_t)load8(p448 + 1) << 8)) | (uint32_t)load8(p448);
+										switch (n457) {
+										case 1918989427: {
+											uint64_t n467, n473, n479, n485;
+											uint64_t n458 = 0;
+											bool b459 = false;
+											while (n458 != 1) {
+												n458 = 1;
+												b459 = (int)b459 | (int)(116 != load8(p448 + 4));
+											}
+											uint64_t n460 = 0;
+											bool b461 = false;
+											while (n460 != 1) {
+												n460 = 1;
+												b461 = (int)b461 | (int)(32 != load8(p448 + 5));
+											}
+											uint64_t n462 = 0;
+											bool b463 = false;
+											while (n462 != 1) {
+												n462 = 1;
+												b463 = (int)b463 | (int)(32 != load8(p448 + 5));
+											}
+											if ((int)((int)b459 | (int)b461) | (int)b463)
+												goto L46;
+											uint64_t n464 = n449 - 6;
+											uint64_t n465 = 0;
+											uint64_t n466 = 0;
+											for (;;) {
+												if (n466 == n464) {
+													n467 = n464;
+													break;
+												}
+												uint8_t n468 = load8(at(at(p448, 6), n466));
+												if ((uint8_t)(n468 - 48) >= 10) {
+													n467 = n466;
+													break;
+												}
+												n465 = (n465 * 10) + (uint64_t)(uint8_t)(n468 & 15);
+												n466 = n466 + 1;
+											}
+											switch (n467) {
+											case 0: {
+												goto L47;
+											}
+											case 1: {
+												if (n465 > UINT64_C(1152921504606846975))
+													goto L47;
+												break;
+											}
+											default: {
+												if (((int)(load8(p448 + 6) == 48) | (int)(n467 > 19)) || (n465 > UINT64_C(1152921504606846975)))
+													goto L47;
+												break;
+											}
+											}
+											byte *p469 = at(at(p448, 6), n467);
+											if (n464 == n467)
+												goto L47;
+											if (load8(p469) != 32)
+												goto L47;
+											uint64_t n470 = n464 + (n467 ^ UINT64_MAX);
+											uint64_t n471 = 0;
+											uint64_t n472 = 0;
+											for (;;) {
+												if (n472 == n470) {
+													n473 = n470;
+													break;
+												}
+												uint8_t n474 = load8(at(at(p469, 1), n472));
+												if ((uint8_t)(n474 - 48) >= 10) {
+													n473 = n472;
+													break;
+												}
+												n471 = (n471 * 10) + (uint64_t)(uint8_t)(n474 & 15);
+												n472 = n472 + 1;
+											}
+											switch (n473) {
+											case 0: {
+												goto L47;
+											}
+											case 1: {
+												if (n471 > UINT64_C(1152921504606846975))
+													goto L47;
+												break;
+											}
+											default: {
+												if (((int)(load8(p469 + 1) == 48) | (int)(n473 > 19)) || (n471 > UINT64_C(1152921504606846975)))
+													goto L47;
+												break;
+											}
+											}
+											byte *p475 = at(at(p469, 1), n473);
+											if (n470 == n473)
+												goto L47;
+											if (load8(p475) != 32)
+												goto L47;
+											uint64_t n476 = n470 + (n473 ^ UINT64_MAX);
+											uint64_t n477 = 0;
+											uint64_t n478 = 0;
+											for (;;) {
+												if (n478 == n476) {
+													n479 = n476;
+													break;
+												}
+												uint8_t n480 = load8(at(at(p475, 1), n478));
+												if ((uint8_t)(n480 - 48) >= 10) {
+													n479 = n478;
+													break;
+												}
+												n477 = (n477 * 10) + (uint64_t)(uint8_t)(n480 & 15);
+												n478 = n478 + 1;
+											}
+											switch (n479) {
+											case 0: {
+												goto L47;
+											}
+											case 1: {
+												if (n477 > UINT64_C(1152921504606846975))
+													goto L47;
+												break;
+											}
+											default: {
+												if (((int)(load8(p475 + 1) == 48) | (int)(n479 > 19)) || (n477 > UINT64_C(1152921504606846975)))
+													goto L47;
+												break;
+											}
+											}
+											byte *p481 = at(at(p475, 1), n479);
+											if (n476 == n479)
+												goto L47;
+											if (load8(p481) != 32)
+												goto L47;
+											uint64_t n482 = n476 + (n479 ^ UINT64_MAX);
+											uint64_t n483 = 0;
+											uint64_t n484 = 0;
+											for (;;) {
+												if (n484 == n482) {
+													n485 = n482;
+													break;
+												}
+												uint8_t n486 = load8(at(at(p481, 1), n484));
+												if ((uint8_t)(n486 - 48) >= 10) {
+													n485 = n484;
+													break;
+												}
+												n483 = (n483 * 10) + (uint64_t)(uint8_t)(n486 & 15);
+												n484 = n484 + 1;
+											}
+											switch (n485) {
+											case 0: {
+												goto L47;
+											}
+											case 1: {
+												if (n483 > UINT64_C(1152921504606846975))
+													goto L47;
+												break;
+											}
+											default: {
+												if (((int)(load8(p481 + 1) == 48) | (int)(n485 > 19)) || (n483 > UINT64_C(1152921504606846975)))
+													goto L47;
+												break;
+											}
+											}
+											byte *p487 = at(at(p481, 1), n485);
+											if (n482 == n485)
+												goto L47;
+											if (load8(p487) != 10)
+												goto L47;
+											n488 = n465;
+											p489 = at(p487, 1);
+											n490 = n482 + (n485 ^ UINT64_MAX);
+											n491 = n471;
+											n492 = n477;
+											n493 = n483;
+											goto L48;
+										}
+										case 1886352499: {
+											uint64_t n494 = 0;
+											bool b495 = false;
+											while (n494 != 1) {
+												n494 = 1;
+												b495 = (int)b495 | (int)(32 != load8(p448 + 4));
+											}
+											uint64_t n496 = 0;
+											bool b497 = false;
+											while (n496 != 1) {
+												n496 = 1;
+												b497 = (int)b497 | (int)(32 != load8(p448 + 4));
+											}
+											uint64_t n498 = 0;
+											bool b499 = false;
+											while (n498 != 1) {
+												n498 = 1;
+												b499 = (int)b499 | (int)(32 != load8(p448 + 4));
+											}
+											if ((int)((int)b495 | (int)b497) | (int)b499)
+												goto L46;
+											break;
+										}
+										case 1936682083: {
+											uint64_t n500 = 0;
+											bool b501 = false;
+											while (n500 != 1) {
+												n500 = 1;
+												b501 = (int)b501 | (int)(101 != load8(p448 + 4));
+											}
+											uint64_t n502 = 0;
+											bool b503 = false;
+											while (n502 != 1) {
+												n502 = 1;
+												b503 = (int)b503 | (int)(10 != load8(p448 + 5));
+											}
+											uint64_t n504 = 0;
+											bool b505 = false;
+											while (n504 != 1) {
+												n504 = 1;
+												b505 = (int)b505 | (int)(10 != load8(p448 + 5));
+											}
+											if ((int)((int)b501 | (int)b503) | (int)b505)
+												goto L46;
+											p506 = at(p448, 6);
+											n507 = n449 - 6;
+											goto L49;
+										}
+										default: {
+											goto L46;
+										}
+										}
+									}
+									n508 = n449 - 5;
+									n509 = 0;
+									n510 = 0;
+									for (;;) {
+										if (n509 == n508) {
+											n511 = n508;
+											break;
+										}
+										uint8_t n512 = load8(at(at(p448, 5), n509));
+										if ((uint8_t)(n512 - 48) >= 10) {
+											n511 = n509;
+											break;
+										}
+										n509 = n509 + 1;
+										n510 = (n510 * 10) + (uint64_t)(uint8_t)(n512 & 15);
+									}
+									switch (n511) {
+									case 0: {
+										goto L47;
+									}
+									case 1: {
+										if (n510 > UINT64_C(1152921504606846975))
+											goto L47;
+										break;
+									}
+									default: {
+										if (((int)(load8(p448 + 5) == 48) | (int)(n511 > 19)) || (n510 > UINT64_C(1152921504606846975)))
+											goto L47;
+										break;
+									}
+									}
+									p513 = at(at(p448, 5), n511);
+									if (n508 == n511)
+										goto L47;
+									if (load8(p513) != 32)
+										goto L47;
+									n514 = n508 + (n511 ^ UINT64_MAX);
+									n515 = 0;
+									n516 = 0;
+									for (;;) {
+										if (n515 == n514) {
+											n517 = n514;
+											break;
+										}
+										uint8_t n518 = load8(at(at(p513, 1), n515));
+										if ((uint8_t)(n518 - 48) >= 10) {
+											n517 = n515;
+											break;
+										}
+										n515 = n515 + 1;
+										n516 = (n516 * 10) + (uint64_t)(uint8_t)(n518 & 15);
+									}
+									switch (n517) {
+									case 0: {
+										goto L47;
+									}
+									case 1: {
+										if (n516 > UINT64_C(1152921504606846975))
+											goto L47;
+										break;
+									}
+									default: {
+										if (((int)(load8(p513 + 1) == 48) | (int)(n517 > 19)) || (n516 > UINT64_C(1152921504606846975)))
+											goto L47;
+										break;
+									}
+									}
+									p519 = at(at(p513, 1), n517);
+									if (n514 == n517)
+										goto L47;
+									if (load8(p519) != 32)
+										goto L47;
+									n520 = n514 + (n517 ^ UINT64_MAX);
+									n521 = 0;
+									n522 = 0;
+									for (;;) {
+										if (n521 == n520) {
+											n523 = n520;
+											break;
+										}
+										uint8_t n524 = load8(at(at(p519, 1), n521));
+										if ((uint8_t)(n524 - 48) >= 10) {
+											n523 = n521;
+											break;
+										}
+										n521 = n521 + 1;
+										n522 = (n522 * 10) + (uint64_t)(uint8_t)(n524 & 15);
+									}
+									switch (n523) {
+									case 0: {
+										goto L47;
+									}
+									case 1: {
+										if (n522 > UINT64_C(1152921504606846975))
+											goto L47;
+										break;
+									}
+									default: {
+										if (((int)(load8(p519 + 1) == 48) | (int)(n523 > 19)) || (n522 > UINT64_C(1152921504606846975)))
+											goto L47;
+										break;
+									}
+									}
+									p525 = at(at(p519, 1), n523);
+									if (n520 == n523)
+										goto L47;
+									if (load8(p525) != 10)
+										goto L47;
+									n526 = n510;
+									p527 = at(p525, 1);
+									n528 = n520 + (n523 ^ UINT64_MAX);
+									n529 = n516;
+									n530 = n522;
+									goto L50;
+L46:
+									{
+										uint64_t n538, n540, n543, n544, n545, n546, n547, n549;
+										byte *p539;
+										uint8_t n541, n542;
+										bool b548, b550;
+										memset(p56, 0, 72);
+										uint32_t n531 = ((((uint32_t)load8(p448 + 3) << 24) | ((uint32_t)load8(p448 + 2) << 16)) | ((uint32_t)load8(p448 + 1) << 8)) | (uint32_t)load8(p448);
+										if (n531 == 1801677172) {
+											uint64_t n532 = 0;
+											bool b533 = false;
+											while (n532 != 1) {
+												n532 = 1;
+												b533 = (int)b533 | (int)(32 != load8(p448 + 4));
+											}
+											uint64_t n534 = 0;
+											bool b535 = false;
+											while (n534 != 1) {
+												n534 = 1;
+												b535 = (int)b535 | (int)(32 != load8(p448 + 4));
+											}
+											uint64_t n536 = 0;
+											bool b537 = false;
+											while (n536 != 1) {
+												n536 = 1;
+												b537 = (int)b537 | (int)(32 != load8(p448 + 4));
+											}
+											if (!((int)((int)b533 | (int)b535) | (int)b537)) {
+												tp_lines_read_tick(p56, p448 + 5, n449 - 5);
+												n538 = load64u(p56 + 16);
+												p539 = loadptru(p56 + 56);
+												n540 = load64u(p56 + 64);
+												n541 = load8(p56);
+												n542 = load8(p56 + 8);
+												n543 = load64u(p56 + 24);
+												n544 = load64u(p56 + 32);
+												n545 = load64u(p56 + 40);
+												n546 = load64u(p56 + 48);
+												goto L51;
+											}
+										}
+										if (!((int)(n449 > 7) & (int)(n531 == 1953719666)))
+											goto L45;
+										n547 = 0;
+										b548 = false;
+										while (n547 != 4) {
+											b548 = (int)b548 | (int)(load8(at((byte *)tp_static_296 + 4, n547)) != load8(at(at(p448, 4), n547)));
+											n547 = n547 + 1;
+										}
+										n549 = 0;
+										b550 = false;
+										while (n549 != 4) {
+											b550 = (int)b550 | (int)(load8(at((byte *)tp_static_296 + 4, n549)) != load8(at(at(p448, 4), n549)));
+											n549 = n549 + 1;
+										}
+										if ((int)b548 | (int)b550)
+											goto L45;
+										tp_lines_read_restart(p56, p448 + 8, n449 - 8);
+										n538 = load64u(p56 + 16);
+										p539 = loadptru(p56 + 56);
+										n540 = load64u(p56 + 64);
+										n541 = load8(p56);
+										n542 = load8(p56 + 8);
+										n543 = load64u(p56 + 24);
+										n544 = load64u(p56 + 32);
+										n545 = load64u(p56 + 40);
+										n546 = load64u(p56 + 48);
+L51:
+										{
+											if (n541 != 1)
+												goto L47;
+											switch (MOSTLY_0(n542)) {
+											case 0: {
+												n488 = n538;
+												p489 = p539;
+												n490 = n540;
+												n491 = n543;
+												n492 = n544;
+												n493 = n545;
+												goto L48;
+											}
+											case 2: {
+												n526 = n538;
+												p527 = p539;
+												n528 = n540;
+												n529 = n543;
+												n530 = n544;
+												goto L50;
+											}
+											case 3: {
+												uint8_t n551 = tp_timer_script_script_run_answer_restart_2(p58, n538, n543, n544, n545, n546, p59);
+												p552 = p539;
+												n553 = n540;
+												n554 = n551;
+												goto L52;
+											}
+											case 5: {
+												uint8_t n555 = tp_timer_script_script_run_answer_ticks_2(p58, n538, p57, p59);
+												p552 = p539;
+												n553 = n540;
+												n554 = n555;
+												goto L52;
+											}
+											case 7: {
+												p506 = p539;
+												n507 = n540;
+												break;
+											}
+											case 1:
+											case 4:
+											case 6:
+											case 8: {
+												store64u(p55, (uint64_t)n542);
+												store64u(p55 + 8, n538);
+												store64u(p55 + 16, n543);
+												store64u(p55 + 24, n544);
+												store64u(p55 + 32, n545);
+												store64u(p55 + 40, n546);
+												uint8_t n556 = tp_timer_script_script_run_answer_outs_2(p58, p55, p57, p59);
+												p552 = p539;
+												n553 = n540;
+												n554 = n556;
+												goto L52;
+											}
+											default: {
+												UNREACHABLE();
+											}
+											}
+										}
+									}
+L49:
+									{
+										uint8_t n557 = tp_timer_script_script_run_answer_close_2(p58, p57, p59);
+										p552 = p506;
+										n553 = n507;
+										n554 = n557;
+										goto L52;
+									}
+L50:
+									{
+										uint8_t n558 = tp_timer_script_script_run_answer_stop_2(p58, n526, n529, n530, p59);
+										p552 = p527;
+										n553 = n528;
+										n554 = n558;
+										goto L52;
+									}
+L48:
+									{
+										uint8_t n559 = tp_timer_script_script_run_answer_start_2(p58, n488, n491, n492, n493, p59);
+										p552 = p489;
+										n553 = n490;
+										n554 = n559;
+									}
+L52:
+									{
+										if ((n554 & 1) != 0)
+											break;
+										n447 = n447 + 1;
+										p448 = p552;
+										n449 = n553;
+									}
+								}
+								if (load64u(p57 + 16) == 0) {
+									b560 = true;
+									n561 = 0;
+									goto L53;
+								}
+								rattle_dealloc(loadptru(p57));
+								b560 = true;
+								n561 = 0;
+								goto L53;
+L45: ;
+L47:
+								{
+									uint64_t n562 = n447 + 1;
+									if (load64u(p57 + 16) == 0) {
+										b560 = false;
+										n561 = n562;
+									} else {
+										rattle_dealloc(loadptru(p57));
+										b560 = false;
+										n561 = n562;
+									}
+								}
+L53:
+								{
+									if (load64u(p59 + 16) != 0)
+										rattle_dealloc(loadptru(p59));
+									byte *p563 = loadptru(p58 + 72);
+									uint64_t n564 = load64u(p58 + 88);
+									byte *p565 = loadptru(p58 + 1184);
+									uint64_t n566 = load64u(p58 + 1200);
+									if (load64u(p58 + 48) != 0)
+										rattle_dealloc(loadptru(p58 + 32));
+									if (n564 != 0)
+										rattle_dealloc(p563);
+									if (n566 != 0)
+										rattle_dealloc(p565);
+									if (load64u(p58 + 1232) != 0)
+										rattle_dealloc(loadptru(p58 + 1216));
+									if (b560)
+										goto L54;
+									n567 = 2;
+									n568 = n561;
+									goto L55;
+								}
+L44:
+								{
+									uint64_t n579;
+									if (load64u(p57 + 16) != 0)
+										rattle_dealloc(loadptru(p57));
+									uint64_t n569 = load64(p58 + 8);
+									uint64_t n570 = load64(p58 + 56);
+									uint64_t n571 = load64(p58 + 24);
+									byte *p572 = loadptr(p58 + 72);
+									uint64_t n573 = (uint64_t)load32(at(p572, n571 << 3) + 4);
+									bool b574 = n571 != n573;
+									uint64_t n575 = load64(p58 + 96);
+									uint64_t n576 = b574 ? (n573 - n575) : 0;
+									uint64_t n577 = 0;
+									bool b578 = b574;
+									for (;;) {
+										if (n577 == n570) {
+											n579 = n570;
+											break;
+										}
+										if (!b578) {
+											n579 = n577;
+											break;
+										}
+										uint64_t n580 = (uint64_t)load32(at(p572, (n575 + n576) << 3) + 4);
+										n576 = usub_sat64(n580, n575);
+										n577 = n577 + 1;
+										b578 = n575 <= n580;
+									}
+									uint8_t n581 = tp_text_push_end(p59, n569, n570 - n579);
+									if ((n581 & 1) == 0) {
+										uint64_t n586 = load64u(p59);
+										uint64_t n587 = load64u(p59 + 8);
+										uint64_t n588 = load64u(p59 + 16);
+										byte *p589 = loadptru(p58 + 72);
+										uint64_t n590 = load64u(p58 + 88);
+										byte *p591 = loadptru(p58 + 1184);
+										uint64_t n592 = load64u(p58 + 1200);
+										if (load64u(p58 + 48) != 0)
+											rattle_dealloc(loadptru(p58 + 32));
+										if (n590 != 0)
+											rattle_dealloc(p589);
+										if (n592 != 0)
+											rattle_dealloc(p591);
+										if (load64u(p58 + 1232) != 0)
+											rattle_dealloc(loadptru(p58 + 1216));
+										byte *p593 = (byte *)(uintptr_t)n586;
+										uint64_t n594 = 0;
+										while (n594 < n587) {
+											uint64_t n595 = n587 - n594;
+											uint64_t n596 = os_write(1, at(p593, n594), n595);
+											if ((int64_t)n596 < (int64_t)0) {
+												tp_error_last_error(p54);
+												goto L56;
+											}
+											uint64_t n597 = umin64(n596, n595);
+											if (n597 == 0)
+												goto L56;
+											n594 = n594 + n597;
+										}
+										if (n588 != 0)
+											rattle_dealloc(p593);
+										if (!b438)
+											rattle_dealloc(p436);
+										n598 = 0;
+										n599 = 0;
+										n600 = 0;
+										n601 = 0;
+										n602 = 0;
+										n603 = 0;
+										goto L57;
+L56:
+										{
+											store8(p4 + 12, 1);
+											if (n588 != 0)
+												rattle_dealloc(p593);
+											if (b438) {
+												n604 = 4;
+												n605 = n594;
+												goto L58;
+											}
+											rattle_dealloc(p436);
+											n604 = 4;
+											n605 = n594;
+											goto L58;
+										}
+									}
+									if (load64u(p59 + 16) != 0)
+										rattle_dealloc(loadptru(p59));
+									byte *p582 = loadptru(p58 + 72);
+									uint64_t n583 = load64u(p58 + 88);
+									byte *p584 = loadptru(p58 + 1184);
+									uint64_t n585 = load64u(p58 + 1200);
+									if (load64u(p58 + 48) != 0)
+										rattle_dealloc(loadptru(p58 + 32));
+									if (n583 != 0)
+										rattle_dealloc(p582);
+									if (n585 != 0)
+										rattle_dealloc(p584);
+									if (load64u(p58 + 1232) != 0)
+										rattle_dealloc(loadptru(p58 + 1216));
+								}
+							}
+L43: ;
+L54:
+							{
+								n567 = 3;
+								n568 = 0;
+							}
+L55:
+							{
+								if (b438) {
+									n604 = n567;
+									n605 = n568;
+								} else {
+									rattle_dealloc(p436);
+									n604 = n567;
+									n605 = n568;
+								}
+							}
+						} else {
+							uint8_t n606;
+							switch (MOSTLY_0(load8(p60 + 1))) {
+							case 0: {
+								n606 = 0;
+								break;
+							}
+							case 1: {
+								n606 = 1;
+								break;
+							}
+							case 2: {
+								n606 = 3;
+								break;
+							}
+							default: {
+								UNREACHABLE();
+							}
+							}
+							if (n420 != 0)
+								rattle_dealloc(p418);
+							if (n423 == 0) {
+								n604 = n606;
+								n605 = 0;
+							} else {
+								rattle_dealloc(p421);
+								n604 = n606;
+								n605 = 0;
+							}
+						}
+L58:
+						{
+							n598 = n605;
+							n599 = 0;
+							n600 = n604;
+							n601 = 1;
+							n602 = 0;
+							n603 = 1;
+						}
+						break;
+					}
+					case 1: {
+						memcpy(p62, p98 + 8, 32);
+						storeptru(p62 + 32, p418);
+						store64u(p62 + 40, n419);
+						store64u(p62 + 48, n420);
+						memcpy(p62 + 56, p98 + 64, 16);
+						storeptru(p62 + 72, p421);
+						store64u(p62 + 80, n422);
+						store64u(p62 + 88, n423);
+						memcpy(p62 + 96, p98 + 104, 32);
+						store64(p62 + 128, n93);
+						store64(p62 + 136, n94);
+						store64(p62 + 144, n117);
+						memcpy(p62 + 152, p64, 512);
+						memset(p62 + 664, 0, 520);
+						storeptru(p62 + 1184, p6);
+						memset(p62 + 1192, 0, 24);
+						storeptru(p62 + 1216, p6);
+						memset(p62 + 1224, 0, 16);
+						tp_timer_commands_verbs_talk_2(p61, p62, n89, (n90 & 1) != 0, p4, p5);
+						n598 = load64(p61 + 24);
+						n599 = load8(p61 + 17);
+						n600 = load8(p61 + 16);
+						n601 = (uint64_t)load8(p61 + 8);
+						n602 = load8(p61 + 1);
+						n603 = load8(p61);
+						break;
+					}
+					case 2: {
+						uint8_t n608;
+						uint64_t n609;
+						memset(p50, 0, 24);
+						memset(p51, 0, 1264);
+						memset(p52, 0, 96);
+						memset(p53, 0, 24);
+						of_i64_i64 s607 = rattle_alloc(16384, 1);
+						if ((s607.f0 & 1) == 0) {
+							if (n420 != 0)
+								rattle_dealloc(p418);
+							if (n423 == 0) {
+								n608 = 2;
+								n609 = 0;
+							} else {
+								rattle_dealloc(p421);
+								n608 = 2;
+								n609 = 0;
+							}
+						} else {
+							uint64_t n615, n633, n646, n656, n716, n718, n720, n727;
+							uint8_t n713;
+							byte *p715, *p717, *p719;
+							byte *p610 = (byte *)(uintptr_t)s607.f1;
+							uint64_t n611 = 0;
+							while (n611 != 16383) {
+								store8(inside(p610, n611), 0);
+								n611 = n611 + 1;
+							}
+							store8(p610 + 16383, 0);
+							storeptru(p50, p6);
+							memset(p50 + 8, 0, 16);
+							memcpy(p51, p98 + 8, 32);
+							storeptru(p51 + 32, p418);
+							store64u(p51 + 40, n419);
+							store64u(p51 + 48, n420);
+							memcpy(p51 + 56, p98 + 64, 16);
+							storeptru(p51 + 72, p421);
+							store64u(p51 + 80, n422);
+							store64u(p51 + 88, n423);
+							memcpy(p51 + 96, p98 + 104, 32);
+							store64(p51 + 128, n115);
+							store64(p51 + 136, n116);
+							store64(p51 + 144, n117);
+							memcpy(p51 + 152, p64, 512);
+							memset(p51 + 664, 0, 520);
+							storeptru(p51 + 1184, p6);
+							memset(p51 + 1192, 0, 24);
+							storeptru(p51 + 1216, p6);
+							memset(p51 + 1224, 0, 16);
+							storeptru(p51 + 1240, p6);
+							memset(p51 + 1248, 0, 16);
+							store64(p52, 0);
+							storeptru(p52 + 8, p6);
+							memset(p52 + 16, 0, 16);
+							storeptru(p52 + 32, p6);
+							memset(p52 + 40, 0, 16);
+							storeptru(p52 + 56, p6);
+							memset(p52 + 64, 0, 16);
+							store64u(p52 + 80, 1);
+							store8(p52 + 88, 1);
+							memset(p52 + 89, 0, 7);
+							uint64_t n612 = 0;
+							for (;;) {
+								if (n612 == UINT64_MAX)
+									goto L59;
+								memset(p49, 0, 96);
+								tp_WatchedRead_read(p49, p4, p610, 16384);
+								uint64_t n613 = load64(p49 + 8);
+								if (load8(p49) != 0)
+									break;
+								tp_Cutter_take_in(p53, p52, p610, n613, p5);
+								if (load8(p53) != 0)
+									goto L60;
+								uint8_t n614 = load8(p53 + 8);
+								n615 = load64u(p53 + 16);
+								byte *p616 = loadptr(p52 + 8);
+								uint64_t n617 = load64(p52 + 16);
+								if (load64(p50 + 8) != 0)
+									store64(p50 + 8, 0);
+								uint64_t n618 = 0;
+								while (n618 != n617) {
+									uint8_t n648, n650;
+									byte *p619 = at(p616, n618 * 48);
+									uint64_t n620 = load64(p51 + 144);
+									if ((n424 & 1) != 0) {
+										uint8_t n621 = load8(p619);
+										switch (n621) {
+										case 5: {
+											uint64_t n622 = load64(p619 + 8);
+											for (;;) {
+												uint64_t n627;
+												if (n622 == 0)
+													goto L61;
+												uint64_t n623 = load64(p51 + 8);
+												uint64_t n624 = load64(p51);
+												bool b625 = (load8(p51 + 1176) & 1) != 0;
+												uint64_t n626 = load64(p51 + 120);
+												if (load64(p51 + 56) == 0) {
+													n627 = n622;
+												} else {
+													uint64_t n630;
+													uint64_t n628 = load64(p51 + 24);
+													uint64_t n629 = 0;
+													for (;;) {
+														if (n629 == n628) {
+															n627 = n622;
+															goto L62;
+														}
+														n630 = n629 + 1;
+														uint64_t n631 = n626 + n630;
+														uint64_t n632 = n631 - ((n631 < n628) ? 0 : n628);
+														if (n632 != (uint64_t)load32(at(loadptr(p51 + 72), n632 << 3) + 4))
+															break;
+														n629 = n630;
+													}
+													if (((n623 + n630) > n624) || b625) {
+														n627 = n622;
+													} else {
+														n627 = umin64(n630, n622);
+													}
+												}
+L62:
+												{
+													n633 = load64(p50 + 8);
+													uint8_t n634 = tp_timer_script_script_run_answer_ticks_2(p51, n627, p51 + 1240, p50);
+													if ((n634 & 1) != 0)
+														goto L63;
+													n622 = n622 - n627;
+												}
+											}
+											break;
+										}
+										case 6: {
+											uint64_t n635 = usub_sat64(load64(p619 + 8), load64(p51 + 8));
+											for (;;) {
+												uint64_t n640;
+												if (n635 == 0)
+													goto L61;
+												uint64_t n636 = load64(p51 + 8);
+												uint64_t n637 = load64(p51);
+												bool b638 = (load8(p51 + 1176) & 1) != 0;
+												uint64_t n639 = load64(p51 + 120);
+												if (load64(p51 + 56) == 0) {
+													n640 = n635;
+												} else {
+													uint64_t n643;
+													uint64_t n641 = load64(p51 + 24);
+													uint64_t n642 = 0;
+													for (;;) {
+														if (n642 == n641) {
+															n640 = n635;
+															goto L64;
+														}
+														n643 = n642 + 1;
+														uint64_t n644 = n639 + n643;
+														uint64_t n645 = n644 - ((n644 < n641) ? 0 : n641);
+														if (n645 != (uint64_t)load32(at(loadptr(p51 + 72), n645 << 3) + 4))
+															break;
+														n642 = n643;
+													}
+													if (((n636 + n643) > n637) || b638) {
+														n640 = n635;
+													} else {
+														n640 = umin64(n643, n635);
+													}
+												}
+L64:
+												{
+													n646 = load64(p50 + 8);
+													uint8_t n647 = tp_timer_script_script_run_answer_ticks_2(p51, n640, p51 + 1240, p50);
+													if ((n647 & 1) != 0)
+														goto L65;
+													n635 = n635 - n640;
+												}
+											}
+											break;
+										}
+										case 0:
+										case 1:
+										case 2:
+										case 3:
+										case 4:
+										case 7:
+										case 8: {
+											n648 = n621;
+											break;
+										}
+										default: {
+											UNREACHABLE();
+										}
+										}
+									} else {
+										n648 = load8(p619);
+									}
+									switch (MOSTLY_0(n648)) {
+									case 0: {
+										uint8_t n649 = tp_timer_script_script_run_answer_start_2(p51, load64(p619 + 8), load64(p619 + 16), load64(p619 + 24), load64(p619 + 32), p50);
+										n650 = n649;
+										break;
+									}
+									case 2: {
+										uint8_t n651 = tp_timer_script_script_run_answer_stop_2(p51, load64(p619 + 8), load64(p619 + 16), load64(p619 + 24), p50);
+										n650 = n651;
+										break;
+									}
+									case 3: {
+										uint8_t n652 = tp_timer_script_script_run_answer_restart_2(p51, load64(p619 + 8), load64(p619 + 16), load64(p619 + 24), load64(p619 + 32), load64(p619 + 40), p50);
+										n650 = n652;
+										break;
+									}
+									case 5: {
+										uint8_t n653 = tp_timer_script_script_run_answer_ticks_2(p51, load64(p619 + 8), p51 + 1240, p50);
+										n650 = n653;
+										break;
+									}
+									case 7: {
+										uint8_t n654 = tp_timer_script_script_run_answer_close_2(p51, p51 + 1240, p50);
+										n650 = n654;
+										break;
+									}
+									case 1:
+									case 4:
+									case 6:
+									case 8: {
+										store64u(p48, (uint64_t)n648);
+										store64(p48 + 8, load64u(p619 + 8));
+										store64(p48 + 16, load64u(p619 + 16));
+										store64(p48 + 24, load64u(p619 + 24));
+										store64(p48 + 32, load64u(p619 + 32));
+										store64(p48 + 40, load64u(p619 + 40));
+										uint8_t n655 = tp_timer_script_script_run_answer_outs_2(p51, p48, p51 + 1240, p50);
+										n650 = n655;
+										break;
+									}
+									default: {
+										UNREACHABLE();
+									}
+									}
+									if ((n650 & 1) != 0)
+										goto L66;
+L61:
+									{
+										uint64_t n658, n659, n661, n663, n664, n665, n666, n667;
+										uint8_t n660;
+										n656 = load64(p50 + 8);
+										uint64_t n657 = load64(p51 + 8);
+										if (n430 == 1) {
+											if (n431 > n657) {
+												n658 = n656;
+												goto L67;
+											}
+										}
+										if (n432 == 1) {
+											if (n657 > n433) {
+												n658 = n656;
+												goto L67;
+											}
+										}
+										n659 = ((n425 & 1) != 0) ? n620 : 0;
+										n660 = tp_names_push_number(p50, (byte *)tp_static_383, 6, n657);
+										if ((n660 & 1) != 0)
+											goto L68;
+										n661 = load64(p50 + 8);
+										if (load64(p50 + 16) == n661) {
+											bool b662 = tp_Vec_grow_amortized(p50, 1);
+											if (!b662)
+												goto L68;
+											n663 = load64(p50 + 8);
+										} else {
+											n663 = n661;
+										}
+										store8(inside(loadptr(p50), n663), 10);
+										n664 = n663 + 1;
+										store64(p50 + 8, n664);
+										n665 = load64(p51 + 96);
+										n666 = n664;
+										n667 = 0;
+										for (;;) {
+											uint64_t n677, n682, n684, n686, n688, n690, n691, n692, n695, n696, n705, n707, n708;
+											uint8_t n683;
+											byte *p687, *p693;
+											bool b689, b694;
+											if (n667 == n665) {
+												n658 = n666;
+												break;
+											}
+											byte *p668 = loadptr(p51 + 72);
+											uint64_t n669 = n667 << 3;
+											uint64_t n670 = (uint64_t)load32(at(p668, n669) + 4);
+											bool b671 = n667 != n670;
+											uint64_t n672 = load64(p51 + 96);
+											uint64_t n673 = load64(p51 + 56);
+											uint64_t n674 = b671 ? (n670 - n672) : 0;
+											uint64_t n675 = 0;
+											bool b676 = b671;
+											for (;;) {
+												if (n675 == n673) {
+													n677 = n666;
+													goto L69;
+												}
+												if (!b676) {
+													n677 = n666;
+													goto L69;
+												}
+												byte *p678 = at(loadptr(p51 + 32), n674 * 56);
+												if (n674 >= load64(p51 + 40)) {
+													n677 = n666;
+													goto L69;
+												}
+												if (load8(p678) != 1) {
+													n677 = n666;
+													goto L69;
+												}
+												uint64_t n679 = load64u(p678 + 8);
+												if (n426 == 1) {
+													if (n427 != load64u(p678 + 16))
+														goto L70;
+												}
+												if (n428 == 1) {
+													if (!((n429 != n679) || (n659 > n679)))
+														break;
+												} else if (n659 <= n679) {
+													break;
+												}
+L70:
+												{
+													uint64_t n680 = (uint64_t)load32(at(p668, (n672 + n674) << 3) + 4);
+													n674 = usub_sat64(n680, n672);
+													n675 = n675 + 1;
+													b676 = n672 <= n680;
+												}
+											}
+											if (load64(p50 + 16) == n666) {
+												bool b681 = tp_Vec_grow_amortized(p50, 1);
+												if (!b681)
+													goto L68;
+												n682 = load64(p50 + 8);
+											} else {
+												n682 = n666;
+											}
+											store8(inside(loadptr(p50), n682), 32);
+											store64(p50 + 8, n682 + 1);
+											n683 = tp_names_push_number(p50, (byte *)tp_static_385, 6, n667);
+											if ((n683 & 1) != 0)
+												goto L68;
+											n684 = load64(p50 + 8);
+											if (load64(p50 + 16) == n684) {
+												bool b685 = tp_Vec_grow_amortized(p50, 1);
+												if (!b685)
+													goto L68;
+												n686 = load64(p50 + 8);
+											} else {
+												n686 = n684;
+											}
+											store8(inside(loadptr(p50), n686), 58);
+											store64(p50 + 8, n686 + 1);
+											p687 = loadptr(p51 + 72);
+											n688 = (uint64_t)load32(at(p687, n669) + 4);
+											b689 = n667 != n688;
+											n690 = load64(p51 + 96);
+											n691 = load64(p51 + 56);
+											n692 = n690;
+											p693 = p687;
+											b694 = b689;
+											n695 = b689 ? (n688 - n690) : 0;
+											n696 = 0;
+											while (n696 != n691) {
+												uint64_t n700;
+												byte *p701;
+												uint8_t n702, n703;
+												if (!b694)
+													break;
+												byte *p697 = at(loadptr(p51 + 32), n695 * 56);
+												if (n695 >= load64(p51 + 40))
+													break;
+												if (load8(p697) != 1)
+													break;
+												uint64_t n698 = load64u(p697 + 8);
+												uint64_t n699 = load64u(p697 + 48);
+												if (n426 == 1) {
+													if (n427 != load64u(p697 + 16)) {
+														n700 = n692;
+														p701 = p693;
+														goto L71;
+													}
+												}
+												if (n428 == 1) {
+													if ((n429 != n698) || (n659 > n698)) {
+														n700 = n692;
+														p701 = p693;
+														goto L71;
+													}
+												} else if (n659 > n698) {
+													n700 = n692;
+													p701 = p693;
+													goto L71;
+												}
+												n702 = tp_names_push_number(p50, (byte *)tp_static_104, 1, n698);
+												if ((n702 & 1) != 0)
+													goto L68;
+												n703 = tp_names_push_number(p50, (byte *)tp_static_202, 1, n699);
+												if ((n703 & 1) != 0)
+													goto L68;
+												n700 = load64(p51 + 96);
+												p701 = loadptr(p51 + 72);
+L71:
+												{
+													uint64_t n704 = (uint64_t)load32(at(p701, (n700 + n695) << 3) + 4);
+													n692 = n700;
+													p693 = p701;
+													b694 = n700 <= n704;
+													n695 = usub_sat64(n704, n700);
+													n696 = n696 + 1;
+												}
+											}
+											n705 = load64(p50 + 8);
+											if (load64(p50 + 16) == n705) {
+												bool b706 = tp_Vec_grow_amortized(p50, 1);
+												if (!b706)
+													goto L68;
+												n707 = load64(p50 + 8);
+											} else {
+												n707 = n705;
+											}
+											store8(inside(loadptr(p50), n707), 10);
+											n708 = n707 + 1;
+											store64(p50 + 8, n708);
+											n677 = n708;
+L69:
+											{
+												n666 = n677;
+												n667 = n667 + 1;
+											}
+										}
+L67:
+										{
+											byte *p709 = loadptr(p50);
+											uint64_t n710 = 0;
+											while (n710 < n658) {
+												uint64_t n711 = n658 - n710;
+												uint64_t n712 = os_write(1, at(p709, n710), n711);
+												if ((int64_t)n712 < (int64_t)0) {
+													tp_error_last_error(p46);
+													store8(p4 + 12, 1);
+													n713 = 3;
+													goto L72;
+												}
+												uint64_t n714 = umin64(n712, n711);
+												if (n714 == 0) {
+													store8(p4 + 12, 1);
+													n713 = 3;
+													goto L72;
+												}
+												n710 = n710 + n714;
+											}
+											if (load64(p50 + 8) != 0)
+												store64(p50 + 8, 0);
+											n618 = n618 + 1;
+										}
+									}
+								}
+								if (n614 == 1)
+									goto L73;
+								if (n613 == 0)
+									goto L74;
+								n612 = n612 + 1;
+							}
+							if (load64u(p52 + 24) != 0)
+								rattle_dealloc(loadptru(p52 + 8));
+							if (load64u(p52 + 48) != 0)
+								rattle_dealloc(loadptru(p52 + 32));
+							if (load64u(p52 + 72) != 0)
+								rattle_dealloc(loadptru(p52 + 56));
+							p715 = loadptru(p51 + 72);
+							n716 = load64u(p51 + 88);
+							p717 = loadptru(p51 + 1184);
+							n718 = load64u(p51 + 1200);
+							p719 = loadptru(p51 + 1216);
+							n720 = load64u(p51 + 1232);
+							if (load64u(p51 + 48) != 0)
+								rattle_dealloc(loadptru(p51 + 32));
+							if (n716 != 0)
+								rattle_dealloc(p715);
+							if (n718 != 0)
+								rattle_dealloc(p717);
+							if (n720 != 0)
+								rattle_dealloc(p719);
+							if (load64u(p51 + 1256) != 0)
+								rattle_dealloc(loadptru(p51 + 1240));
+							if (load64u(p50 + 16) != 0)
+								rattle_dealloc(loadptru(p50));
+							rattle_dealloc(p610);
+							n608 = 0;
+							n609 = 0;
+							goto L75;
+L60:
+							{
+								if (load64u(p52 + 24) != 0)
+									rattle_dealloc(loadptru(p52 + 8));
+								if (load64u(p52 + 48) != 0)
+									rattle_dealloc(loadptru(p52 + 32));
+								if (load64u(p52 + 72) != 0)
+									rattle_dealloc(loadptru(p52 + 56));
+								byte *p721 = loadptru(p51 + 72);
+								uint64_t n722 = load64u(p51 + 88);
+								byte *p723 = loadptru(p51 + 1184);
+								uint64_t n724 = load64u(p51 + 1200);
+								byte *p725 = loadptru(p51 + 1216);
+								uint64_t n726 = load64u(p51 + 1232);
+								if (load64u(p51 + 48) != 0)
+									rattle_dealloc(loadptru(p51 + 32));
+								if (n722 != 0)
+									rattle_dealloc(p721);
+								if (n724 != 0)
+									rattle_dealloc(p723);
+								if (n726 != 0)
+									rattle_dealloc(p725);
+								if (load64u(p51 + 1256) != 0)
+									rattle_dealloc(loadptru(p51 + 1240));
+								if (load64u(p50 + 16) != 0)
+									rattle_dealloc(loadptru(p50));
+								rattle_dealloc(p610);
+								n608 = 2;
+								n609 = 0;
+								goto L75;
+							}
+L66:
+							{
+								if (load64(p50 + 8) == 0) {
+									n727 = 0;
+									goto L76;
+								}
+								store64(p50 + 8, 0);
+								n727 = 0;
+								goto L76;
+							}
+L65:
+							{
+								uint64_t n728 = load64(p50 + 8);
+								if (!((int)(n728 > n646) | (int)(umin64(n728, n646) != 0))) {
+									n727 = n728;
+									goto L76;
+								}
+								store64(p50 + 8, 0);
+								n727 = 0;
+								goto L76;
+							}
+L63:
+							{
+								uint64_t n729 = load64(p50 + 8);
+								if (!((int)(n729 > n633) | (int)(umin64(n729, n633) != 0))) {
+									n727 = n729;
+									goto L76;
+								}
+								store64(p50 + 8, 0);
+								n727 = 0;
+								goto L76;
+							}
+L68:
+							{
+								uint64_t n730 = load64(p50 + 8);
+								if (n730 > n656) {
+									store64(p50 + 8, n656);
+									n727 = n656;
+								} else {
+									n727 = n730;
+								}
+							}
+L76:
+							{
+								byte *p731 = loadptr(p50);
+								uint64_t n732 = 0;
+								for (;;) {
+									if (n732 >= n727) {
+										n713 = 2;
+										break;
+									}
+									uint64_t n733 = n727 - n732;
+									uint64_t n734 = os_write(1, at(p731, n732), n733);
+									if ((int64_t)n734 < (int64_t)0) {
+										tp_error_last_error(p47);
+										store8(p4 + 12, 1);
+										n713 = 3;
+										break;
+									}
+									uint64_t n735 = umin64(n734, n733);
+									if (n735 == 0) {
+										store8(p4 + 12, 1);
+										n713 = 3;
+										break;
+									}
+									n732 = n732 + n735;
+								}
+							}
+L72:
+							{
+								if (load64u(p52 + 24) != 0)
+									rattle_dealloc(loadptru(p52 + 8));
+								if (load64u(p52 + 48) != 0)
+									rattle_dealloc(loadptru(p52 + 32));
+								if (load64u(p52 + 72) != 0)
+									rattle_dealloc(loadptru(p52 + 56));
+								byte *p736 = loadptru(p51 + 72);
+								uint64_t n737 = load64u(p51 + 88);
+								byte *p738 = loadptru(p51 + 1184);
+								uint64_t n739 = load64u(p51 + 1200);
+								byte *p740 = loadptru(p51 + 1216);
+								uint64_t n741 = load64u(p51 + 1232);
+								if (load64u(p51 + 48) != 0)
+									rattle_dealloc(loadptru(p51 + 32));
+								if (n737 != 0)
+									rattle_dealloc(p736);
+								if (n739 != 0)
+									rattle_dealloc(p738);
+								if (n741 != 0)
+									rattle_dealloc(p740);
+								if (load64u(p51 + 1256) != 0)
+									rattle_dealloc(loadptru(p51 + 1240));
+								if (load64u(p50 + 16) != 0)
+									rattle_dealloc(loadptru(p50));
+								rattle_dealloc(p610);
+								n608 = n713;
+								n609 = 0;
+								goto L75;
+							}
+L74:
+							{
+								uint64_t n742;
+								uint8_t n743, n744;
+								bool b745;
+								memset(p45, 0, 24);
+								tp_Cutter_end(p45, p52, p5);
+								if (load8(p45) == 0) {
+									if (load8(p45 + 8) == 1) {
+										n742 = load64u(p45 + 16);
+										n743 = 1;
+										n744 = 3;
+										b745 = true;
+									} else {
+										uint64_t n756;
+										if (load64(p50 + 8) != 0)
+											store64(p50 + 8, 0);
+										uint64_t n746 = load64(p51 + 8);
+										uint64_t n747 = load64(p51 + 56);
+										uint64_t n748 = load64(p51 + 24);
+										byte *p749 = loadptr(p51 + 72);
+										uint64_t n750 = (uint64_t)load32(at(p749, n748 << 3) + 4);
+										bool b751 = n748 != n750;
+										uint64_t n752 = load64(p51 + 96);
+										uint64_t n753 = b751 ? (n750 - n752) : 0;
+										uint64_t n754 = 0;
+										bool b755 = b751;
+										for (;;) {
+											if (n754 == n747) {
+												n756 = n747;
+												break;
+											}
+											if (!b755) {
+												n756 = n754;
+												break;
+											}
+											uint64_t n757 = (uint64_t)load32(at(p749, (n752 + n753) << 3) + 4);
+											n753 = usub_sat64(n757, n752);
+											n754 = n754 + 1;
+											b755 = n752 <= n757;
+										}
+										uint8_t n758 = tp_text_push_end(p50, n746, n747 - n756);
+										if ((n758 & 1) != 0) {
+											n742 = 0;
+											n743 = 2;
+											n744 = 3;
+											b745 = true;
+										} else {
+											byte *p759 = loadptr(p50);
+											uint64_t n760 = load64(p50 + 8);
+											uint64_t n761 = 0;
+											while (n761 < n760) {
+												uint64_t n762 = n760 - n761;
+												uint64_t n763 = os_write(1, at(p759, n761), n762);
+												if ((int64_t)n763 < (int64_t)0) {
+													tp_error_last_error(p44);
+													goto L77;
+												}
+												uint64_t n764 = umin64(n763, n762);
+												if (n764 == 0)
+													goto L77;
+												n761 = n761 + n764;
+											}
+											n742 = 0;
+											n743 = 0;
+											n744 = (uint8_t)(((load8(p52 + 88) & 1) != 0) ? 0 : 3);
+											b745 = false;
+											goto L78;
+L77:
+											{
+												store8(p4 + 12, 1);
+												n742 = 0;
+												n743 = 3;
+												n744 = 3;
+												b745 = true;
+											}
+										}
+									}
+								} else {
+									n742 = 0;
+									n743 = 2;
+									n744 = 3;
+									b745 = true;
+								}
+L78:
+								{
+									if (load64u(p52 + 24) != 0)
+										rattle_dealloc(loadptru(p52 + 8));
+									if (load64u(p52 + 48) != 0)
+										rattle_dealloc(loadptru(p52 + 32));
+									if (load64u(p52 + 72) != 0)
+										rattle_dealloc(loadptru(p52 + 56));
+									byte *p765 = loadptru(p51 + 72);
+									uint64_t n766 = load64u(p51 + 88);
+									byte *p767 = loadptru(p51 + 1184);
+									uint64_t n768 = load64u(p51 + 1200);
+									byte *p769 = loadptru(p51 + 1216);
+									uint64_t n770 = load64u(p51 + 1232);
+									if (load64u(p51 + 48) != 0)
+										rattle_dealloc(loadptru(p51 + 32));
+									if (n766 != 0)
+										rattle_dealloc(p765);
+									if (n768 != 0)
+										rattle_dealloc(p767);
+									if (n770 != 0)
+										rattle_dealloc(p769);
+									if (load64u(p51 + 1256) != 0)
+										rattle_dealloc(loadptru(p51 + 1240));
+									if (load64u(p50 + 16) != 0)
+										rattle_dealloc(loadptru(p50));
+									rattle_dealloc(p610);
+									if (b745) {
+										n598 = n742;
+										n599 = 0;
+										n600 = n743;
+										n601 = 2;
+										n602 = 0;
+										n603 = 1;
+										goto L57;
+									}
+									n598 = 0;
+									n599 = 0;
+									n600 = 0;
+									n601 = 0;
+									n602 = n744;
+									n603 = 0;
+									goto L57;
+								}
+							}
+L73:
+							{
+								if (load64u(p52 + 24) != 0)
+									rattle_dealloc(loadptru(p52 + 8));
+								if (load64u(p52 + 48) != 0)
+									rattle_dealloc(loadptru(p52 + 32));
+								if (load64u(p52 + 72) != 0)
+									rattle_dealloc(loadptru(p52 + 56));
+								byte *p771 = loadptru(p51 + 72);
+								uint64_t n772 = load64u(p51 + 88);
+								byte *p773 = loadptru(p51 + 1184);
+								uint64_t n774 = load64u(p51 + 1200);
+								byte *p775 = loadptru(p51 + 1216);
+								uint64_t n776 = load64u(p51 + 1232);
+								if (load64u(p51 + 48) != 0)
+									rattle_dealloc(loadptru(p51 + 32));
+								if (n772 != 0)
+									rattle_dealloc(p771);
+								if (n774 != 0)
+									rattle_dealloc(p773);
+								if (n776 != 0)
+									rattle_dealloc(p775);
+								if (load64u(p51 + 1256) != 0)
+									rattle_dealloc(loadptru(p51 + 1240));
+								if (load64u(p50 + 16) != 0)
+									rattle_dealloc(loadptru(p50));
+								rattle_dealloc(p610);
+								n608 = 1;
+								n609 = n615;
+								goto L75;
+							}
+L59:
+							{
+								if (load64u(p52 + 24) != 0)
+									rattle_dealloc(loadptru(p52 + 8));
+								if (load64u(p52 + 48) != 0)
+									rattle_dealloc(loadptru(p52 + 32));
+								if (load64u(p52 + 72) != 0)
+									rattle_dealloc(loadptru(p52 + 56));
+								byte *p777 = loadptru(p51 + 72);
+								uint64_t n778 = load64u(p51 + 88);
+								byte *p779 = loadptru(p51 + 1184);
+								uint64_t n780 = load64u(p51 + 1200);
+								byte *p781 = loadptru(p51 + 1216);
+								uint64_t n782 = load64u(p51 + 1232);
+								if (load64u(p51 + 48) != 0)
+									rattle_dealloc(loadptru(p51 + 32));
+								if (n778 != 0)
+									rattle_dealloc(p777);
+								if (n780 != 0)
+									rattle_dealloc(p779);
+								if (n782 != 0)
+									rattle_dealloc(p781);
+								if (load64u(p51 + 1256) != 0)
+									rattle_dealloc(loadptru(p51 + 1240));
+								if (load64u(p50 + 16) != 0)
+									rattle_dealloc(loadptru(p50));
+								rattle_dealloc(p610);
+								n608 = 4;
+								n609 = 0;
+							}
+						}
+L75:
+						{
+							n598 = n609;
+							n599 = 0;
+							n600 = n608;
+							n601 = 2;
+							n602 = 0;
+							n603 = 1;
+						}
+						break;
+					}
+					default: {
+						UNREACHABLE();
+					}
+					}
+L57:
+					{
+						n783 = n603;
+						n784 = n602;
+						n785 = n601;
+						n786 = n600;
+						n787 = n599;
+						n788 = n598;
+					}
+				} else {
+					switch (MOSTLY_0(n88)) {
+					case 0: {
+						n783 = 1;
+						n784 = 0;
+						n785 = 1;
+						n786 = 3;
+						n787 = 0;
+						n788 = 0;
+						break;
+					}
+					case 1:
+					case 2: {
+						n783 = 1;
+						n784 = 0;
+						n785 = 2;
+						n786 = 2;
+						n787 = 0;
+						n788 = 0;
+						break;
+					}
+					default: {
+						UNREACHABLE();
+					}
+					}
+				}
+				store8(p106, n783);
+				store8(p106 + 1, n784);
+				store64u(p106 + 8, n785);
+				store8(p106 + 16, n786);
+				store8(p106 + 17, n787);
+				store64u(p106 + 24, n788);
+				break;
+			}
+			case 2: {
+				uint8_t n790;
+				uint64_t n791;
+				memset(p40, 0, 128);
+				memset(p41, 0, 7);
+				tp_Buckets_new(p40, 640, UINT64_C(1152921504606846975), n95);
+				uint8_t n789 = load8(p40);
+				if (n789 == 0) {
+					memcpy(p41 + 7, p40 + 8, 120);
+					memcpy(p42, p41, 127);
+					memset(p43, 0, 96);
+					n790 = 0;
+					n791 = n95;
+				} else {
+					memset(p42, 0, 127);
+					memset(p43, 0, 96);
+					n790 = 2;
+					n791 = 0;
+				}
+				memcpy(p99, p42, 127);
+				memcpy(p100, p43, 96);
+				store8(p107, 2);
+				memcpy(p107 + 1, p96, 7);
+				store64u(p107 + 8, n92);
+				store64u(p107 + 16, n93);
+				store64u(p107 + 24, n94);
+				store64u(p107 + 32, n95);
+				store8(p108, n789);
+				store8(p108 + 1, n790);
+				store8(p108 + 8, 0);
+				memcpy(p108 + 9, p99, 127);
+				memcpy(p108 + 136, p100, 96);
+				store64u(p108 + 232, n791);
+				tp_schemes_over_wheel(p106, p87, p97, p108, p4, p5);
+				break;
+			}
+			case 3: {
+				uint8_t n792, n793, n794;
+				uint64_t n795;
+				if (n95 > 8639999) {
+					memset(p38, 0, 127);
+					memset(p39, 0, 96);
+					n792 = 1;
+					n793 = 1;
+					n794 = 0;
+					n795 = 0;
+				} else {
+					memset(p36, 0, 128);
+					memset(p37, 0, 7);
+					tp_Buckets_new(p36, 244, 8639999, n95);
+					if (load8(p36) == 0) {
+						memcpy(p37 + 7, p36 + 8, 120);
+						memcpy(p38, p37, 127);
+						memset(p39, 0, 96);
+						n792 = 0;
+						n793 = 0;
+						n794 = 1;
+						n795 = n95;
+					} else {
+						memset(p38, 0, 127);
+						memset(p39, 0, 96);
+						n792 = 1;
+						n793 = 2;
+						n794 = 0;
+						n795 = 0;
+					}
+				}
+				memcpy(p101, p38, 127);
+				memcpy(p102, p39, 96);
+				store8(p109, 3);
+				memcpy(p109 + 1, p96, 7);
+				store64u(p109 + 8, n92);
+				store64u(p109 + 16, n93);
+				store64u(p109 + 24, n94);
+				store64u(p109 + 32, n95);
+				store8(p110, n792);
+				store8(p110 + 1, n793);
+				store8(p110 + 8, n794);
+				memcpy(p110 + 9, p101, 127);
+				memcpy(p110 + 136, p102, 96);
+				store64u(p110 + 232, n795);
+				tp_schemes_over_wheel(p106, p87, p97, p110, p4, p5);
+				break;
+			}
+			case 4: {
+				uint64_t n802, n803, n805, n806, n822, n825;
+				byte *p804, *p807;
+				bool b808;
+				uint8_t n820, n821, n823, n824;
+				memset(p33, 0, 38);
+				memset(p29, 0, 128);
+				tp_Buckets_new(p29, 1280, UINT64_C(1152921504606846975), n95);
+				if (load8(p29) == 0) {
+					byte *p796 = loadptr(p29 + 40);
+					uint64_t n797 = load64(p29 + 48);
+					uint64_t n798 = load64(p29 + 56);
+					memcpy(p34, p29 + 64, 16);
+					byte *p799 = loadptr(p29 + 80);
+					uint64_t n800 = load64(p29 + 88);
+					uint64_t n801 = load64(p29 + 96);
+					memcpy(p30, p29 + 104, 24);
+					memset(p30 + 24, 0, 160);
+					memcpy(p31 + 7, p29 + 8, 32);
+					memcpy(p32, p30, 184);
+					memset(p32 + 184, 0, 80);
+					memcpy(p33 + 6, p31 + 7, 32);
+					memcpy(p35, p32, 264);
+					memset(p35 + 264, 0, 24);
+					n802 = n801;
+					n803 = n800;
+					p804 = p799;
+					n805 = n798;
+					n806 = n797;
+					p807 = p796;
+					b808 = false;
+				} else {
+					memset(p33 + 6, 0, 32);
+					memset(p34, 0, 16);
+					memset(p35, 0, 288);
+					n802 = 0;
+					n803 = 0;
+					p804 = NULL;
+					n805 = 0;
+					n806 = 0;
+					p807 = NULL;
+					b808 = true;
+				}
+				memcpy(p103 + 6, p33 + 6, 32);
+				memcpy(p104, p34, 16);
+				memcpy(p105, p35, 288);
+				uint8_t n809 = load8(p87 + 8);
+				uint8_t n810 = load8(p87 + 9);
+				uint8_t n811 = load8(p87 + 10);
+				uint8_t n812 = load8(p87 + 16);
+				uint64_t n813 = load64u(p87 + 24);
+				uint8_t n814 = load8(p87 + 32);
+				uint64_t n815 = load64u(p87 + 40);
+				uint8_t n816 = load8(p87 + 48);
+				uint64_t n817 = load64u(p87 + 56);
+				uint8_t n818 = load8(p87 + 64);
+				uint64_t n819 = load64u(p87 + 72);
+				if (b808) {
+					switch (MOSTLY_0(n88)) {
+					case 0: {
+						n820 = 1;
+						n821 = 0;
+						n822 = 1;
+						n823 = 3;
+						n824 = 0;
+						n825 = 0;
+						break;
+					}
+					case 1:
+					case 2: {
+						n820 = 1;
+						n821 = 0;
+						n822 = 2;
+						n823 = 2;
+						n824 = 0;
+						n825 = 0;
+						break;
+					}
+					default: {
+						UNREACHABLE();
+					}
+					}
+				} else {
+					uint64_t n990, n993;
+					uint8_t n991, n992, n994, n995;
+					memset(p27, 0, 512);
+					uint64_t n826 = 0;
+					for (;;) {
+						store64(at(p27, n826), n117);
+						uint64_t n827 = n826 + 8;
+						if (n827 == 512)
+							break;
+						n826 = n827;
+					}
+					memcpy(p28, p27, 512);
+					memset(p25, 0, 32);
+					memset(p26, 0, 1496);
+					switch (MOSTLY_0(n88)) {
+					case 0: {
+						uint8_t n996;
+						uint64_t n997;
+						memset(p24, 0, 32);
+						tp_input_read_script(p24, p4);
+						if (load8(p24) == 0) {
+							byte *p832;
+							uint8_t n959;
+							uint64_t n960;
+							byte *p828 = loadptru(p24 + 8);
+							uint64_t n829 = load64u(p24 + 16);
+							bool b830 = load64u(p24 + 24) == 0;
+							memset(p23, 0, 24);
+							memcpy(p22, p103 + 6, 32);
+							storeptr(p22 + 32, p807);
+							store64(p22 + 40, n806);
+							store64(p22 + 48, n805);
+							memcpy(p22 + 56, p104, 16);
+							storeptr(p22 + 72, p804);
+							store64(p22 + 80, n803);
+							store64(p22 + 88, n802);
+							memcpy(p22 + 96, p105, 288);
+							store64(p22 + 384, n93);
+							store64(p22 + 392, n94);
+							store64(p22 + 400, n117);
+							memcpy(p22 + 408, p28, 512);
+							memset(p22 + 920, 0, 520);
+							storeptr(p22 + 1440, p6);
+							memset(p22 + 1448, 0, 24);
+							storeptru(p22 + 1472, p6);
+							memset(p22 + 1480, 0, 16);
+							uint64_t n831 = (n829 > UINT64_C(4611686018427387903)) ? UINT64_MAX : (n829 << 2);
+							if (n831 != 0) {
+								bool b833;
+								byte *p834, *p836;
+								uint64_t n835, n837;
+								if ((int64_t)n831 < (int64_t)0) {
+									b833 = true;
+									p834 = p6;
+									n835 = n802;
+									p836 = p804;
+									n837 = n805;
+								} else {
+									of_i64_i64 s838 = rattle_alloc(n831, 1);
+									if ((s838.f0 & 1) != 0) {
+										p832 = (byte *)(uintptr_t)s838.f1;
+										goto L79;
+									}
+									b833 = load64u(p22 + 1456) == 0;
+									p834 = loadptru(p22 + 1440);
+									n835 = load64u(p22 + 88);
+									p836 = loadptru(p22 + 72);
+									n837 = load64u(p22 + 48);
+								}
+								if (n837 != 0)
+									rattle_dealloc(loadptru(p22 + 32));
+								if (n835 != 0)
+									rattle_dealloc(p836);
+								if (!b833)
+									rattle_dealloc(p834);
+								if (load64u(p22 + 1488) == 0)
+									goto L80;
+								rattle_dealloc(loadptru(p22 + 1472));
+								goto L80;
+							}
+							p832 = p6;
+L79:
+							{
+								bool b952;
+								uint64_t n953;
+								storeptru(p23, p832);
+								store64u(p23 + 8, 0);
+								store64u(p23 + 16, n831);
+								memset(p21 + 8, 0, 16);
+								storeptru(p21, p6);
+								uint64_t n839 = 0;
+								byte *p840 = p828;
+								uint64_t n841 = n829;
+								for (;;) {
+									uint64_t n880, n882, n883, n884, n885, n899, n900, n901, n902, n903, n906, n907, n908, n909, n912, n913, n914, n915, n918, n920, n921, n922, n945;
+									byte *p881, *p898, *p905, *p911, *p917, *p919, *p944;
+									uint8_t n946;
+									if (n841 == 0)
+										goto L81;
+									if (n841 < 6) {
+										if (n841 != 5)
+											goto L82;
+										uint32_t n842 = ((((uint32_t)load8(p840 + 3) << 24) | ((uint32_t)load8(p840 + 2) << 16)) | ((uint32_t)load8(p840 + 1) << 8)) | (uint32_t)load8(p840);
+										if (n842 != 1886352499)
+											goto L83;
+										uint64_t n843 = 0;
+										bool b844 = false;
+										while (n843 != 1) {
+											n843 = 1;
+											b844 = (int)b844 | (int)(32 != load8(p840 + 4));
+										}
+										uint64_t n845 = 0;
+										bool b846 = false;
+										while (n845 != 1) {
+											n845 = 1;
+											b846 = (int)b846 | (int)(32 != load8(p840 + 4));
+										}
+										uint64_t n847 = 0;
+										bool b848 = false;
+										while (n847 != 1) {
+											n847 = 1;
+											b848 = (int)b848 | (int)(32 != load8(p840 + 4));
+										}
+										if ((int)((int)b844 | (int)b846) | (int)b848)
+											goto L83;
+									} else {
+										uint32_t n849 = ((((uint32_t)load8(p840 + 3) << 24) | ((uint32_t)load8(p840 + 2) << 16)) | ((uint32_t)load8(p840 + 1) << 8)) | (uint32_t)load8(p840);
+										switch (n849) {
+										case 1918989427: {
+											uint64_t n859, n865, n871, n877;
+											uint64_t n850 = 0;
+											bool b851 = false;
+											while (n850 != 1) {
+												n850 = 1;
+												b851 = (int)b851 | (int)(116 != load8(p840 + 4));
+											}
+											uint64_t n852 = 0;
+											bool b853 = false;
+											while (n852 != 1) {
+												n852 = 1;
+												b853 = (int)b853 | (int)(32 != load8(p840 + 5));
+											}
+											uint64_t n854 = 0;
+											bool b855 = false;
+											while (n854 != 1) {
+												n854 = 1;
+												b855 = (int)b855 | (int)(32 != load8(p840 + 5));
+											}
+											if ((int)((int)b851 | (int)b853) | (int)b855)
+												goto L83;
+											uint64_t n856 = n841 - 6;
+											uint64_t n857 = 0;
+											uint64_t n858 = 0;
+											for (;;) {
+												if (n858 == n856) {
+													n859 = n856;
+													break;
+												}
+												uint8_t n860 = load8(at(at(p840, 6), n858));
+												if ((uint8_t)(n860 - 48) >= 10) {
+													n859 = n858;
+													break;
+												}
+												n857 = (n857 * 10) + (uint64_t)(uint8_t)(n860 & 15);
+												n858 = n858 + 1;
+											}
+											switch (n859) {
+											case 0: {
+												goto L84;
+											}
+											case 1: {
+												if (n857 > UINT64_C(1152921504606846975))
+													goto L84;
+												break;
+											}
+											default: {
+												if (((int)(load8(p840 + 6) == 48) | (int)(n859 > 19)) || (n857 > UINT64_C(1152921504606846975)))
+													goto L84;
+												break;
+											}
+											}
+											byte *p861 = at(at(p840, 6), n859);
+											if (n856 == n859)
+												goto L84;
+											if (load8(p861) != 32)
+												goto L84;
+											uint64_t n862 = n856 + (n859 ^ UINT64_MAX);
+											uint64_t n863 = 0;
+											uint64_t n864 = 0;
+											for (;;) {
+												if (n864 == n862) {
+													n865 = n862;
+													break;
+												}
+												uint8_t n866 = load8(at(at(p861, 1), n864));
+												if ((uint8_t)(n866 - 48) >= 10) {
+													n865 = n864;
+													break;
+												}
+												n863 = (n863 * 10) + (uint64_t)(uint8_t)(n866 & 15);
+												n864 = n864 + 1;
+											}
+											switch (n865) {
+											case 0: {
+												goto L84;
+											}
+											case 1: {
+												if (n863 > UINT64_C(1152921504606846975))
+													goto L84;
+												break;
+											}
+											default: {
+												if (((int)(load8(p861 + 1) == 48) | (int)(n865 > 19)) || (n863 > UINT64_C(1152921504606846975)))
+													goto L84;
+												break;
+											}
+											}
+											byte *p867 = at(at(p861, 1), n865);
+											if (n862 == n865)
+												goto L84;
+											if (load8(p867) != 32)
+												goto L84;
+											uint64_t n868 = n862 + (n865 ^ UINT64_MAX);
+											uint64_t n869 = 0;
+											uint64_t n870 = 0;
+											for (;;) {
+												if (n870 == n868) {
+													n871 = n868;
+													break;
+												}
+												uint8_t n872 = load8(at(at(p867, 1), n870));
+												if ((uint8_t)(n872 - 48) >= 10) {
+													n871 = n870;
+													break;
+												}
+												n869 = (n869 * 10) + (uint64_t)(uint8_t)(n872 & 15);
+												n870 = n870 + 1;
+											}
+											switch (n871) {
+											case 0: {
+												goto L84;
+											}
+											case 1: {
+												if (n869 > UINT64_C(1152921504606846975))
+													goto L84;
+												break;
+											}
+											default: {
+												if (((int)(load8(p867 + 1) == 48) | (int)(n871 > 19)) || (n869 > UINT64_C(1152921504606846975)))
+													goto L84;
+												break;
+											}
+											}
+											byte *p873 = at(at(p867, 1), n871);
+											if (n868 == n871)
+												goto L84;
+											if (load8(p873) != 32)
+												goto L84;
+											uint64_t n874 = n868 + (n871 ^ UINT64_MAX);
+											uint64_t n875 = 0;
+											uint64_t n876 = 0;
+											for (;;) {
+												if (n876 == n874) {
+													n877 = n874;
+													break;
+												}
+												uint8_t n878 = load8(at(at(p873, 1), n876));
+												if ((uint8_t)(n878 - 48) >= 10) {
+													n877 = n876;
+													break;
+												}
+												n875 = (n875 * 10) + (uint64_t)(uint8_t)(n878 & 15);
+												n876 = n876 + 1;
+											}
+											switch (n877) {
+											case 0: {
+												goto L84;
+											}
+											case 1: {
+												if (n875 > UINT64_C(1152921504606846975))
+													goto L84;
+												break;
+											}
+											default: {
+												if (((int)(load8(p873 + 1) == 48) | (int)(n877 > 19)) || (n875 > UINT64_C(1152921504606846975)))
+													goto L84;
+												break;
+											}
+											}
+											byte *p879 = at(at(p873, 1), n877);
+											if (n874 == n877)
+												goto L84;
+											if (load8(p879) != 10)
+												goto L84;
+											n880 = n857;
+											p881 = at(p879, 1);
+											n882 = n874 + (n877 ^ UINT64_MAX);
+											n883 = n863;
+											n884 = n869;
+											n885 = n875;
+											goto L85;
+										}
+										case 1886352499: {
+											uint64_t n886 = 0;
+											bool b887 = false;
+											while (n886 != 1) {
+												n886 = 1;
+												b887 = (int)b887 | (int)(32 != load8(p840 + 4));
+											}
+											uint64_t n888 = 0;
+											bool b889 = false;
+											while (n888 != 1) {
+												n888 = 1;
+												b889 = (int)b889 | (int)(32 != load8(p840 + 4));
+											}
+											uint64_t n890 = 0;
+											bool b891 = false;
+											while (n890 != 1) {
+												n890 = 1;
+												b891 = (int)b891 | (int)(32 != load8(p840 + 4));
+											}
+											if ((int)((int)b887 | (int)b889) | (int)b891)
+												goto L83;
+											break;
+										}
+										case 1936682083: {
+											uint64_t n892 = 0;
+											bool b893 = false;
+											while (n892 != 1) {
+												n892 = 1;
+												b893 = (int)b893 | (int)(101 != load8(p840 + 4));
+											}
+											uint64_t n894 = 0;
+											bool b895 = false;
+											while (n894 != 1) {
+												n894 = 1;
+												b895 = (int)b895 | (int)(10 != load8(p840 + 5));
+											}
+											uint64_t n896 = 0;
+											bool b897 = false;
+											while (n896 != 1) {
+												n896 = 1;
+												b897 = (int)b897 | (int)(10 != load8(p840 + 5));
+											}
+											if ((int)((int)b893 | (int)b895) | (int)b897)
+												goto L83;
+											p898 = at(p840, 6);
+											n899 = n841 - 6;
+											goto L86;
+										}
+										default: {
+											goto L83;
+										}
+										}
+									}
+									n900 = n841 - 5;
+									n901 = 0;
+									n902 = 0;
+									for (;;) {
+										if (n901 == n900) {
+											n903 = n900;
+											break;
+										}
+										uint8_t n904 = load8(at(at(p840, 5), n901));
+										if ((uint8_t)(n904 - 48) >= 10) {
+											n903 = n901;
+											break;
+										}
+										n901 = n901 + 1;
+										n902 = (n902 * 10) + (uint64_t)(uint8_t)(n904 & 15);
+									}
+									switch (n903) {
+									case 0: {
+										goto L84;
+									}
+									case 1: {
+										if (n902 > UINT64_C(1152921504606846975))
+											goto L84;
+										break;
+									}
+									default: {
+										if (((int)(load8(p840 + 5) == 48) | (int)(n903 > 19)) || (n902 > UINT64_C(1152921504606846975)))
+											goto L84;
+										break;
+									}
+									}
+									p905 = at(at(p840, 5), n903);
+									if (n900 == n903)
+										goto L84;
+									if (load8(p905) != 32)
+										goto L84;
+									n906 = n900 + (n903 ^ UINT64_MAX);
+									n907 = 0;
+									n908 = 0;
+									for (;;) {
+										if (n907 == n906) {
+											n909 = n906;
+											break;
+										}
+										uint8_t n910 = load8(at(at(p905, 1), n907));
+										if ((uint8_t)(n910 - 48) >= 10) {
+											n909 = n907;
+											break;
+										}
+										n907 = n907 + 1;
+										n908 = (n908 * 10) + (uint64_t)(uint8_t)(n910 & 15);
+									}
+									switch (n909) {
+									case 0: {
+										goto L84;
+									}
+									case 1: {
+										if (n908 > UINT64_C(1152921504606846975))
+											goto L84;
+										break;
+									}
+									default: {
+										if (((int)(load8(p905 + 1) == 48) | (int)(n909 > 19)) || (n908 > UINT64_C(1152921504606846975)))
+											goto L84;
+										break;
+									}
+									}
+									p911 = at(at(p905, 1), n909);
+									if (n906 == n909)
+										goto L84;
+									if (load8(p911) != 32)
+										goto L84;
+									n912 = n906 + (n909 ^ UINT64_MAX);
+									n913 = 0;
+									n914 = 0;
+									for (;;) {
+										if (n913 == n912) {
+											n915 = n912;
+											break;
+										}
+										uint8_t n916 = load8(at(at(p911, 1), n913));
+										if ((uint8_t)(n916 - 48) >= 10) {
+											n915 = n913;
+											break;
+										}
+										n913 = n913 + 1;
+										n914 = (n914 * 10) + (uint64_t)(uint8_t)(n916 & 15);
+									}
+									switch (n915) {
+									case 0: {
+										goto L84;
+									}
+									case 1: {
+										if (n914 > UINT64_C(1152921504606846975))
+											goto L84;
+										break;
+									}
+									default: {
+										if (((int)(load8(p911 + 1) == 48) | (int)(n915 > 19)) || (n914 > UINT64_C(1152921504606846975)))
+											goto L84;
+										break;
+									}
+									}
+									p917 = at(at(p911, 1), n915);
+									if (n912 == n915)
+										goto L84;
+									if (load8(p917) != 10)
+										goto L84;
+									n918 = n902;
+									p919 = at(p917, 1);
+									n920 = n912 + (n915 ^ UINT64_MAX);
+									n921 = n908;
+									n922 = n914;
+									goto L87;
+L83:
+									{
+										uint64_t n930, n932, n935, n936, n937, n938, n939, n941;
+										byte *p931;
+										uint8_t n933, n934;
+										bool b940, b942;
+										memset(p20, 0, 72);
+										uint32_t n923 = ((((uint32_t)load8(p840 + 3) << 24) | ((uint32_t)load8(p840 + 2) << 16)) | ((uint32_t)load8(p840 + 1) << 8)) | (uint32_t)load8(p840);
+										if (n923 == 1801677172) {
+											uint64_t n924 = 0;
+											bool b925 = false;
+											while (n924 != 1) {
+												n924 = 1;
+												b925 = (int)b925 | (int)(32 != load8(p840 + 4));
+											}
+											uint64_t n926 = 0;
+											bool b927 = false;
+											while (n926 != 1) {
+												n926 = 1;
+												b927 = (int)b927 | (int)(32 != load8(p840 + 4));
+											}
+											uint64_t n928 = 0;
+											bool b929 = false;
+											while (n928 != 1) {
+												n928 = 1;
+												b929 = (int)b929 | (int)(32 != load8(p840 + 4));
+											}
+											if (!((int)((int)b925 | (int)b927) | (int)b929)) {
+												tp_lines_read_tick(p20, p840 + 5, n841 - 5);
+												n930 = load64u(p20 + 16);
+												p931 = loadptru(p20 + 56);
+												n932 = load64u(p20 + 64);
+												n933 = load8(p20);
+												n934 = load8(p20 + 8);
+												n935 = load64u(p20 + 24);
+												n936 = load64u(p20 + 32);
+												n937 = load64u(p20 + 40);
+												n938 = load64u(p20 + 48);
+												goto L88;
+											}
+										}
+										if (!((int)(n841 > 7) & (int)(n923 == 1953719666)))
+											goto L82;
+										n939 = 0;
+										b940 = false;
+										while (n939 != 4) {
+											b940 = (int)b940 | (int)(load8(at((byte *)tp_static_296 + 4, n939)) != load8(at(at(p840, 4), n939)));
+											n939 = n939 + 1;
+										}
+										n941 = 0;
+										b942 = false;
+										while (n941 != 4) {
+											b942 = (int)b942 | (int)(load8(at((byte *)tp_static_296 + 4, n941)) != load8(at(at(p840, 4), n941)));
+											n941 = n941 + 1;
+										}
+										if ((int)b940 | (int)b942)
+											goto L82;
+										tp_lines_read_restart(p20, p840 + 8, n841 - 8);
+										n930 = load64u(p20 + 16);
+										p931 = loadptru(p20 + 56);
+										n932 = load64u(p20 + 64);
+										n933 = load8(p20);
+										n934 = load8(p20 + 8);
+										n935 = load64u(p20 + 24);
+										n936 = load64u(p20 + 32);
+										n937 = load64u(p20 + 40);
+										n938 = load64u(p20 + 48);
+L88:
+										{
+											if (n933 != 1)
+												goto L84;
+											switch (MOSTLY_0(n934)) {
+											case 0: {
+												n880 = n930;
+												p881 = p931;
+												n882 = n932;
+												n883 = n935;
+												n884 = n936;
+												n885 = n937;
+												goto L85;
+											}
+											case 2: {
+												n918 = n930;
+												p919 = p931;
+												n920 = n932;
+												n921 = n935;
+												n922 = n936;
+												goto L87;
+											}
+											case 3: {
+												uint8_t n943 = tp_script_run_answer_restart(p22, n930, n935, n936, n937, n938, p23);
+												p944 = p931;
+												n945 = n932;
+												n946 = n943;
+												goto L89;
+											}
+											case 5: {
+												uint8_t n947 = tp_script_run_answer_ticks(p22, n930, p21, p23);
+												p944 = p931;
+												n945 = n932;
+												n946 = n947;
+												goto L89;
+											}
+											case 7: {
+												p898 = p931;
+												n899 = n932;
+												break;
+											}
+											case 1:
+											case 4:
+											case 6:
+											case 8: {
+												store64u(p19, (uint64_t)n934);
+												store64u(p19 + 8, n930);
+												store64u(p19 + 16, n935);
+												store64u(p19 + 24, n936);
+												store64u(p19 + 32, n937);
+												store64u(p19 + 40, n938);
+												uint8_t n948 = tp_script_run_answer_outs(p22, p19, p21, p23);
+												p944 = p931;
+												n945 = n932;
+												n946 = n948;
+												goto L89;
+											}
+											default: {
+												UNREACHABLE();
+											}
+											}
+										}
+									}
+L86:
+									{
+										uint8_t n949 = tp_script_run_answer_close(p22, p21, p23);
+										p944 = p898;
+										n945 = n899;
+										n946 = n949;
+										goto L89;
+									}
+L87:
+									{
+										uint8_t n950 = tp_script_run_answer_stop(p22, n918, n921, n922, p23);
+										p944 = p919;
+										n945 = n920;
+										n946 = n950;
+										goto L89;
+									}
+L85:
+									{
+										uint8_t n951 = tp_script_run_answer_start(p22, n880, n883, n884, n885, p23);
+										p944 = p881;
+										n945 = n882;
+										n946 = n951;
+									}
+L89:
+									{
+										if ((n946 & 1) != 0)
+											break;
+										n839 = n839 + 1;
+										p840 = p944;
+										n841 = n945;
+									}
+								}
+								if (load64u(p21 + 16) == 0) {
+									b952 = true;
+									n953 = 0;
+									goto L90;
+								}
+								rattle_dealloc(loadptru(p21));
+								b952 = true;
+								n953 = 0;
+								goto L90;
+L82: ;
+L84:
+								{
+									uint64_t n954 = n839 + 1;
+									if (load64u(p21 + 16) == 0) {
+										b952 = false;
+										n953 = n954;
+									} else {
+										rattle_dealloc(loadptru(p21));
+										b952 = false;
+										n953 = n954;
+									}
+								}
+L90:
+								{
+									if (load64u(p23 + 16) != 0)
+										rattle_dealloc(loadptru(p23));
+									byte *p955 = loadptru(p22 + 72);
+									uint64_t n956 = load64u(p22 + 88);
+									byte *p957 = loadptru(p22 + 1440);
+									uint64_t n958 = load64u(p22 + 1456);
+									if (load64u(p22 + 48) != 0)
+										rattle_dealloc(loadptru(p22 + 32));
+									if (n956 != 0)
+										rattle_dealloc(p955);
+									if (n958 != 0)
+										rattle_dealloc(p957);
+									if (load64u(p22 + 1488) != 0)
+										rattle_dealloc(loadptru(p22 + 1472));
+									if (b952)
+										goto L91;
+									n959 = 2;
+									n960 = n953;
+									goto L92;
+								}
+L81:
+								{
+									uint64_t n971;
+									if (load64u(p21 + 16) != 0)
+										rattle_dealloc(loadptru(p21));
+									uint64_t n961 = load64(p22 + 8);
+									uint64_t n962 = load64(p22 + 56);
+									uint64_t n963 = load64(p22 + 24);
+									byte *p964 = loadptr(p22 + 72);
+									uint64_t n965 = (uint64_t)load32(at(p964, n963 << 3) + 4);
+									bool b966 = n963 != n965;
+									uint64_t n967 = load64(p22 + 96);
+									uint64_t n968 = b966 ? (n965 - n967) : 0;
+									uint64_t n969 = 0;
+									bool b970 = b966;
+									for (;;) {
+										if (n969 == n962) {
+											n971 = n962;
+											break;
+										}
+										if (!b970) {
+											n971 = n969;
+											break;
+										}
+										uint64_t n972 = (uint64_t)load32(at(p964, (n967 + n968) << 3) + 4);
+										n968 = usub_sat64(n972, n967);
+										n969 = n969 + 1;
+										b970 = n967 <= n972;
+									}
+									uint8_t n973 = tp_text_push_end(p23, n961, n962 - n971);
+									if ((n973 & 1) == 0) {
+										uint64_t n978 = load64u(p23);
+										uint64_t n979 = load64u(p23 + 8);
+										uint64_t n980 = load64u(p23 + 16);
+										byte *p981 = loadptru(p22 + 72);
+										uint64_t n982 = load64u(p22 + 88);
+										byte *p983 = loadptru(p22 + 1440);
+										uint64_t n984 = load64u(p22 + 1456);
+										if (load64u(p22 + 48) != 0)
+											rattle_dealloc(loadptru(p22 + 32));
+										if (n982 != 0)
+											rattle_dealloc(p981);
+										if (n984 != 0)
+											rattle_dealloc(p983);
+										if (load64u(p22 + 1488) != 0)
+											rattle_dealloc(loadptru(p22 + 1472));
+										byte *p985 = (byte *)(uintptr_t)n978;
+										uint64_t n986 = 0;
+										while (n986 < n979) {
+											uint64_t n987 = n979 - n986;
+											uint64_t n988 = os_write(1, at(p985, n986), n987);
+											if ((int64_t)n988 < (int64_t)0) {
+												tp_error_last_error(p18);
+												goto L93;
+											}
+											uint64_t n989 = umin64(n988, n987);
+											if (n989 == 0)
+												goto L93;
+											n986 = n986 + n989;
+										}
+										if (n980 != 0)
+											rattle_dealloc(p985);
+										if (!b830)
+											rattle_dealloc(p828);
+										n990 = 0;
+										n991 = 0;
+										n992 = 0;
+										n993 = 0;
+										n994 = 0;
+										n995 = 0;
+										goto L94;
+L93:
+										{
+											store8(p4 + 12, 1);
+											if (n980 != 0)
+												rattle_dealloc(p985);
+											if (b830) {
+												n996 = 4;
+												n997 = n986;
+												goto L95;
+											}
+											rattle_dealloc(p828);
+											n996 = 4;
+											n997 = n986;
+											goto L95;
+										}
+									}
+									if (load64u(p23 + 16) != 0)
+										rattle_dealloc(loadptru(p23));
+									byte *p974 = loadptru(p22 + 72);
+									uint64_t n975 = load64u(p22 + 88);
+									byte *p976 = loadptru(p22 + 1440);
+									uint64_t n977 = load64u(p22 + 1456);
+									if (load64u(p22 + 48) != 0)
+										rattle_dealloc(loadptru(p22 + 32));
+									if (n975 != 0)
+										rattle_dealloc(p974);
+									if (n977 != 0)
+										rattle_dealloc(p976);
+									if (load64u(p22 + 1488) != 0)
+										rattle_dealloc(loadptru(p22 + 1472));
+								}
+							}
+L80: ;
+L91:
+							{
+								n959 = 3;
+								n960 = 0;
+							}
+L92:
+							{
+								if (b830) {
+									n996 = n959;
+									n997 = n960;
+								} else {
+									rattle_dealloc(p828);
+									n996 = n959;
+									n997 = n960;
+								}
+							}
+						} else {
+							uint8_t n998;
+							switch (MOSTLY_0(load8(p24 + 1))) {
+							case 0: {
+								n998 = 0;
+								break;
+							}
+							case 1: {
+								n998 = 1;
+								break;
+							}
+							case 2: {
+								n998 = 3;
+								break;
+							}
+							default: {
+								UNREACHABLE();
+							}
+							}
+							if (n805 != 0)
+								rattle_dealloc(p807);
+							if (n802 == 0) {
+								n996 = n998;
+								n997 = 0;
+							} else {
+								rattle_dealloc(p804);
+								n996 = n998;
+								n997 = 0;
+							}
+						}
+L95:
+						{
+							n990 = n997;
+							n991 = 0;
+							n992 = n996;
+							n993 = 1;
+							n994 = 0;
+							n995 = 1;
+						}
+						break;
+					}
+					case 1: {
+						memcpy(p26, p103 + 6, 32);
+						storeptru(p26 + 32, p807);
+						store64u(p26 + 40, n806);
+						store64u(p26 + 48, n805);
+						memcpy(p26 + 56, p104, 16);
+						storeptru(p26 + 72, p804);
+						store64u(p26 + 80, n803);
+						store64u(p26 + 88, n802);
+						memcpy(p26 + 96, p105, 288);
+						store64(p26 + 384, n93);
+						store64(p26 + 392, n94);
+						store64(p26 + 400, n117);
+						memcpy(p26 + 408, p28, 512);
+						memset(p26 + 920, 0, 520);
+						storeptru(p26 + 1440, p6);
+						memset(p26 + 1448, 0, 24);
+						storeptru(p26 + 1472, p6);
+						memset(p26 + 1480, 0, 16);
+						tp_verbs_talk(p25, p26, n89, (n90 & 1) != 0, p4, p5);
+						n990 = load64(p25 + 24);
+						n991 = load8(p25 + 17);
+						n992 = load8(p25 + 16);
+						n993 = (uint64_t)load8(p25 + 8);
+						n994 = load8(p25 + 1);
+						n995 = load8(p25);
+						break;
+					}
+					case 2: {
+						uint8_t n1000;
+						uint64_t n1001;
+						memset(p14, 0, 24);
+						memset(p15, 0, 1520);
+						memset(p16, 0, 96);
+						memset(p17, 0, 24);
+						of_i64_i64 s999 = rattle_alloc(16384, 1);
+						if ((s999.f0 & 1) == 0) {
+							if (n805 != 0)
+								rattle_dealloc(p807);
+							if (n802 == 0) {
+								n1000 = 2;
+								n1001 = 0;
+							} else {
+								rattle_dealloc(p804);
+								n1000 = 2;
+								n1001 = 0;
+							}
+						} else {
+							uint64_t n1007, n1018, n1024, n1034, n1056, n1058, n1060, n1067;
+							uint8_t n1053;
+							byte *p1055, *p1057, *p1059;
+							byte *p1002 = (byte *)(uintptr_t)s999.f1;
+							uint64_t n1003 = 0;
+							while (n1003 != 16383) {
+								store8(inside(p1002, n1003), 0);
+								n1003 = n1003 + 1;
+							}
+							store8(p1002 + 16383, 0);
+							storeptru(p14, p6);
+							memset(p14 + 8, 0, 16);
+							memcpy(p15, p103 + 6, 32);
+							storeptru(p15 + 32, p807);
+							store64u(p15 + 40, n806);
+							store64u(p15 + 48, n805);
+							memcpy(p15 + 56, p104, 16);
+							storeptru(p15 + 72, p804);
+							store64u(p15 + 80, n803);
+							store64u(p15 + 88, n802);
+							memcpy(p15 + 96, p105, 288);
+							store64(p15 + 384, n93);
+							store64(p15 + 392, n94);
+							store64(p15 + 400, n117);
+							memcpy(p15 + 408, p28, 512);
+							memset(p15 + 920, 0, 520);
+							storeptru(p15 + 1440, p6);
+							memset(p15 + 1448, 0, 24);
+							storeptru(p15 + 1472, p6);
+							memset(p15 + 1480, 0, 16);
+							storeptru(p15 + 1496, p6);
+							memset(p15 + 1504, 0, 16);
+							store64(p16, 0);
+							storeptru(p16 + 8, p6);
+							memset(p16 + 16, 0, 16);
+							storeptru(p16 + 32, p6);
+							memset(p16 + 40, 0, 16);
+							storeptru(p16 + 56, p6);
+							memset(p16 + 64, 0, 16);
+							store64u(p16 + 80, 1);
+							store8(p16 + 88, 1);
+							memset(p16 + 89, 0, 7);
+							uint64_t n1004 = 0;
+							for (;;) {
+								if (n1004 == UINT64_MAX)
+									goto L96;
+								memset(p13, 0, 96);
+								tp_WatchedRead_read(p13, p4, p1002, 16384);
+								uint64_t n1005 = load64(p13 + 8);
+								if (load8(p13) != 0)
+									break;
+								tp_Cutter_take_in(p17, p16, p1002, n1005, p5);
+								if (load8(p17) != 0)
+									goto L97;
+								uint8_t n1006 = load8(p17 + 8);
+								n1007 = load64u(p17 + 16);
+								byte *p1008 = loadptr(p16 + 8);
+								uint64_t n1009 = load64(p16 + 16);
+								if (load64(p14 + 8) != 0)
+									store64(p14 + 8, 0);
+								uint64_t n1010 = 0;
+								while (n1010 != n1009) {
+									uint8_t n1026, n1028;
+									byte *p1011 = at(p1008, n1010 * 48);
+									uint64_t n1012 = load64(p15 + 400);
+									if ((n810 & 1) != 0) {
+										uint8_t n1013 = load8(p1011);
+										switch (n1013) {
+										case 5: {
+											uint64_t n1014 = load64(p1011 + 8);
+											for (;;) {
+												uint64_t n1017;
+												if (n1014 == 0)
+													goto L98;
+												uint64_t n1015 = load64(p15 + 8);
+												of_i8_i64 s1016 = tp_SmoothWheelWheel_quiet_until(p15);
+												if (s1016.f0 == 1) {
+													if ((s1016.f1 > load64(p15)) || ((load8(p15 + 1432) & 1) != 0)) {
+														n1017 = n1014;
+													} else {
+														n1017 = umin64(s1016.f1 - n1015, n1014);
+													}
+												} else {
+													n1017 = n1014;
+												}
+												n1018 = load64(p14 + 8);
+												uint8_t n1019 = tp_script_run_answer_ticks(p15, n1017, p15 + 1496, p14);
+												if ((n1019 & 1) != 0)
+													goto L99;
+												n1014 = n1014 - n1017;
+											}
+											break;
+										}
+										case 6: {
+											uint64_t n1020 = usub_sat64(load64(p1011 + 8), load64(p15 + 8));
+											for (;;) {
+												uint64_t n1023;
+												if (n1020 == 0)
+													goto L98;
+												uint64_t n1021 = load64(p15 + 8);
+												of_i8_i64 s1022 = tp_SmoothWheelWheel_quiet_until(p15);
+												if (s1022.f0 == 1) {
+													if ((s1022.f1 > load64(p15)) || ((load8(p15 + 1432) & 1) != 0)) {
+														n1023 = n1020;
+													} else {
+														n1023 = umin64(s1022.f1 - n1021, n1020);
+													}
+												} else {
+													n1023 = n1020;
+												}
+												n1024 = load64(p14 + 8);
+												uint8_t n1025 = tp_script_run_answer_ticks(p15, n1023, p15 + 1496, p14);
+												if ((n1025 & 1) != 0)
+													goto L100;
+												n1020 = n1020 - n1023;
+											}
+											break;
+										}
+										case 0:
+										case 1:
+										case 2:
+										case 3:
+										case 4:
+										case 7:
+										case 8: {
+											n1026 = n1013;
+											break;
+										}
+										default: {
+											UNREACHABLE();
+										}
+										}
+									} else {
+										n1026 = load8(p1011);
+									}
+									switch (MOSTLY_0(n1026)) {
+									case 0: {
+										uint8_t n1027 = tp_script_run_answer_start(p15, load64(p1011 + 8), load64(p1011 + 16), load64(p1011 + 24), load64(p1011 + 32), p14);
+										n1028 = n1027;
+										break;
+									}
+									case 2: {
+										uint8_t n1029 = tp_script_run_answer_stop(p15, load64(p1011 + 8), load64(p1011 + 16), load64(p1011 + 24), p14);
+										n1028 = n1029;
+										break;
+									}
+									case 3: {
+										uint8_t n1030 = tp_script_run_answer_restart(p15, load64(p1011 + 8), load64(p1011 + 16), load64(p1011 + 24), load64(p1011 + 32), load64(p1011 + 40), p14);
+										n1028 = n1030;
+										break;
+									}
+									case 5: {
+										uint8_t n1031 = tp_script_run_answer_ticks(p15, load64(p1011 + 8), p15 + 1496, p14);
+										n1028 = n1031;
+										break;
+									}
+									case 7: {
+										uint8_t n1032 = tp_script_run_answer_close(p15, p15 + 1496, p14);
+										n1028 = n1032;
+										break;
+									}
+									case 1:
+									case 4:
+									case 6:
+									case 8: {
+										store64u(p12, (uint64_t)n1026);
+										store64(p12 + 8, load64u(p1011 + 8));
+										store64(p12 + 16, load64u(p1011 + 16));
+										store64(p12 + 24, load64u(p1011 + 24));
+										store64(p12 + 32, load64u(p1011 + 32));
+										store64(p12 + 40, load64u(p1011 + 40));
+										uint8_t n1033 = tp_script_run_answer_outs(p15, p12, p15 + 1496, p14);
+										n1028 = n1033;
+										break;
+									}
+									default: {
+										UNREACHABLE();
+									}
+									}
+									if ((n1028 & 1) != 0)
+										goto L101;
+L98:
+									{
+										uint64_t n1036, n1039, n1041;
+										bool b1037;
+										uint8_t n1038, n1048;
+										n1034 = load64(p14 + 8);
+										uint64_t n1035 = load64(p15 + 8);
+										if (n816 == 1) {
+											if (n817 > n1035) {
+												n1036 = n1034;
+												goto L102;
+											}
+										}
+										if (n818 == 1) {
+											if (n1035 > n819) {
+												n1036 = n1034;
+												goto L102;
+											}
+										}
+										b1037 = (n809 & 1) != 0;
+										store64(p11, (uint64_t)n812);
+										store64(p11 + 8, n813);
+										store64(p11 + 16, (uint64_t)n814);
+										store64(p11 + 24, n815);
+										store64(p11 + 32, ((n811 & 1) != 0) ? n1012 : 0);
+										n1038 = tp_names_push_number(p14, (byte *)tp_static_383, 6, n1035);
+										if ((n1038 & 1) != 0)
+											goto L103;
+										n1039 = load64(p14 + 8);
+										if (load64(p14 + 16) == n1039) {
+											bool b1040 = tp_Vec_grow_amortized(p14, 1);
+											if (!b1040)
+												goto L103;
+											n1041 = load64(p14 + 8);
+										} else {
+											n1041 = n1039;
+										}
+										store8(inside(loadptr(p14), n1041), 10);
+										store64(p14 + 8, n1041 + 1);
+										if (b1037) {
+											uint64_t n1047;
+											uint64_t n1042 = load64(p15 + 376);
+											uint8_t n1043 = tp_names_push_number(p14, (byte *)tp_static_394, 9, load64(p15 + 368));
+											if ((n1043 & 1) != 0)
+												goto L103;
+											uint8_t n1044 = tp_names_push_number(p14, (byte *)tp_static_395, 7, n1042);
+											if ((n1044 & 1) != 0)
+												goto L103;
+											uint64_t n1045 = load64(p14 + 8);
+											if (load64(p14 + 16) == n1045) {
+												bool b1046 = tp_Vec_grow_amortized(p14, 1);
+												if (!b1046)
+													goto L103;
+												n1047 = load64(p14 + 8);
+											} else {
+												n1047 = n1045;
+											}
+											store8(inside(loadptr(p14), n1047), 10);
+											store64(p14 + 8, n1047 + 1);
+										}
+										n1048 = tp_lists_push_lists(p14, p15 + 32, 2, 0, p11);
+										if ((n1048 & 1) != 0)
+											goto L104;
+										n1036 = load64(p14 + 8);
+L102:
+										{
+											byte *p1049 = loadptr(p14);
+											uint64_t n1050 = 0;
+											while (n1050 < n1036) {
+												uint64_t n1051 = n1036 - n1050;
+												uint64_t n1052 = os_write(1, at(p1049, n1050), n1051);
+												if ((int64_t)n1052 < (int64_t)0) {
+													tp_error_last_error(p9);
+													store8(p4 + 12, 1);
+													n1053 = 3;
+													goto L105;
+												}
+												uint64_t n1054 = umin64(n1052, n1051);
+												if (n1054 == 0) {
+													store8(p4 + 12, 1);
+													n1053 = 3;
+													goto L105;
+												}
+												n1050 = n1050 + n1054;
+											}
+											if (load64(p14 + 8) != 0)
+												store64(p14 + 8, 0);
+											n1010 = n1010 + 1;
+										}
+									}
+								}
+								if (n1006 == 1)
+									goto L106;
+								if (n1005 == 0)
+									goto L107;
+								n1004 = n1004 + 1;
+							}
+							if (load64u(p16 + 24) != 0)
+								rattle_dealloc(loadptru(p16 + 8));
+							if (load64u(p16 + 48) != 0)
+								rattle_dealloc(loadptru(p16 + 32));
+							if (load64u(p16 + 72) != 0)
+								rattle_dealloc(loadptru(p16 + 56));
+							p1055 = loadptru(p15 + 72);
+							n1056 = load64u(p15 + 88);
+							p1057 = loadptru(p15 + 1440);
+							n1058 = load64u(p15 + 1456);
+							p1059 = loadptru(p15 + 1472);
+							n1060 = load64u(p15 + 1488);
+							if (load64u(p15 + 48) != 0)
+								rattle_dealloc(loadptru(p15 + 32));
+							if (n1056 != 0)
+								rattle_dealloc(p1055);
+							if (n1058 != 0)
+								rattle_dealloc(p1057);
+							if (n1060 != 0)
+								rattle_dealloc(p1059);
+							if (load64u(p15 + 1512) != 0)
+								rattle_dealloc(loadptru(p15 + 1496));
+							if (load64u(p14 + 16) != 0)
+								rattle_dealloc(loadptru(p14));
+							rattle_dealloc(p1002);
+							n1000 = 0;
+							n1001 = 0;
+							goto L108;
+L97:
+							{
+								if (load64u(p16 + 24) != 0)
+									rattle_dealloc(loadptru(p16 + 8));
+								if (load64u(p16 + 48) != 0)
+									rattle_dealloc(loadptru(p16 + 32));
+								if (load64u(p16 + 72) != 0)
+									rattle_dealloc(loadptru(p16 + 56));
+								byte *p1061 = loadptru(p15 + 72);
+								uint64_t n1062 = load64u(p15 + 88);
+								byte *p1063 = loadptru(p15 + 1440);
+								uint64_t n1064 = load64u(p15 + 1456);
+								byte *p1065 = loadptru(p15 + 1472);
+								uint64_t n1066 = load64u(p15 + 1488);
+								if (load64u(p15 + 48) != 0)
+									rattle_dealloc(loadptru(p15 + 32));
+								if (n1062 != 0)
+									rattle_dealloc(p1061);
+								if (n1064 != 0)
+									rattle_dealloc(p1063);
+								if (n1066 != 0)
+									rattle_dealloc(p1065);
+								if (load64u(p15 + 1512) != 0)
+									rattle_dealloc(loadptru(p15 + 1496));
+								if (load64u(p14 + 16) != 0)
+									rattle_dealloc(loadptru(p14));
+								rattle_dealloc(p1002);
+								n1000 = 2;
+								n1001 = 0;
+								goto L108;
+							}
+L101:
+							{
+								if (load64(p14 + 8) == 0) {
+									n1067 = 0;
+									goto L109;
+								}
+								store64(p14 + 8, 0);
+								n1067 = 0;
+								goto L109;
+							}
+L100:
+							{
+								uint64_t n1068 = load64(p14 + 8);
+								if (!((int)(n1068 > n1024) | (int)(umin64(n1068, n1024) != 0))) {
+									n1067 = n1068;
+									goto L109;
+								}
+								store64(p14 + 8, 0);
+								n1067 = 0;
+								goto L109;
+							}
+L99:
+							{
+								uint64_t n1069 = load64(p14 + 8);
+								if (!((int)(n1069 > n1018) | (int)(umin64(n1069, n1018) != 0))) {
+									n1067 = n1069;
+									goto L109;
+								}
+								store64(p14 + 8, 0);
+								n1067 = 0;
+								goto L109;
+							}
+L103: ;
+L104:
+							{
+								uint64_t n1070 = load64(p14 + 8);
+								if (n1070 > n1034) {
+									store64(p14 + 8, n1034);
+									n1067 = n1034;
+								} else {
+									n1067 = n1070;
+								}
+							}
+L109:
+							{
+								byte *p1071 = loadptr(p14);
+								uint64_t n1072 = 0;
+								for (;;) {
+									if (n1072 >= n1067) {
+										n1053 = 2;
+										break;
+									}
+									uint64_t n1073 = n1067 - n1072;
+									uint64_t n1074 = os_write(1, at(p1071, n1072), n1073);
+									if ((int64_t)n1074 < (int64_t)0) {
+										tp_error_last_error(p10);
+										store8(p4 + 12, 1);
+										n1053 = 3;
+										break;
+									}
+									uint64_t n1075 = umin64(n1074, n1073);
+									if (n1075 == 0) {
+										store8(p4 + 12, 1);
+										n1053 = 3;
+										break;
+									}
+									n1072 = n1072 + n1075;
+								}
+							}
+L105:
+							{
+								if (load64u(p16 + 24) != 0)
+									rattle_dealloc(loadptru(p16 + 8));
+								if (load64u(p16 + 48) != 0)
+									rattle_dealloc(loadptru(p16 + 32));
+								if (load64u(p16 + 72) != 0)
+									rattle_dealloc(loadptru(p16 + 56));
+								byte *p1076 = loadptru(p15 + 72);
+								uint64_t n1077 = load64u(p15 + 88);
+								byte *p1078 = loadptru(p15 + 1440);
+								uint64_t n1079 = load64u(p15 + 1456);
+								byte *p1080 = loadptru(p15 + 1472);
+								uint64_t n1081 = load64u(p15 + 1488);
+								if (load64u(p15 + 48) != 0)
+									rattle_dealloc(loadptru(p15 + 32));
+								if (n1077 != 0)
+									rattle_dealloc(p1076);
+								if (n1079 != 0)
+									rattle_dealloc(p1078);
+								if (n1081 != 0)
+									rattle_dealloc(p1080);
+								if (load64u(p15 + 1512) != 0)
+									rattle_dealloc(loadptru(p15 + 1496));
+								if (load64u(p14 + 16) != 0)
+									rattle_dealloc(loadptru(p14));
+								rattle_dealloc(p1002);
+								n1000 = n1053;
+								n1001 = 0;
+								goto L108;
+							}
+L107:
+							{
+								uint64_t n1082;
+								uint8_t n1083, n1084;
+								bool b1085;
+								memset(p8, 0, 24);
+								tp_Cutter_end(p8, p16, p5);
+								if (load8(p8) == 0) {
+									if (load8(p8 + 8) == 1) {
+										n1082 = load64u(p8 + 16);
+										n1083 = 1;
+										n1084 = 3;
+										b1085 = true;
+									} else {
+										uint64_t n1096;
+										if (load64(p14 + 8) != 0)
+											store64(p14 + 8, 0);
+										uint64_t n1086 = load64(p15 + 8);
+										uint64_t n1087 = load64(p15 + 56);
+										uint64_t n1088 = load64(p15 + 24);
+										byte *p1089 = loadptr(p15 + 72);
+										uint64_t n1090 = (uint64_t)load32(at(p1089, n1088 << 3) + 4);
+										bool b1091 = n1088 != n1090;
+										uint64_t n1092 = load64(p15 + 96);
+										uint64_t n1093 = b1091 ? (n1090 - n1092) : 0;
+										uint64_t n1094 = 0;
+										bool b1095 = b1091;
+										for (;;) {
+											if (n1094 == n1087) {
+												n1096 = n1087;
+												break;
+											}
+											if (!b1095) {
+												n1096 = n1094;
+												break;
+											}
+											uint64_t n1097 = (uint64_t)load32(at(p1089, (n1092 + n1093) << 3) + 4);
+											n1093 = usub_sat64(n1097, n1092);
+											n1094 = n1094 + 1;
+											b1095 = n1092 <= n1097;
+										}
+										uint8_t n1098 = tp_text_push_end(p14, n1086, n1087 - n1096);
+										if ((n1098 & 1) != 0) {
+											n1082 = 0;
+											n1083 = 2;
+											n1084 = 3;
+											b1085 = true;
+										} else {
+											byte *p1099 = loadptr(p14);
+											uint64_t n1100 = load64(p14 + 8);
+											uint64_t n1101 = 0;
+											while (n1101 < n1100) {
+												uint64_t n1102 = n1100 - n1101;
+												uint64_t n1103 = os_write(1, at(p1099, n1101), n1102);
+												if ((int64_t)n1103 < (int64_t)0) {
+													tp_error_last_error(p7);
+													goto L110;
+												}
+												uint64_t n1104 = umin64(n1103, n1102);
+												if (n1104 == 0)
+													goto L110;
+												n1101 = n1101 + n1104;
+											}
+											n1082 = 0;
+											n1083 = 0;
+											n1084 = (uint8_t)(((load8(p16 + 88) & 1) != 0) ? 0 : 3);
+											b1085 = false;
+											goto L111;
+L110:
+											{
+												store8(p4 + 12, 1);
+												n1082 = 0;
+												n1083 = 3;
+												n1084 = 3;
+												b1085 = true;
+											}
+										}
+									}
+								} else {
+									n1082 = 0;
+									n1083 = 2;
+									n1084 = 3;
+									b1085 = true;
+								}
+L111:
+								{
+									if (load64u(p16 + 24) != 0)
+										rattle_dealloc(loadptru(p16 + 8));
+									if (load64u(p16 + 48) != 0)
+										rattle_dealloc(loadptru(p16 + 32));
+									if (load64u(p16 + 72) != 0)
+										rattle_dealloc(loadptru(p16 + 56));
+									byte *p1105 = loadptru(p15 + 72);
+									uint64_t n1106 = load64u(p15 + 88);
+									byte *p1107 = loadptru(p15 + 1440);
+									uint64_t n1108 = load64u(p15 + 1456);
+									byte *p1109 = loadptru(p15 + 1472);
+									uint64_t n1110 = load64u(p15 + 1488);
+									if (load64u(p15 + 48) != 0)
+										rattle_dealloc(loadptru(p15 + 32));
+									if (n1106 != 0)
+										rattle_dealloc(p1105);
+									if (n1108 != 0)
+										rattle_dealloc(p1107);
+									if (n1110 != 0)
+										rattle_dealloc(p1109);
+									if (load64u(p15 + 1512) != 0)
+										rattle_dealloc(loadptru(p15 + 1496));
+									if (load64u(p14 + 16) != 0)
+										rattle_dealloc(loadptru(p14));
+									rattle_dealloc(p1002);
+									if (b1085) {
+										n990 = n1082;
+										n991 = 0;
+										n992 = n1083;
+										n993 = 2;
+										n994 = 0;
+										n995 = 1;
+										goto L94;
+									}
+									n990 = 0;
+									n991 = 0;
+									n992 = 0;
+									n993 = 0;
+									n994 = n1084;
+									n995 = 0;
+									goto L94;
+								}
+							}
+L106:
+							{
+								if (load64u(p16 + 24) != 0)
+									rattle_dealloc(loadptru(p16 + 8));
+								if (load64u(p16 + 48) != 0)
+									rattle_dealloc(loadptru(p16 + 32));
+								if (load64u(p16 + 72) != 0)
+									rattle_dealloc(loadptru(p16 + 56));
+								byte *p1111 = loadptru(p15 + 72);
+								uint64_t n1112 = load64u(p15 + 88);
+								byte *p1113 = loadptru(p15 + 1440);
+								uint64_t n1114 = load64u(p15 + 1456);
+								byte *p1115 = loadptru(p15 + 1472);
+								uint64_t n1116 = load64u(p15 + 1488);
+								if (load64u(p15 + 48) != 0)
+									rattle_dealloc(loadptru(p15 + 32));
+								if (n1112 != 0)
+									rattle_dealloc(p1111);
+								if (n1114 != 0)
+									rattle_dealloc(p1113);
+								if (n1116 != 0)
+									rattle_dealloc(p1115);
+								if (load64u(p15 + 1512) != 0)
+									rattle_dealloc(loadptru(p15 + 1496));
+								if (load64u(p14 + 16) != 0)
+									rattle_dealloc(loadptru(p14));
+								rattle_dealloc(p1002);
+								n1000 = 1;
+								n1001 = n1007;
+								goto L108;
+							}
+L96:
+							{
+								if (load64u(p16 + 24) != 0)
+									rattle_dealloc(loadptru(p16 + 8));
+								if (load64u(p16 + 48) != 0)
+									rattle_dealloc(loadptru(p16 + 32));
+								if (load64u(p16 + 72) != 0)
+									rattle_dealloc(loadptru(p16 + 56));
+								byte *p1117 = loadptru(p15 + 72);
+								uint64_t n1118 = load64u(p15 + 88);
+								byte *p1119 = loadptru(p15 + 1440);
+								uint64_t n1120 = load64u(p15 + 1456);
+								byte *p1121 = loadptru(p15 + 1472);
+								uint64_t n1122 = load64u(p15 + 1488);
+								if (load64u(p15 + 48) != 0)
+									rattle_dealloc(loadptru(p15 + 32));
+								if (n1118 != 0)
+									rattle_dealloc(p1117);
+								if (n1120 != 0)
+									rattle_dealloc(p1119);
+								if (n1122 != 0)
+									rattle_dealloc(p1121);
+								if (load64u(p15 + 1512) != 0)
+									rattle_dealloc(loadptru(p15 + 1496));
+								if (load64u(p14 + 16) != 0)
+									rattle_dealloc(loadptru(p14));
+								rattle_dealloc(p1002);
+								n1000 = 4;
+								n1001 = 0;
+							}
+						}
+L108:
+						{
+							n990 = n1001;
+							n991 = 0;
+							n992 = n1000;
+							n993 = 2;
+							n994 = 0;
+							n995 = 1;
+						}
+						break;
+					}
+					default: {
+						UNREACHABLE();
+					}
+					}
+L94:
+					{
+						n820 = n995;
+						n821 = n994;
+						n822 = n993;
+						n823 = n992;
+						n824 = n991;
+						n825 = n990;
+					}
+				}
+				store8(p106, n820);
+				store8(p106 + 1, n821);
+				store64u(p106 + 8, n822);
+				store8(p106 + 16, n823);
+				store8(p106 + 17, n824);
+				store64u(p106 + 24, n825);
+				break;
+			}
+			default: {
+				UNREACHABLE();
+			}
+			}
+			uint8_t n1123 = load8(p106 + 1);
+			uint64_t n1124 = (uint64_t)load8(p106 + 8);
+			uint8_t n1125 = load8(p106 + 16);
+			uint8_t n1126 = load8(p106 + 17);
+			uint64_t n1127 = load64u(p106 + 24);
+			store8(p1, load8(p106));
+			store8(p1 + 1, n1123);
+			store64u(p1 + 8, n1124);
+			store8(p1 + 16, n1125);
+			store8(p1 + 17, n1126);
+			store64u(p1 + 24, n1127);
+			return;
+		}
+		n111 = n113;
+		n112 = 2;
 	}
+	store8(p1, 1);
+	store8(p1 + 1, 0);
+	store64u(p1 + 8, 0);
+	store8(p1 + 16, (uint8_t)n112);
+	store8(p1 + 17, (uint8_t)(n112 >> 8));
+	store64u(p1 + 24, n111);
+	return;
 }
 
 /* rtrb::release::drop_slow */
@@ -105378,371 +105262,429 @@ OWN uint8_t tp_command_run_subcommand(byte *p1, uint8_t n2, byte *p3, byte *p4, 
 	ALIGN(8) byte p77[16];
 	ALIGN(8) byte p78[24];
 	ALIGN(8) byte p79[32];
-	ALIGN(8) byte p80[1504];
-	ALIGN(8) byte p81[384];
-	ALIGN(8) byte p82[32];
-	ALIGN(8) byte p83[128];
-	ALIGN(8) byte p84[280];
-	ALIGN(1) byte p85[287];
-	ALIGN(8) byte p86[360];
-	ALIGN(2) byte p87[390];
-	ALIGN(8) byte p88[1352];
-	ALIGN(8) byte p89[232];
-	ALIGN(8) byte p90[32];
-	ALIGN(8) byte p91[128];
-	ALIGN(1) byte p92[127];
-	ALIGN(8) byte p93[1352];
-	ALIGN(8) byte p94[232];
-	ALIGN(8) byte p95[32];
-	ALIGN(8) byte p96[128];
-	ALIGN(1) byte p97[127];
-	ALIGN(8) byte p98[1248];
-	ALIGN(8) byte p99[32];
-	ALIGN(8) byte p100[40];
-	ALIGN(8) byte p101[1176];
-	ALIGN(8) byte p102[56];
-	ALIGN(8) byte p103[32];
-	ALIGN(8) byte p104[40];
-	ALIGN(8) byte p105[136];
-	ALIGN(1) byte p106[127];
-	ALIGN(1) byte p107[127];
-	ALIGN(2) byte p108[390];
-	ALIGN(8) byte p109[32];
-	ALIGN(8) byte p110[80];
-	ALIGN(8) byte p111[40];
-	ALIGN(8) byte p112[32];
-	ALIGN(8) byte p118[16];
+	ALIGN(8) byte p80[40];
+	ALIGN(8) byte p81[1504];
+	ALIGN(8) byte p82[384];
+	ALIGN(8) byte p83[32];
+	ALIGN(8) byte p84[128];
+	ALIGN(8) byte p85[280];
+	ALIGN(1) byte p86[287];
+	ALIGN(8) byte p87[360];
+	ALIGN(2) byte p88[390];
+	ALIGN(8) byte p89[40];
+	ALIGN(8) byte p90[1352];
+	ALIGN(8) byte p91[232];
+	ALIGN(8) byte p92[32];
+	ALIGN(8) byte p93[128];
+	ALIGN(1) byte p94[127];
+	ALIGN(1) byte p95[127];
+	ALIGN(8) byte p96[96];
+	ALIGN(8) byte p97[40];
+	ALIGN(8) byte p98[1352];
+	ALIGN(8) byte p99[232];
+	ALIGN(8) byte p100[32];
+	ALIGN(8) byte p101[128];
+	ALIGN(1) byte p102[127];
+	ALIGN(1) byte p103[127];
+	ALIGN(8) byte p104[96];
+	ALIGN(8) byte p105[40];
+	ALIGN(8) byte p106[1248];
+	ALIGN(8) byte p107[32];
+	ALIGN(8) byte p108[40];
+	ALIGN(8) byte p109[1176];
+	ALIGN(8) byte p110[56];
+	ALIGN(8) byte p111[32];
+	ALIGN(8) byte p112[136];
+	ALIGN(1) byte p113[127];
+	ALIGN(8) byte p114[96];
+	ALIGN(1) byte p115[127];
+	ALIGN(8) byte p116[96];
+	ALIGN(2) byte p117[390];
+	ALIGN(8) byte p118[32];
+	ALIGN(8) byte p119[80];
+	ALIGN(8) byte p120[40];
 	ALIGN(8) byte p121[32];
-	ALIGN(8) byte p122[32];
-	ALIGN(8) byte p123[24];
-	ALIGN(8) byte p124[24];
-	uint64_t n113 = load64u(p1 + 8);
-	uint8_t n114 = (uint8_t)n113;
-	uint8_t n115 = (uint8_t)(n113 >> 8);
-	uint64_t n116 = n113 >> 16;
-	uint64_t n117 = load64u(p1 + 16);
-	uint64_t n119 = (uint64_t)load8(p4);
-	uint8_t n120 = load8(p1);
-	memcpy(p118, p4 + 8, 16);
-	memset(p121, 0, 32);
-	memset(p122, 0, 32);
-	memset(p123, 0, 24);
-	memset(p124, 0, 24);
-	switch (MOSTLY_0(n120)) {
+	ALIGN(8) byte p127[16];
+	ALIGN(8) byte p130[32];
+	ALIGN(8) byte p131[32];
+	ALIGN(8) byte p132[24];
+	ALIGN(8) byte p133[24];
+	uint64_t n122 = load64u(p1 + 8);
+	uint8_t n123 = (uint8_t)n122;
+	uint8_t n124 = (uint8_t)(n122 >> 8);
+	uint64_t n125 = n122 >> 16;
+	uint64_t n126 = load64u(p1 + 16);
+	uint64_t n128 = (uint64_t)load8(p4);
+	uint8_t n129 = load8(p1);
+	memcpy(p127, p4 + 8, 16);
+	memset(p130, 0, 32);
+	memset(p131, 0, 32);
+	memset(p132, 0, 24);
+	memset(p133, 0, 24);
+	switch (MOSTLY_0(n129)) {
 	case 0: {
-		store64(p110, 0);
-		store8(p110, n114);
-		store8(p110 + 1, n115);
-		store8(p110 + 2, (uint8_t)n116);
-		store64(p110 + 8, n117);
-		memcpy(p110 + 16, p1 + 24, 64);
-		memcpy(p111, p1 + 88, 40);
-		memset(p109, 0, 32);
-		memset(p112, 0, 32);
+		store64(p119, 0);
+		store8(p119, n123);
+		store8(p119 + 1, n124);
+		store8(p119 + 2, (uint8_t)n125);
+		store64(p119 + 8, n126);
+		memcpy(p119 + 16, p1 + 24, 64);
+		memcpy(p120, p1 + 88, 40);
+		memset(p118, 0, 32);
+		memset(p121, 0, 32);
 		if (n2 == 1) {
-			switch (n114) {
+			switch (n123) {
 			case 1: {
-				uint64_t n131, n132, n176, n179;
-				uint8_t n174, n175, n177, n178;
-				bool b125 = (n116 & 1) != 0;
-				uint8_t n126 = load8(p111);
-				uint64_t n127 = load64u(p111 + 8);
-				uint64_t n128 = load64u(p111 + 16);
-				uint64_t n129 = load64u(p111 + 24);
-				uint64_t n130 = load64u(p111 + 32);
-				if ((n128 - 65) < UINT64_C(18446744073709551552)) {
-					n131 = 0;
-					n132 = 0;
-				} else if ((n129 - 1048577) < UINT64_C(18446744073708503040)) {
-					n131 = 0;
-					n132 = 256;
-				} else if (n130 > UINT64_C(1152921504606846975)) {
-					n131 = 0;
-					n132 = 512;
-				} else if ((n127 - 65537) < UINT64_C(18446744073709486080)) {
-					n131 = 0;
-					n132 = 1;
+				uint64_t n140, n141;
+				bool b134 = (n125 & 1) != 0;
+				uint8_t n135 = load8(p120);
+				uint64_t n136 = load64u(p120 + 8);
+				uint64_t n137 = load64u(p120 + 16);
+				uint64_t n138 = load64u(p120 + 24);
+				uint64_t n139 = load64u(p120 + 32);
+				memset(p112, 0, 136);
+				memset(p113, 0, 127);
+				memset(p114, 0, 96);
+				memset(p115, 0, 127);
+				memset(p116, 0, 96);
+				memset(p117, 0, 390);
+				if ((n137 - 65) < UINT64_C(18446744073709551552)) {
+					n140 = 0;
+					n141 = 0;
+				} else if ((n138 - 1048577) < UINT64_C(18446744073708503040)) {
+					n140 = 0;
+					n141 = 256;
+				} else if (n139 > UINT64_C(1152921504606846975)) {
+					n140 = 0;
+					n141 = 512;
+				} else if ((n136 - 65537) < UINT64_C(18446744073709486080)) {
+					n140 = 0;
+					n141 = 1;
 				} else {
-					uint64_t n133;
-					switch (MOSTLY_0(n126)) {
+					uint64_t n142;
+					switch (MOSTLY_0(n135)) {
 					case 0:
 					case 1:
 					case 2:
 					case 4: {
-						n133 = UINT64_C(1152921504606846975);
+						n142 = UINT64_C(1152921504606846975);
 						break;
 					}
 					case 3: {
-						n133 = 8639999;
+						n142 = 8639999;
 						break;
 					}
 					default: {
 						UNREACHABLE();
 					}
 					}
-					bool b134 = n133 < n130;
-					uint64_t n135 = (uint64_t)!b134;
-					if (!b134) {
-						uint8_t n143, n144, n145, n146, n147;
-						uint64_t n148;
-						store64(p104, n128);
-						store64(p104 + 8, n129);
-						store64(p104 + 16, n130);
-						store64(p104 + 24, n135);
-						store64(p104 + 32, n135);
-						memset(p105, 0, 136);
-						memset(p106, 0, 127);
-						memset(p107, 0, 127);
-						memset(p108, 0, 390);
-						uint64_t n136 = load64(p3 + 32);
-						switch (MOSTLY_0(n126)) {
+					bool b143 = n142 < n139;
+					uint64_t n144 = (uint64_t)!b143;
+					if (!b143) {
+						uint8_t n152, n153, n154, n155, n156;
+						uint64_t n157;
+						uint64_t n145 = load64(p3 + 32);
+						switch (MOSTLY_0(n135)) {
 						case 0: {
-							uint8_t n137, n138, n139, n140, n141;
-							uint64_t n142;
-							store64(p100, n128);
-							store64(p100 + 8, n129);
-							store64(p100 + 16, n130);
-							store64(p100 + 24, n135);
-							store64(p100 + 32, n135);
-							memset(p101, 0, 1176);
-							memset(p103, 0, 32);
-							if (n136 > UINT64_C(1152921504606846975)) {
-								n137 = 1;
-								n138 = 0;
-								n139 = 2;
-								n140 = 2;
-								n141 = 0;
-								n142 = 0;
+							uint8_t n146, n147, n148, n149, n150;
+							uint64_t n151;
+							store64(p108, n137);
+							store64(p108 + 8, n138);
+							store64(p108 + 16, n139);
+							store64(p108 + 24, n144);
+							store64(p108 + 32, n144);
+							memset(p109, 0, 1176);
+							memset(p111, 0, 32);
+							if (n145 > UINT64_C(1152921504606846975)) {
+								n146 = 1;
+								n147 = 0;
+								n148 = 2;
+								n149 = 2;
+								n150 = 0;
+								n151 = 0;
 							} else {
-								store64(p102, n136);
-								store64(p102 + 8, 0);
-								storeptr(p102 + 16, p7);
-								memset(p102 + 24, 0, 32);
-								tp_timer_facility_player_Player_restore_2(p101, p100, p102, p3);
-								if (load8(p101) == 0) {
-									tp_timer_commands_verbs_talk_3(p103, p101 + 8, n115, b125, p5, p6);
-									n137 = load8(p103);
-									n138 = load8(p103 + 1);
-									n139 = load8(p103 + 8);
-									n140 = load8(p103 + 16);
-									n141 = load8(p103 + 17);
-									n142 = load64u(p103 + 24);
+								store64(p110, n145);
+								store64(p110 + 8, 0);
+								storeptr(p110 + 16, p7);
+								memset(p110 + 24, 0, 32);
+								tp_timer_facility_player_Player_restore_2(p109, p108, p110, p3);
+								if (load8(p109) == 0) {
+									tp_timer_commands_verbs_talk_3(p111, p109 + 8, n124, b134, p5, p6);
+									n146 = load8(p111);
+									n147 = load8(p111 + 1);
+									n148 = load8(p111 + 8);
+									n149 = load8(p111 + 16);
+									n150 = load8(p111 + 17);
+									n151 = load64u(p111 + 24);
 								} else {
-									n137 = 1;
-									n138 = 0;
-									n139 = 2;
-									n140 = 2;
-									n141 = 0;
-									n142 = 0;
+									n146 = 1;
+									n147 = 0;
+									n148 = 2;
+									n149 = 2;
+									n150 = 0;
+									n151 = 0;
 								}
 							}
-							n143 = n137;
-							n144 = n138;
-							n145 = n139;
-							n146 = n140;
-							n147 = n141;
-							n148 = n142;
+							n152 = n146;
+							n153 = n147;
+							n154 = n148;
+							n155 = n149;
+							n156 = n150;
+							n157 = n151;
 							break;
 						}
 						case 1: {
-							uint8_t n150, n151, n152, n153, n154;
-							uint64_t n155;
-							tp_HashedWheel_new(p105, n127, n136);
-							uint8_t n149 = load8(p105);
-							memset(p98, 0, 1248);
-							memset(p99, 0, 32);
-							if (n149 == 0) {
-								tp_timer_facility_player_Player_restore(p98, p104, p105 + 8, p3);
-								if (load8(p98) == 0) {
-									tp_timer_commands_verbs_talk_2(p99, p98 + 8, n115, b125, p5, p6);
-									n150 = load8(p99);
-									n151 = load8(p99 + 1);
-									n152 = load8(p99 + 8);
-									n153 = load8(p99 + 16);
-									n154 = load8(p99 + 17);
-									n155 = load64u(p99 + 24);
+							uint8_t n159, n160, n161, n162, n163;
+							uint64_t n164;
+							tp_HashedWheel_new(p112, n136, n145);
+							uint8_t n158 = load8(p112);
+							store64(p105, n137);
+							store64(p105 + 8, n138);
+							store64(p105 + 16, n139);
+							store64(p105 + 24, n144);
+							store64(p105 + 32, n144);
+							memset(p106, 0, 1248);
+							memset(p107, 0, 32);
+							if (n158 == 0) {
+								tp_timer_facility_player_Player_restore(p106, p105, p112 + 8, p3);
+								if (load8(p106) == 0) {
+									tp_timer_commands_verbs_talk_2(p107, p106 + 8, n124, b134, p5, p6);
+									n159 = load8(p107);
+									n160 = load8(p107 + 1);
+									n161 = load8(p107 + 8);
+									n162 = load8(p107 + 16);
+									n163 = load8(p107 + 17);
+									n164 = load64u(p107 + 24);
 								} else {
-									n150 = 1;
-									n151 = 0;
-									n152 = 2;
-									n153 = 2;
-									n154 = 0;
-									n155 = 0;
+									n159 = 1;
+									n160 = 0;
+									n161 = 2;
+									n162 = 2;
+									n163 = 0;
+									n164 = 0;
 								}
 							} else {
-								n150 = 1;
-								n151 = 0;
-								n152 = 2;
-								n153 = 2;
-								n154 = 0;
-								n155 = 0;
+								n159 = 1;
+								n160 = 0;
+								n161 = 2;
+								n162 = 2;
+								n163 = 0;
+								n164 = 0;
 							}
-							n143 = n150;
-							n144 = n151;
-							n145 = n152;
-							n146 = n153;
-							n147 = n154;
-							n148 = n155;
+							n152 = n159;
+							n153 = n160;
+							n154 = n161;
+							n155 = n162;
+							n156 = n163;
+							n157 = n164;
 							break;
 						}
 						case 2: {
-							uint8_t n156, n157, n158, n159, n160;
-							uint64_t n161;
-							if (n136 <= UINT64_C(1152921504606846975)) {
-								memset(p96, 0, 128);
-								memset(p97, 0, 7);
-								tp_Buckets_new(p96, 640, UINT64_C(1152921504606846975), n136);
-								if (load8(p96) == 0) {
-									memcpy(p97 + 7, p96 + 8, 120);
-									memcpy(p106, p97, 127);
-									memset(p93, 0, 1352);
-									memset(p95, 0, 32);
-									store8(p94, 0);
-									memcpy(p94 + 1, p106, 127);
-									memset(p94 + 128, 0, 96);
-									store64(p94 + 224, n136);
-									tp_player_Player_restore(p93, p104, p94, p3);
-									if (load8(p93) != 0) {
-										n156 = 1;
-										n157 = 0;
-										n158 = 2;
-										n159 = 2;
-										n160 = 0;
-										n161 = 0;
-										goto L1;
-									}
-									tp_timer_commands_verbs_talk(p95, p93 + 8, n115, b125, p5, p6);
-									n156 = load8(p95);
-									n157 = load8(p95 + 1);
-									n158 = load8(p95 + 8);
-									n159 = load8(p95 + 16);
-									n160 = load8(p95 + 17);
-									n161 = load64u(p95 + 24);
-									goto L1;
+							bool b165;
+							uint64_t n166, n172;
+							uint8_t n167, n168, n169, n170, n171;
+							if (n145 > UINT64_C(1152921504606846975)) {
+								memset(p103, 0, 127);
+								memset(p104, 0, 96);
+								b165 = true;
+								n166 = 0;
+							} else {
+								memset(p101, 0, 128);
+								memset(p102, 0, 7);
+								tp_Buckets_new(p101, 640, UINT64_C(1152921504606846975), n145);
+								if (load8(p101) == 0) {
+									memcpy(p102 + 7, p101 + 8, 120);
+									memcpy(p103, p102, 127);
+									memset(p104, 0, 96);
+									b165 = false;
+									n166 = n145;
+								} else {
+									memset(p103, 0, 127);
+									memset(p104, 0, 96);
+									b165 = true;
+									n166 = 0;
 								}
 							}
-							n156 = 1;
-							n157 = 0;
-							n158 = 2;
-							n159 = 2;
-							n160 = 0;
-							n161 = 0;
-L1:
-							{
-								n143 = n156;
-								n144 = n157;
-								n145 = n158;
-								n146 = n159;
-								n147 = n160;
-								n148 = n161;
+							memcpy(p113, p103, 127);
+							memcpy(p114, p104, 96);
+							store64(p97, n137);
+							store64(p97 + 8, n138);
+							store64(p97 + 16, n139);
+							store64(p97 + 24, n144);
+							store64(p97 + 32, n144);
+							memset(p98, 0, 1352);
+							memset(p100, 0, 32);
+							if (b165) {
+								n167 = 1;
+								n168 = 0;
+								n169 = 2;
+								n170 = 2;
+								n171 = 0;
+								n172 = 0;
+							} else {
+								store8(p99, 0);
+								memcpy(p99 + 1, p113, 127);
+								memcpy(p99 + 128, p114, 96);
+								store64(p99 + 224, n166);
+								tp_player_Player_restore(p98, p97, p99, p3);
+								if (load8(p98) == 0) {
+									tp_timer_commands_verbs_talk(p100, p98 + 8, n124, b134, p5, p6);
+									n167 = load8(p100);
+									n168 = load8(p100 + 1);
+									n169 = load8(p100 + 8);
+									n170 = load8(p100 + 16);
+									n171 = load8(p100 + 17);
+									n172 = load64u(p100 + 24);
+								} else {
+									n167 = 1;
+									n168 = 0;
+									n169 = 2;
+									n170 = 2;
+									n171 = 0;
+									n172 = 0;
+								}
 							}
+							n152 = n167;
+							n153 = n168;
+							n154 = n169;
+							n155 = n170;
+							n156 = n171;
+							n157 = n172;
 							break;
 						}
 						case 3: {
-							uint8_t n162, n163, n164, n165, n166;
-							uint64_t n167;
-							if (n136 <= 8639999) {
-								memset(p91, 0, 128);
-								memset(p92, 0, 7);
-								tp_Buckets_new(p91, 244, 8639999, n136);
-								if (load8(p91) == 0) {
-									memcpy(p92 + 7, p91 + 8, 120);
-									memcpy(p107, p92, 127);
-									memset(p88, 0, 1352);
-									memset(p90, 0, 32);
-									store8(p89, 1);
-									memcpy(p89 + 1, p107, 127);
-									memset(p89 + 128, 0, 96);
-									store64(p89 + 224, n136);
-									tp_player_Player_restore(p88, p104, p89, p3);
-									if (load8(p88) != 0) {
-										n162 = 1;
-										n163 = 0;
-										n164 = 2;
-										n165 = 2;
-										n166 = 0;
-										n167 = 0;
-										goto L2;
-									}
-									tp_timer_commands_verbs_talk(p90, p88 + 8, n115, b125, p5, p6);
-									n162 = load8(p90);
-									n163 = load8(p90 + 1);
-									n164 = load8(p90 + 8);
-									n165 = load8(p90 + 16);
-									n166 = load8(p90 + 17);
-									n167 = load64u(p90 + 24);
-									goto L2;
+							bool b173;
+							uint8_t n174, n176, n177, n178, n179, n180;
+							uint64_t n175, n181;
+							if (n145 > 8639999) {
+								memset(p95, 0, 127);
+								memset(p96, 0, 96);
+								b173 = true;
+								n174 = 0;
+								n175 = 0;
+							} else {
+								memset(p93, 0, 128);
+								memset(p94, 0, 7);
+								tp_Buckets_new(p93, 244, 8639999, n145);
+								if (load8(p93) == 0) {
+									memcpy(p94 + 7, p93 + 8, 120);
+									memcpy(p95, p94, 127);
+									memset(p96, 0, 96);
+									b173 = false;
+									n174 = 1;
+									n175 = n145;
+								} else {
+									memset(p95, 0, 127);
+									memset(p96, 0, 96);
+									b173 = true;
+									n174 = 0;
+									n175 = 0;
 								}
 							}
-							n162 = 1;
-							n163 = 0;
-							n164 = 2;
-							n165 = 2;
-							n166 = 0;
-							n167 = 0;
-L2:
-							{
-								n143 = n162;
-								n144 = n163;
-								n145 = n164;
-								n146 = n165;
-								n147 = n166;
-								n148 = n167;
+							memcpy(p115, p95, 127);
+							memcpy(p116, p96, 96);
+							store64(p89, n137);
+							store64(p89 + 8, n138);
+							store64(p89 + 16, n139);
+							store64(p89 + 24, n144);
+							store64(p89 + 32, n144);
+							memset(p90, 0, 1352);
+							memset(p92, 0, 32);
+							if (b173) {
+								n176 = 1;
+								n177 = 0;
+								n178 = 2;
+								n179 = 2;
+								n180 = 0;
+								n181 = 0;
+							} else {
+								store8(p91, n174);
+								memcpy(p91 + 1, p115, 127);
+								memcpy(p91 + 128, p116, 96);
+								store64(p91 + 224, n175);
+								tp_player_Player_restore(p90, p89, p91, p3);
+								if (load8(p90) == 0) {
+									tp_timer_commands_verbs_talk(p92, p90 + 8, n124, b134, p5, p6);
+									n176 = load8(p92);
+									n177 = load8(p92 + 1);
+									n178 = load8(p92 + 8);
+									n179 = load8(p92 + 16);
+									n180 = load8(p92 + 17);
+									n181 = load64u(p92 + 24);
+								} else {
+									n176 = 1;
+									n177 = 0;
+									n178 = 2;
+									n179 = 2;
+									n180 = 0;
+									n181 = 0;
+								}
 							}
+							n152 = n176;
+							n153 = n177;
+							n154 = n178;
+							n155 = n179;
+							n156 = n180;
+							n157 = n181;
 							break;
 						}
 						case 4: {
-							uint8_t n168, n169, n170, n171, n172;
-							uint64_t n173;
-							if (n136 <= UINT64_C(1152921504606846975)) {
-								memset(p83, 0, 128);
-								tp_Buckets_new(p83, 1280, UINT64_C(1152921504606846975), n136);
-								if (load8(p83) == 0) {
-									memcpy(p84, p83 + 8, 120);
-									memset(p84 + 120, 0, 160);
-									memcpy(p85 + 7, p84, 280);
-									memcpy(p86, p85 + 7, 280);
-									memset(p86 + 280, 0, 80);
-									memcpy(p87 + 6, p86, 360);
-									memset(p87 + 366, 0, 24);
-									memcpy(p108 + 6, p87 + 6, 384);
-									memset(p80, 0, 1504);
-									memset(p82, 0, 32);
-									memcpy(p81, p108 + 6, 384);
-									tp_Player_restore(p80, p104, p81, p3);
-									if (load8(p80) != 0) {
-										n168 = 1;
-										n169 = 0;
-										n170 = 2;
-										n171 = 2;
-										n172 = 0;
-										n173 = 0;
-										goto L3;
+							uint8_t n182, n183, n184, n185, n186;
+							uint64_t n187;
+							if (n145 <= UINT64_C(1152921504606846975)) {
+								memset(p84, 0, 128);
+								tp_Buckets_new(p84, 1280, UINT64_C(1152921504606846975), n145);
+								if (load8(p84) == 0) {
+									memcpy(p85, p84 + 8, 120);
+									memset(p85 + 120, 0, 160);
+									memcpy(p86 + 7, p85, 280);
+									memcpy(p87, p86 + 7, 280);
+									memset(p87 + 280, 0, 80);
+									memcpy(p88 + 6, p87, 360);
+									memset(p88 + 366, 0, 24);
+									memcpy(p117 + 6, p88 + 6, 384);
+									store64(p80, n137);
+									store64(p80 + 8, n138);
+									store64(p80 + 16, n139);
+									store64(p80 + 24, n144);
+									store64(p80 + 32, n144);
+									memset(p81, 0, 1504);
+									memset(p83, 0, 32);
+									memcpy(p82, p117 + 6, 384);
+									tp_Player_restore(p81, p80, p82, p3);
+									if (load8(p81) != 0) {
+										n182 = 1;
+										n183 = 0;
+										n184 = 2;
+										n185 = 2;
+										n186 = 0;
+										n187 = 0;
+										goto L1;
 									}
-									tp_verbs_talk(p82, p80 + 8, n115, b125, p5, p6);
-									n168 = load8(p82);
-									n169 = load8(p82 + 1);
-									n170 = load8(p82 + 8);
-									n171 = load8(p82 + 16);
-									n172 = load8(p82 + 17);
-									n173 = load64u(p82 + 24);
-									goto L3;
+									tp_verbs_talk(p83, p81 + 8, n124, b134, p5, p6);
+									n182 = load8(p83);
+									n183 = load8(p83 + 1);
+									n184 = load8(p83 + 8);
+									n185 = load8(p83 + 16);
+									n186 = load8(p83 + 17);
+									n187 = load64u(p83 + 24);
+									goto L1;
 								}
 							}
-							n168 = 1;
-							n169 = 0;
-							n170 = 2;
-							n171 = 2;
-							n172 = 0;
-							n173 = 0;
-L3:
+							n182 = 1;
+							n183 = 0;
+							n184 = 2;
+							n185 = 2;
+							n186 = 0;
+							n187 = 0;
+L1:
 							{
-								n143 = n168;
-								n144 = n169;
-								n145 = n170;
-								n146 = n171;
-								n147 = n172;
-								n148 = n173;
+								n152 = n182;
+								n153 = n183;
+								n154 = n184;
+								n155 = n185;
+								n156 = n186;
+								n157 = n187;
 							}
 							break;
 						}
@@ -105750,224 +105692,216 @@ L3:
 							UNREACHABLE();
 						}
 						}
-						n174 = n143;
-						n175 = n144;
-						n176 = (uint64_t)n145;
-						n177 = n146;
-						n178 = n147;
-						n179 = n148;
-						goto L4;
+						store8(p121, n152);
+						store8(p121 + 1, n153);
+						store64u(p121 + 8, (uint64_t)n154);
+						store8(p121 + 16, n155);
+						store8(p121 + 17, n156);
+						store64u(p121 + 24, n157);
+						goto L2;
 					}
-					n131 = n133;
-					n132 = 2;
+					n140 = n142;
+					n141 = 2;
 				}
-				n174 = 1;
-				n175 = 0;
-				n176 = 0;
-				n177 = (uint8_t)n132;
-				n178 = (uint8_t)(n132 >> 8);
-				n179 = n131;
-L4:
-				{
-					store8(p112, n174);
-					store8(p112 + 1, n175);
-					store64u(p112 + 8, n176);
-					store8(p112 + 16, n177);
-					store8(p112 + 17, n178);
-					store64u(p112 + 24, n179);
-				}
+				store8(p121, 1);
+				store8(p121 + 1, 0);
+				store64u(p121 + 8, 0);
+				store8(p121 + 16, (uint8_t)n141);
+				store8(p121 + 17, (uint8_t)(n141 >> 8));
+				store64u(p121 + 24, n140);
+L2: ;
 				break;
 			}
 			case 0: {
-				tp_schemes_run_new(p112, p110, p111, p5, p6);
+				tp_schemes_run_new(p121, p119, p120, p5, p6);
 				break;
 			}
 			case 2: {
-				tp_schemes_run_new(p112, p110, p111, p5, p6);
+				tp_schemes_run_new(p121, p119, p120, p5, p6);
 				break;
 			}
 			default: {
 				UNREACHABLE();
 			}
 			}
-			uint8_t n180 = load8(p112 + 1);
-			uint64_t n181 = (uint64_t)load8(p112 + 8);
-			uint8_t n182 = load8(p112 + 16);
-			uint8_t n183 = load8(p112 + 17);
-			uint64_t n184 = load64(p112 + 24);
-			store8(p121, load8(p112));
-			store8(p121 + 1, n180);
-			store64u(p121 + 8, n181);
-			store8(p121 + 16, n182);
-			store8(p121 + 17, n183);
-			store64u(p121 + 24, n184);
+			uint8_t n188 = load8(p121 + 1);
+			uint64_t n189 = (uint64_t)load8(p121 + 8);
+			uint8_t n190 = load8(p121 + 16);
+			uint8_t n191 = load8(p121 + 17);
+			uint64_t n192 = load64(p121 + 24);
+			store8(p130, load8(p121));
+			store8(p130 + 1, n188);
+			store64u(p130 + 8, n189);
+			store8(p130 + 16, n190);
+			store8(p130 + 17, n191);
+			store64u(p130 + 24, n192);
 		} else {
-			tp_schemes_run_new(p109, p110, p111, p5, p6);
-			store8(p121, load8(p109));
-			store8(p121 + 1, load8(p109 + 1));
-			store64u(p121 + 8, (uint64_t)load8(p109 + 8));
-			store8(p121 + 16, load8(p109 + 16));
-			store8(p121 + 17, load8(p109 + 17));
-			store64u(p121 + 24, load64(p109 + 24));
+			tp_schemes_run_new(p118, p119, p120, p5, p6);
+			store8(p130, load8(p118));
+			store8(p130 + 1, load8(p118 + 1));
+			store64u(p130 + 8, (uint64_t)load8(p118 + 8));
+			store8(p130 + 16, load8(p118 + 16));
+			store8(p130 + 17, load8(p118 + 17));
+			store64u(p130 + 24, load64(p118 + 24));
 		}
-		store64u(p123, n119);
-		memcpy(p123 + 8, p118, 16);
-		uint8_t n185 = tp_reports_end_call(p121, p123, p5, p6);
-		return n185;
+		store64u(p132, n128);
+		memcpy(p132 + 8, p127, 16);
+		uint8_t n193 = tp_reports_end_call(p130, p132, p5, p6);
+		return n193;
 	}
 	case 2: {
-		uint8_t n199, n208, n209, n211;
-		uint64_t n200, n210, n212;
+		uint8_t n207, n216, n217, n219;
+		uint64_t n208, n218, n220;
 		memset(p79, 0, 32);
 		tp_input_read_script(p79, p5);
 		if (load8(p79) == 0) {
-			byte *p186 = loadptru(p79 + 8);
-			bool b187 = load64u(p79 + 24) == 0;
-			uint64_t n188 = load64u(p79 + 16);
+			byte *p194 = loadptru(p79 + 8);
+			bool b195 = load64u(p79 + 24) == 0;
+			uint64_t n196 = load64u(p79 + 16);
 			store64(p77 + 8, 0);
 			memset(p78, 0, 24);
 			storeptru(p76, p7);
 			memset(p76 + 8, 0, 16);
-			uint64_t n189 = n188;
-			byte *p190 = p186;
-			uint64_t n191 = 0;
-			uint64_t n192 = 0;
+			uint64_t n197 = n196;
+			byte *p198 = p194;
+			uint64_t n199 = 0;
+			uint64_t n200 = 0;
 			for (;;) {
-				uint64_t n195, n198;
-				if (n189 == 0)
-					goto L5;
-				uint64_t n193 = n189 - 1;
-				uint64_t n194 = 0;
+				uint64_t n203, n206;
+				if (n197 == 0)
+					goto L3;
+				uint64_t n201 = n197 - 1;
+				uint64_t n202 = 0;
 				for (;;) {
-					if (n194 == n193) {
-						n195 = n189;
+					if (n202 == n201) {
+						n203 = n197;
 						break;
 					}
-					if (load8(inside(p190, n194)) == 10) {
-						n195 = n194 + 1;
+					if (load8(inside(p198, n202)) == 10) {
+						n203 = n202 + 1;
 						break;
 					}
-					n194 = n194 + 1;
+					n202 = n202 + 1;
 				}
-				uint64_t n196 = n192 + 1;
-				tp_diagnosis_fault_in_line(p78, 0, p190, n195);
+				uint64_t n204 = n200 + 1;
+				tp_diagnosis_fault_in_line(p78, 0, p198, n203);
 				if (load8(p78) == 1) {
 					store64(p77, load64(p78 + 8));
 					store8(p77 + 8, load8(p78 + 16));
 					store8(p77 + 9, load8(p78 + 17));
 					store8(p77 + 10, load8(p78 + 18));
-					uint8_t n197 = tp_script_report_push_fault(p76, n196, p77);
-					if ((n197 & 1) != 0)
+					uint8_t n205 = tp_script_report_push_fault(p76, n204, p77);
+					if ((n205 & 1) != 0)
 						break;
-					n198 = n191 + 1;
+					n206 = n199 + 1;
 				} else {
-					n198 = n191;
+					n206 = n199;
 				}
-				n189 = n189 - n195;
-				p190 = at(p190, n195);
-				n191 = n198;
-				n192 = n196;
+				n197 = n197 - n203;
+				p198 = at(p198, n203);
+				n199 = n206;
+				n200 = n204;
 			}
 			if (load64u(p76 + 16) != 0)
 				rattle_dealloc(loadptru(p76));
-			if (b187) {
-				n199 = 2;
-				n200 = 0;
-				goto L6;
-			}
-			rattle_dealloc(p186);
-			n199 = 2;
-			n200 = 0;
-			goto L6;
-L5:
-			{
-				byte *p201 = loadptr(p76);
-				uint64_t n202 = load64(p76 + 8);
-				bool b203 = load64(p76 + 16) == 0;
-				uint64_t n204 = 0;
-				while (n204 < n202) {
-					uint64_t n205 = n202 - n204;
-					uint64_t n206 = os_write(1, at(p201, n204), n205);
-					if ((int64_t)n206 < (int64_t)0) {
-						tp_error_last_error(p75);
-						goto L7;
-					}
-					uint64_t n207 = umin64(n206, n205);
-					if (n207 == 0)
-						goto L7;
-					n204 = n204 + n207;
-				}
-				if (!b203)
-					rattle_dealloc(p201);
-				if (!b187)
-					rattle_dealloc(p186);
+			if (b195) {
+				n207 = 2;
 				n208 = 0;
-				n209 = (uint8_t)((n191 == 0) ? 0 : 2);
-				n210 = 0;
-				n211 = 0;
-				n212 = 0;
-				goto L8;
-L7:
+				goto L4;
+			}
+			rattle_dealloc(p194);
+			n207 = 2;
+			n208 = 0;
+			goto L4;
+L3:
+			{
+				byte *p209 = loadptr(p76);
+				uint64_t n210 = load64(p76 + 8);
+				bool b211 = load64(p76 + 16) == 0;
+				uint64_t n212 = 0;
+				while (n212 < n210) {
+					uint64_t n213 = n210 - n212;
+					uint64_t n214 = os_write(1, at(p209, n212), n213);
+					if ((int64_t)n214 < (int64_t)0) {
+						tp_error_last_error(p75);
+						goto L5;
+					}
+					uint64_t n215 = umin64(n214, n213);
+					if (n215 == 0)
+						goto L5;
+					n212 = n212 + n215;
+				}
+				if (!b211)
+					rattle_dealloc(p209);
+				if (!b195)
+					rattle_dealloc(p194);
+				n216 = 0;
+				n217 = (uint8_t)((n199 == 0) ? 0 : 2);
+				n218 = 0;
+				n219 = 0;
+				n220 = 0;
+				goto L6;
+L5:
 				{
 					store8(p5 + 12, 1);
-					if (!b203)
-						rattle_dealloc(p201);
-					if (b187) {
-						n199 = 3;
-						n200 = n204;
+					if (!b211)
+						rattle_dealloc(p209);
+					if (b195) {
+						n207 = 3;
+						n208 = n212;
 					} else {
-						rattle_dealloc(p186);
-						n199 = 3;
-						n200 = n204;
+						rattle_dealloc(p194);
+						n207 = 3;
+						n208 = n212;
 					}
 				}
 			}
 		} else {
-			n199 = load8(p79 + 1);
-			n200 = 0;
+			n207 = load8(p79 + 1);
+			n208 = 0;
+		}
+L4:
+		{
+			n216 = 1;
+			n217 = 0;
+			n218 = 3;
+			n219 = n207;
+			n220 = n208;
 		}
 L6:
 		{
-			n208 = 1;
-			n209 = 0;
-			n210 = 3;
-			n211 = n199;
-			n212 = n200;
-		}
-L8:
-		{
-			store8(p122, n208);
-			store8(p122 + 1, n209);
-			store64u(p122 + 8, n210);
-			store8(p122 + 16, n211);
-			store8(p122 + 17, 0);
-			store64u(p122 + 24, n212);
-			store64u(p124, n119);
-			memcpy(p124 + 8, p118, 16);
-			uint8_t n213 = tp_reports_end_call(p122, p124, p5, p6);
-			return n213;
+			store8(p131, n216);
+			store8(p131 + 1, n217);
+			store64u(p131 + 8, n218);
+			store8(p131 + 16, n219);
+			store8(p131 + 17, 0);
+			store64u(p131 + 24, n220);
+			store64u(p133, n128);
+			memcpy(p133 + 8, p127, 16);
+			uint8_t n221 = tp_reports_end_call(p131, p133, p5, p6);
+			return n221;
 		}
 	}
 	case 1: {
-		uint64_t n214;
-		uint8_t n352;
-		if ((int)((n113 - 65) < UINT64_C(18446744073709551552)) | (int)((n117 - 10001) < UINT64_C(18446744073709541616))) {
-			n214 = 0;
+		uint64_t n222;
+		uint8_t n360;
+		if ((int)((n122 - 65) < UINT64_C(18446744073709551552)) | (int)((n126 - 10001) < UINT64_C(18446744073709541616))) {
+			n222 = 0;
 		} else {
-			uint8_t n216;
-			uint64_t n217, n218, n219, n353, n389;
-			of_i64_i64 s215 = rattle_alloc(0, 1);
-			if ((s215.f0 & 1) == 0) {
-				n216 = 1;
-				n217 = 0;
-				n218 = 0;
-				n219 = 0;
+			uint8_t n224;
+			uint64_t n225, n226, n227, n361, n397;
+			of_i64_i64 s223 = rattle_alloc(0, 1);
+			if ((s223.f0 & 1) == 0) {
+				n224 = 1;
+				n225 = 0;
+				n226 = 0;
+				n227 = 0;
 			} else {
-				byte *p230, *p233, *p241, *p242, *p245, *p251, *p253, *p256, *p262;
-				uint64_t n231, n232, n234, n235, n237, n238, n239, n240, n243, n244, n246, n247, n248, n249, n250, n252, n254, n255, n257, n258, n259, n260, n261, n264, n265, n266;
-				bool b236;
-				uint8_t n263;
-				byte *p220 = (byte *)(uintptr_t)s215.f1;
+				byte *p238, *p241, *p249, *p250, *p253, *p259, *p261, *p264, *p270;
+				uint64_t n239, n240, n242, n243, n245, n246, n247, n248, n251, n252, n254, n255, n256, n257, n258, n260, n262, n263, n265, n266, n267, n268, n269, n272, n273, n274;
+				bool b244;
+				uint8_t n271;
+				byte *p228 = (byte *)(uintptr_t)s223.f1;
 				memset(p41, 0, 32);
 				memset(p42, 0, 24);
 				memset(p43, 0, 16);
@@ -105998,24 +105932,24 @@ L8:
 				memset(p37, 0, 128);
 				tp_Buckets_new(p37, 640, UINT64_C(1152921504606846975), 0);
 				if (load8(p37) == 0) {
-					uint64_t n221 = load64(p37 + 8);
+					uint64_t n229 = load64(p37 + 8);
 					memcpy(p38, p37 + 16, 24);
-					byte *p222 = loadptr(p37 + 40);
-					uint64_t n223 = load64(p37 + 48);
-					uint64_t n224 = load64(p37 + 56);
+					byte *p230 = loadptr(p37 + 40);
+					uint64_t n231 = load64(p37 + 48);
+					uint64_t n232 = load64(p37 + 56);
 					memcpy(p39, p37 + 64, 16);
-					byte *p225 = loadptr(p37 + 80);
-					uint64_t n226 = load64(p37 + 88);
-					uint64_t n227 = load64(p37 + 96);
+					byte *p233 = loadptr(p37 + 80);
+					uint64_t n234 = load64(p37 + 88);
+					uint64_t n235 = load64(p37 + 96);
 					memcpy(p40, p37 + 104, 24);
 					memset(p36, 0, 512);
-					uint64_t n228 = 0;
+					uint64_t n236 = 0;
 					for (;;) {
-						store64(at(p36, n228), 1);
-						uint64_t n229 = n228 + 8;
-						if (n229 == 512)
+						store64(at(p36, n236), 1);
+						uint64_t n237 = n236 + 8;
+						if (n237 == 512)
 							break;
-						n228 = n229;
+						n236 = n237;
 					}
 					memcpy(p67, p36, 512);
 					memcpy(p63, p38, 24);
@@ -106023,18 +105957,18 @@ L8:
 					memcpy(p65, p40, 24);
 					memset(p66, 0, 104);
 					memset(p68, 0, 520);
-					p230 = p222;
-					n231 = n223;
-					n232 = n224;
-					p233 = p225;
-					n234 = n226;
-					n235 = n227;
-					b236 = false;
-					n237 = n221;
-					n238 = n113;
-					n239 = 65536;
-					n240 = 1;
-					p241 = p7;
+					p238 = p230;
+					n239 = n231;
+					n240 = n232;
+					p241 = p233;
+					n242 = n234;
+					n243 = n235;
+					b244 = false;
+					n245 = n229;
+					n246 = n122;
+					n247 = 65536;
+					n248 = 1;
+					p249 = p7;
 				} else {
 					memset(p63, 0, 24);
 					memset(p64, 0, 16);
@@ -106042,18 +105976,18 @@ L8:
 					memset(p66, 0, 104);
 					memset(p67, 0, 512);
 					memset(p68, 0, 520);
-					p230 = NULL;
-					n231 = 0;
-					n232 = 0;
-					p233 = NULL;
-					n234 = 0;
-					n235 = 0;
-					b236 = true;
-					n237 = 0;
-					n238 = 0;
+					p238 = NULL;
 					n239 = 0;
 					n240 = 0;
 					p241 = NULL;
+					n242 = 0;
+					n243 = 0;
+					b244 = true;
+					n245 = 0;
+					n246 = 0;
+					n247 = 0;
+					n248 = 0;
+					p249 = NULL;
 				}
 				memset(p29, 0, 24);
 				memset(p30, 0, 16);
@@ -106062,18 +105996,18 @@ L8:
 				memset(p33, 0, 24);
 				memset(p34, 0, 512);
 				memset(p35, 0, 520);
-				if (b236) {
-					p242 = NULL;
-					n243 = 0;
-					n244 = 0;
-					p245 = NULL;
-					n246 = 0;
-					n247 = 0;
-					n248 = 0;
-					n249 = 0;
-					n250 = 0;
-					p251 = NULL;
+				if (b244) {
+					p250 = NULL;
+					n251 = 0;
 					n252 = 0;
+					p253 = NULL;
+					n254 = 0;
+					n255 = 0;
+					n256 = 0;
+					n257 = 0;
+					n258 = 0;
+					p259 = NULL;
+					n260 = 0;
 				} else {
 					memcpy(p29, p63, 24);
 					memcpy(p30, p64, 16);
@@ -106082,17 +106016,17 @@ L8:
 					memcpy(p33, p66 + 80, 24);
 					memcpy(p34, p67, 512);
 					memcpy(p35, p68, 520);
-					p242 = p230;
-					n243 = n231;
-					n244 = n232;
-					p245 = p233;
-					n246 = n234;
-					n247 = n235;
-					n248 = n238;
-					n249 = n239;
-					n250 = n240;
-					p251 = p241;
-					n252 = n237;
+					p250 = p238;
+					n251 = n239;
+					n252 = n240;
+					p253 = p241;
+					n254 = n242;
+					n255 = n243;
+					n256 = n246;
+					n257 = n247;
+					n258 = n248;
+					p259 = p249;
+					n260 = n245;
 				}
 				memcpy(p56, p29, 24);
 				memcpy(p57, p30, 16);
@@ -106108,17 +106042,17 @@ L8:
 				memset(p26, 0, 24);
 				memset(p27, 0, 512);
 				memset(p28, 0, 520);
-				if (b236) {
-					p253 = NULL;
-					n254 = 0;
-					n255 = 0;
-					p256 = NULL;
-					n257 = 0;
-					n258 = 0;
-					n259 = 0;
-					n260 = 0;
-					n261 = 0;
-					p262 = NULL;
+				if (b244) {
+					p261 = NULL;
+					n262 = 0;
+					n263 = 0;
+					p264 = NULL;
+					n265 = 0;
+					n266 = 0;
+					n267 = 0;
+					n268 = 0;
+					n269 = 0;
+					p270 = NULL;
 				} else {
 					memcpy(p22, p56, 24);
 					memcpy(p23, p57, 16);
@@ -106127,16 +106061,16 @@ L8:
 					memcpy(p26, p60, 24);
 					memcpy(p27, p61, 512);
 					memcpy(p28, p62, 520);
-					p253 = p242;
-					n254 = n243;
-					n255 = n244;
-					p256 = p245;
-					n257 = n246;
-					n258 = n247;
-					n259 = n248;
-					n260 = n249;
-					n261 = n250;
-					p262 = p251;
+					p261 = p250;
+					n262 = n251;
+					n263 = n252;
+					p264 = p253;
+					n265 = n254;
+					n266 = n255;
+					n267 = n256;
+					n268 = n257;
+					n269 = n258;
+					p270 = p259;
 				}
 				memcpy(p49, p22, 24);
 				memcpy(p50, p23, 16);
@@ -106145,16 +106079,16 @@ L8:
 				memcpy(p53, p26, 24);
 				memcpy(p54, p27, 512);
 				memcpy(p55, p28, 520);
-				if (b236) {
-					rattle_dealloc(p220);
-					n263 = 1;
-					n264 = 0;
-					n265 = n252;
-					n266 = 0;
+				if (b244) {
+					rattle_dealloc(p228);
+					n271 = 1;
+					n272 = 0;
+					n273 = n260;
+					n274 = 0;
 				} else {
-					bool b268, b274;
-					uint64_t n269, n270, n271;
-					byte *p272, *p273;
+					bool b276, b282;
+					uint64_t n277, n278, n279;
+					byte *p280, *p281;
 					memcpy(p42, p49, 24);
 					memcpy(p43, p50, 16);
 					memcpy(p44, p51, 24);
@@ -106165,574 +106099,574 @@ L8:
 					memset(p19, 0, 16);
 					memset(p20, 0, 16);
 					memset(p21, 0, 6);
-					of_i64_i64 s267 = rattle_alloc(n113 * 88, 8);
-					if ((s267.f0 & 1) == 0) {
-						rattle_dealloc(p220);
-						b268 = true;
-						n269 = 0;
-						n270 = 0;
-						n271 = 0;
-						p272 = NULL;
-						p273 = NULL;
-						b274 = true;
+					of_i64_i64 s275 = rattle_alloc(n122 * 88, 8);
+					if ((s275.f0 & 1) == 0) {
+						rattle_dealloc(p228);
+						b276 = true;
+						n277 = 0;
+						n278 = 0;
+						n279 = 0;
+						p280 = NULL;
+						p281 = NULL;
+						b282 = true;
 					} else {
-						byte *p275 = (byte *)(uintptr_t)s267.f1;
-						of_i64_i64 s276 = rattle_alloc(n113 * 112, 8);
-						if ((s276.f0 & 1) != 0) {
-							byte *p277 = (byte *)(uintptr_t)s276.f1;
-							of_i64_i64 s278 = rattle_alloc(n113 << 3, 8);
-							if ((s278.f0 & 1) != 0) {
-								byte *p286, *p288, *p292, *p294;
-								uint64_t n317, n318;
-								byte *p279 = (byte *)(uintptr_t)s278.f1;
-								uint64_t n280 = 0;
-								uint64_t n281 = n113;
+						byte *p283 = (byte *)(uintptr_t)s275.f1;
+						of_i64_i64 s284 = rattle_alloc(n122 * 112, 8);
+						if ((s284.f0 & 1) != 0) {
+							byte *p285 = (byte *)(uintptr_t)s284.f1;
+							of_i64_i64 s286 = rattle_alloc(n122 << 3, 8);
+							if ((s286.f0 & 1) != 0) {
+								byte *p294, *p296, *p300, *p302;
+								uint64_t n325, n326;
+								byte *p287 = (byte *)(uintptr_t)s286.f1;
+								uint64_t n288 = 0;
+								uint64_t n289 = n122;
 								for (;;) {
-									byte *p296, *p298, *p299, *p300;
-									uint64_t n297;
-									bool b301;
-									if (n281 == 0)
+									byte *p304, *p306, *p307, *p308;
+									uint64_t n305;
+									bool b309;
+									if (n289 == 0)
+										goto L7;
+									uint64_t n290 = n289 - 1;
+									of_i64_i64 s291 = rattle_alloc(384, 8);
+									bool b292 = (s291.f0 & 1) != 0;
+									byte *p293 = (byte *)(uintptr_t)s291.f1;
+									p294 = b292 ? p293 : NULL;
+									if (!b292)
+										goto L8;
+									of_i64_i64 s295 = rattle_alloc(3072, 8);
+									if ((s295.f0 & 1) == 0) {
+										rattle_dealloc(p294);
+										goto L8;
+									}
+									p296 = (byte *)(uintptr_t)s295.f1;
+									store64(p293, 0);
+									store64(p293 + 128, 0);
+									store64(p293 + 256, 0);
+									of_i64_i64 s297 = rattle_alloc(384, 8);
+									bool b298 = (s297.f0 & 1) != 0;
+									byte *p299 = (byte *)(uintptr_t)s297.f1;
+									p300 = b298 ? p299 : NULL;
+									if (!b298)
 										goto L9;
-									uint64_t n282 = n281 - 1;
-									of_i64_i64 s283 = rattle_alloc(384, 8);
-									bool b284 = (s283.f0 & 1) != 0;
-									byte *p285 = (byte *)(uintptr_t)s283.f1;
-									p286 = b284 ? p285 : NULL;
-									if (!b284)
-										goto L10;
-									of_i64_i64 s287 = rattle_alloc(3072, 8);
-									if ((s287.f0 & 1) == 0) {
-										rattle_dealloc(p286);
-										goto L10;
+									of_i64_i64 s301 = rattle_alloc(4096, 8);
+									if ((s301.f0 & 1) == 0) {
+										rattle_dealloc(p300);
+										goto L9;
 									}
-									p288 = (byte *)(uintptr_t)s287.f1;
-									store64(p285, 0);
-									store64(p285 + 128, 0);
-									store64(p285 + 256, 0);
-									of_i64_i64 s289 = rattle_alloc(384, 8);
-									bool b290 = (s289.f0 & 1) != 0;
-									byte *p291 = (byte *)(uintptr_t)s289.f1;
-									p292 = b290 ? p291 : NULL;
-									if (!b290)
-										goto L11;
-									of_i64_i64 s293 = rattle_alloc(4096, 8);
-									if ((s293.f0 & 1) == 0) {
-										rattle_dealloc(p292);
-										goto L11;
-									}
-									p294 = (byte *)(uintptr_t)s293.f1;
-									store64(p291, 0);
-									store64(p291 + 128, 0);
-									store64(p291 + 256, 0);
+									p302 = (byte *)(uintptr_t)s301.f1;
+									store64(p299, 0);
+									store64(p299 + 128, 0);
+									store64(p299 + 256, 0);
 									memset(p19, 0, 16);
 									memset(p20, 0, 16);
 									memset(p21, 0, 6);
-									byte *p295 = os_malloc(128);
-									if (p295 == NULL) {
-										p296 = p288;
-										n297 = 64;
-										p298 = p292;
-										p299 = p294;
-										p300 = p286;
-										b301 = true;
+									byte *p303 = os_malloc(128);
+									if (p303 == NULL) {
+										p304 = p296;
+										n305 = 64;
+										p306 = p300;
+										p307 = p302;
+										p308 = p294;
+										b309 = true;
 									} else {
-										storeptru(p295 + 16, p286);
-										storeptru(p295 + 24, p288);
-										store64u(p295 + 32, 64);
-										memset(p295 + 40, 0, 16);
-										storeptru(p295 + 56, p292);
-										storeptru(p295 + 64, p294);
-										store64u(p295 + 72, 64);
-										memset(p295 + 80, 0, 16);
-										store64u(p295 + 96, 1);
-										store64u(p295 + 104, 0);
-										store64u(p295 + 112, n117);
-										store64u(p295 + 120, 10000000);
-										store64(p295 + 8, 0);
+										storeptru(p303 + 16, p294);
+										storeptru(p303 + 24, p296);
+										store64u(p303 + 32, 64);
+										memset(p303 + 40, 0, 16);
+										storeptru(p303 + 56, p300);
+										storeptru(p303 + 64, p302);
+										store64u(p303 + 72, 64);
+										memset(p303 + 80, 0, 16);
+										store64u(p303 + 96, 1);
+										store64u(p303 + 104, 0);
+										store64u(p303 + 112, n126);
+										store64u(p303 + 120, 10000000);
+										store64(p303 + 8, 0);
 										memset(p18, 0, 64);
-										uint32_t n302 = os_pthread_attr_init(p18);
-										if (n302 == 0) {
-											uint32_t n303 = os_pthread_attr_setguardsize(p18, 65536);
-											if (n303 == 0) {
-												uint32_t n304 = os_pthread_create(p295, p18, (byte *)(uintptr_t)tp_call_once_thread_called_by_C_0, p295);
+										uint32_t n310 = os_pthread_attr_init(p18);
+										if (n310 == 0) {
+											uint32_t n311 = os_pthread_attr_setguardsize(p18, 65536);
+											if (n311 == 0) {
+												uint32_t n312 = os_pthread_create(p303, p18, (byte *)(uintptr_t)tp_call_once_thread_called_by_C_0, p303);
 												(void)os_pthread_attr_destroy(p18);
-												if (n304 == 0) {
-													p296 = NULL;
-													n297 = 0;
-													p298 = NULL;
-													p299 = NULL;
-													p300 = p295;
-													b301 = false;
-													goto L12;
+												if (n312 == 0) {
+													p304 = NULL;
+													n305 = 0;
+													p306 = NULL;
+													p307 = NULL;
+													p308 = p303;
+													b309 = false;
+													goto L10;
 												}
 											} else {
 												(void)os_pthread_attr_destroy(p18);
 											}
 										}
-										os_free(p295);
-										p296 = p288;
-										n297 = 64;
-										p298 = p292;
-										p299 = p294;
-										p300 = p286;
-										b301 = true;
+										os_free(p303);
+										p304 = p296;
+										n305 = 64;
+										p306 = p300;
+										p307 = p302;
+										p308 = p294;
+										b309 = true;
 									}
-L12:
+L10:
 									{
-										byte *p306, *p308, *p309, *p314;
-										uint64_t n307;
-										uint8_t n305 = load8_volatile((byte *)tp_static);
-										if (n305 != 0) {
+										byte *p314, *p316, *p317, *p322;
+										uint64_t n315;
+										uint8_t n313 = load8_volatile((byte *)tp_static);
+										if (n313 != 0) {
 											TRAP();
 											UNREACHABLE();
 										}
-										if (b301) {
-											p306 = p296;
-											n307 = n297;
-											p308 = p298;
-											p309 = p299;
+										if (b309) {
+											p314 = p304;
+											n315 = n305;
+											p316 = p306;
+											p317 = p307;
 										} else {
-											p306 = NULL;
-											n307 = 0;
-											p308 = NULL;
-											p309 = NULL;
+											p314 = NULL;
+											n315 = 0;
+											p316 = NULL;
+											p317 = NULL;
 										}
-										uint8_t n310 = load8_volatile((byte *)tp_static);
-										if (n310 != 0) {
+										uint8_t n318 = load8_volatile((byte *)tp_static);
+										if (n318 != 0) {
 											TRAP();
 											UNREACHABLE();
 										}
-										uint8_t n311 = load8_volatile((byte *)tp_static);
-										if (n311 != 0) {
+										uint8_t n319 = load8_volatile((byte *)tp_static);
+										if (n319 != 0) {
 											TRAP();
 											UNREACHABLE();
 										}
-										if (b301) {
+										if (b309) {
 											BARRIER();
-											uint64_t n312 = atomic_exchange64(p300 + 256, 1, ORDER_SEQ_CST);
+											uint64_t n320 = atomic_exchange64(p308 + 256, 1, ORDER_SEQ_CST);
 											BARRIER();
-											if (n312 != 0)
-												tp_release_drop_slow(p300, p306, n307);
+											if (n320 != 0)
+												tp_release_drop_slow(p308, p314, n315);
 											BARRIER();
-											uint64_t n313 = atomic_exchange64(p308 + 256, 1, ORDER_SEQ_CST);
+											uint64_t n321 = atomic_exchange64(p316 + 256, 1, ORDER_SEQ_CST);
 											BARRIER();
-											if (n313 == 0) {
-												p314 = NULL;
+											if (n321 == 0) {
+												p322 = NULL;
 											} else {
-												tp_release_drop_slow(p308, p309, n307);
-												p314 = NULL;
+												tp_release_drop_slow(p316, p317, n315);
+												p322 = NULL;
 											}
 										} else {
-											p314 = p300;
+											p322 = p308;
 										}
-										uint8_t n315 = load8_volatile((byte *)tp_static);
-										if (n315 != 0) {
+										uint8_t n323 = load8_volatile((byte *)tp_static);
+										if (n323 != 0) {
 											TRAP();
 											UNREACHABLE();
 										}
-										if (b301)
+										if (b309)
 											break;
-										byte *p316 = inside(p275, n280 * 88);
-										storeptru(p316, p286);
-										storeptru(p316 + 8, p288);
-										store64u(p316 + 16, 64);
-										memcpy(p316 + 24, p19, 16);
-										storeptru(p316 + 40, p292);
-										storeptru(p316 + 48, p294);
-										store64u(p316 + 56, 64);
-										memcpy(p316 + 64, p20, 16);
-										store8(p316 + 80, 0);
-										store8(p316 + 81, 0);
-										memcpy(p316 + 82, p21, 6);
-										store64u(inside(p279, n280 << 3), (uint64_t)(uintptr_t)p314);
-										n280 = n280 + 1;
-										n281 = n282;
+										byte *p324 = inside(p283, n288 * 88);
+										storeptru(p324, p294);
+										storeptru(p324 + 8, p296);
+										store64u(p324 + 16, 64);
+										memcpy(p324 + 24, p19, 16);
+										storeptru(p324 + 40, p300);
+										storeptru(p324 + 48, p302);
+										store64u(p324 + 56, 64);
+										memcpy(p324 + 64, p20, 16);
+										store8(p324 + 80, 0);
+										store8(p324 + 81, 0);
+										memcpy(p324 + 82, p21, 6);
+										store64u(inside(p287, n288 << 3), (uint64_t)(uintptr_t)p322);
+										n288 = n288 + 1;
+										n289 = n290;
 									}
 								}
 								BARRIER();
-								n317 = atomic_exchange64(p286 + 256, 1, ORDER_SEQ_CST);
+								n325 = atomic_exchange64(p294 + 256, 1, ORDER_SEQ_CST);
 								BARRIER();
-								if (n317 != 0)
-									tp_release_drop_slow(p286, p288, 64);
+								if (n325 != 0)
+									tp_release_drop_slow(p294, p296, 64);
 								BARRIER();
-								n318 = atomic_exchange64(p292 + 256, 1, ORDER_SEQ_CST);
+								n326 = atomic_exchange64(p300 + 256, 1, ORDER_SEQ_CST);
 								BARRIER();
-								if (n318 != 0)
-									tp_release_drop_slow(p292, p294, 64);
-								rattle_dealloc(p220);
-								b268 = false;
-								n269 = s267.f1;
-								n270 = n280;
-								n271 = n113;
-								p272 = p279;
-								p273 = p277;
-								b274 = true;
-								goto L13;
-L11:
-								{
-									BARRIER();
-									uint64_t n319 = atomic_exchange64(p286 + 256, 1, ORDER_SEQ_CST);
-									BARRIER();
-									if (n319 != 0)
-										tp_release_drop_slow(p286, p288, 64);
-									BARRIER();
-									uint64_t n320 = atomic_exchange64(p286 + 256, 1, ORDER_SEQ_CST);
-									BARRIER();
-									if (n320 != 0)
-										tp_release_drop_slow(p286, p288, 64);
-								}
-L10:
-								{
-									rattle_dealloc(p220);
-									b268 = false;
-									n269 = s267.f1;
-									n270 = n280;
-									n271 = n113;
-									p272 = p279;
-									p273 = p277;
-									b274 = true;
-									goto L13;
-								}
+								if (n326 != 0)
+									tp_release_drop_slow(p300, p302, 64);
+								rattle_dealloc(p228);
+								b276 = false;
+								n277 = s275.f1;
+								n278 = n288;
+								n279 = n122;
+								p280 = p287;
+								p281 = p285;
+								b282 = true;
+								goto L11;
 L9:
 								{
-									rattle_dealloc(p220);
-									b268 = false;
-									n269 = s267.f1;
-									n270 = n113;
-									n271 = n113;
-									p272 = p279;
-									p273 = p277;
-									b274 = false;
-									goto L13;
+									BARRIER();
+									uint64_t n327 = atomic_exchange64(p294 + 256, 1, ORDER_SEQ_CST);
+									BARRIER();
+									if (n327 != 0)
+										tp_release_drop_slow(p294, p296, 64);
+									BARRIER();
+									uint64_t n328 = atomic_exchange64(p294 + 256, 1, ORDER_SEQ_CST);
+									BARRIER();
+									if (n328 != 0)
+										tp_release_drop_slow(p294, p296, 64);
+								}
+L8:
+								{
+									rattle_dealloc(p228);
+									b276 = false;
+									n277 = s275.f1;
+									n278 = n288;
+									n279 = n122;
+									p280 = p287;
+									p281 = p285;
+									b282 = true;
+									goto L11;
+								}
+L7:
+								{
+									rattle_dealloc(p228);
+									b276 = false;
+									n277 = s275.f1;
+									n278 = n122;
+									n279 = n122;
+									p280 = p287;
+									p281 = p285;
+									b282 = false;
+									goto L11;
 								}
 							}
-							rattle_dealloc(p277);
+							rattle_dealloc(p285);
 						}
-						rattle_dealloc(p275);
-						rattle_dealloc(p220);
-						b268 = true;
-						n269 = 0;
-						n270 = 0;
-						n271 = 0;
-						p272 = NULL;
-						p273 = NULL;
-						b274 = true;
+						rattle_dealloc(p283);
+						rattle_dealloc(p228);
+						b276 = true;
+						n277 = 0;
+						n278 = 0;
+						n279 = 0;
+						p280 = NULL;
+						p281 = NULL;
+						b282 = true;
 					}
-L13:
+L11:
 					{
-						uint8_t n321 = load8_volatile((byte *)tp_static);
-						if (n321 != 0) {
+						uint8_t n329 = load8_volatile((byte *)tp_static);
+						if (n329 != 0) {
 							TRAP();
 							UNREACHABLE();
 						}
-						if (b268) {
+						if (b276) {
 							store64u(p41, 1);
 							memset(p41 + 8, 0, 24);
-							if (n255 != 0)
-								rattle_dealloc(p253);
-							if (n258 != 0)
-								rattle_dealloc(p256);
-							n263 = load8(p41);
-							n264 = load64(p41 + 8);
-							n265 = load64(p41 + 16);
-							n266 = load64(p41 + 24);
-						} else if (b274) {
-							uint64_t n326;
-							storeptru(p70, p272);
-							store64u(p70 + 8, n270);
-							store64u(p70 + 16, n271);
-							storeptru(p70 + 24, p273);
+							if (n263 != 0)
+								rattle_dealloc(p261);
+							if (n266 != 0)
+								rattle_dealloc(p264);
+							n271 = load8(p41);
+							n272 = load64(p41 + 8);
+							n273 = load64(p41 + 16);
+							n274 = load64(p41 + 24);
+						} else if (b282) {
+							uint64_t n334;
+							storeptru(p70, p280);
+							store64u(p70 + 8, n278);
+							store64u(p70 + 16, n279);
+							storeptru(p70 + 24, p281);
 							store64u(p70 + 32, 0);
-							store64u(p70 + 40, n271);
+							store64u(p70 + 40, n279);
 							tp_Children_join(p69, p70);
-							uint8_t n322 = load8_volatile((byte *)tp_static);
-							if (n322 != 0) {
+							uint8_t n330 = load8_volatile((byte *)tp_static);
+							if (n330 != 0) {
 								TRAP();
 								UNREACHABLE();
 							}
-							byte *p323 = loadptru(p69);
-							uint64_t n324 = load64u(p69 + 8);
-							uint64_t n325 = load64u(p69 + 16);
-							if (n324 == 0)
-								goto L14;
-							n326 = 0;
-							while (n326 != n324) {
-								byte *p327 = inside(p323, n326 * 112);
-								byte *p328 = loadptru(p327 + 24);
-								byte *p329 = loadptru(p327 + 32);
-								uint64_t n330 = load64u(p327 + 40);
+							byte *p331 = loadptru(p69);
+							uint64_t n332 = load64u(p69 + 8);
+							uint64_t n333 = load64u(p69 + 16);
+							if (n332 == 0)
+								goto L12;
+							n334 = 0;
+							while (n334 != n332) {
+								byte *p335 = inside(p331, n334 * 112);
+								byte *p336 = loadptru(p335 + 24);
+								byte *p337 = loadptru(p335 + 32);
+								uint64_t n338 = load64u(p335 + 40);
 								BARRIER();
-								uint64_t n331 = atomic_exchange64(p328 + 256, 1, ORDER_SEQ_CST);
+								uint64_t n339 = atomic_exchange64(p336 + 256, 1, ORDER_SEQ_CST);
 								BARRIER();
-								if (n331 != 0)
-									tp_release_drop_slow(p328, p329, n330);
-								n326 = n326 + 1;
+								if (n339 != 0)
+									tp_release_drop_slow(p336, p337, n338);
+								n334 = n334 + 1;
 							}
-L14:
+L12:
 							{
-								uint64_t n333;
-								if (n325 != 0)
-									rattle_dealloc(p323);
+								uint64_t n341;
+								if (n333 != 0)
+									rattle_dealloc(p331);
 								store64u(p41, 1);
-								byte *p332 = (byte *)(uintptr_t)n269;
+								byte *p340 = (byte *)(uintptr_t)n277;
 								memset(p41 + 8, 0, 16);
-								if (n270 == 0)
-									goto L15;
-								n333 = 0;
-								while (n333 != n270) {
-									byte *p334 = inside(p332, n333 * 88);
-									byte *p335 = loadptru(p334);
-									byte *p336 = loadptru(p334 + 8);
-									uint64_t n337 = load64u(p334 + 16);
-									byte *p338 = loadptru(p334 + 40);
-									byte *p339 = loadptru(p334 + 48);
-									uint64_t n340 = load64u(p334 + 56);
+								if (n278 == 0)
+									goto L13;
+								n341 = 0;
+								while (n341 != n278) {
+									byte *p342 = inside(p340, n341 * 88);
+									byte *p343 = loadptru(p342);
+									byte *p344 = loadptru(p342 + 8);
+									uint64_t n345 = load64u(p342 + 16);
+									byte *p346 = loadptru(p342 + 40);
+									byte *p347 = loadptru(p342 + 48);
+									uint64_t n348 = load64u(p342 + 56);
 									BARRIER();
-									uint64_t n341 = atomic_exchange64(p335 + 256, 1, ORDER_SEQ_CST);
+									uint64_t n349 = atomic_exchange64(p343 + 256, 1, ORDER_SEQ_CST);
 									BARRIER();
-									if (n341 != 0)
-										tp_release_drop_slow(p335, p336, n337);
+									if (n349 != 0)
+										tp_release_drop_slow(p343, p344, n345);
 									BARRIER();
-									uint64_t n342 = atomic_exchange64(p338 + 256, 1, ORDER_SEQ_CST);
+									uint64_t n350 = atomic_exchange64(p346 + 256, 1, ORDER_SEQ_CST);
 									BARRIER();
-									if (n342 != 0)
-										tp_release_drop_slow(p338, p339, n340);
-									n333 = n333 + 1;
+									if (n350 != 0)
+										tp_release_drop_slow(p346, p347, n348);
+									n341 = n341 + 1;
 								}
-L15:
+L13:
 								{
-									if (n271 != 0)
-										rattle_dealloc(p332);
-									if (n255 != 0)
-										rattle_dealloc(p253);
-									if (n258 != 0)
-										rattle_dealloc(p256);
-									n263 = load8(p41);
-									n264 = load64(p41 + 8);
-									n265 = load64(p41 + 16);
-									n266 = load64(p41 + 24);
+									if (n279 != 0)
+										rattle_dealloc(p340);
+									if (n263 != 0)
+										rattle_dealloc(p261);
+									if (n266 != 0)
+										rattle_dealloc(p264);
+									n271 = load8(p41);
+									n272 = load64(p41 + 8);
+									n273 = load64(p41 + 16);
+									n274 = load64(p41 + 24);
 								}
 							}
 						} else {
 							store64u(p71, 0);
-							store64u(p71 + 8, n252);
+							store64u(p71 + 8, n260);
 							memcpy(p71 + 16, p42, 24);
-							storeptru(p71 + 40, p253);
-							store64u(p71 + 48, n254);
-							store64u(p71 + 56, n255);
+							storeptru(p71 + 40, p261);
+							store64u(p71 + 48, n262);
+							store64u(p71 + 56, n263);
 							memcpy(p71 + 64, p43, 16);
-							storeptru(p71 + 80, p256);
-							store64u(p71 + 88, n257);
-							store64u(p71 + 96, n258);
+							storeptru(p71 + 80, p264);
+							store64u(p71 + 88, n265);
+							store64u(p71 + 96, n266);
 							memcpy(p71 + 104, p44, 24);
 							memcpy(p71 + 128, p45, 80);
 							memcpy(p71 + 208, p46, 24);
-							store64u(p71 + 232, n259);
-							store64u(p71 + 240, n260);
-							store64u(p71 + 248, n261);
+							store64u(p71 + 232, n267);
+							store64u(p71 + 240, n268);
+							store64u(p71 + 248, n269);
 							memcpy(p71 + 256, p47, 512);
 							memcpy(p71 + 768, p48, 520);
-							storeptru(p71 + 1288, p262);
+							storeptru(p71 + 1288, p270);
 							memset(p71 + 1296, 0, 24);
-							store64u(p72, n269);
-							store64u(p72 + 8, n270);
-							store64u(p72 + 16, n271);
-							storeptru(p73, p272);
-							store64u(p73 + 8, n270);
-							store64u(p73 + 16, n271);
-							storeptru(p73 + 24, p273);
+							store64u(p72, n277);
+							store64u(p72 + 8, n278);
+							store64u(p72 + 16, n279);
+							storeptru(p73, p280);
+							store64u(p73 + 8, n278);
+							store64u(p73 + 16, n279);
+							storeptru(p73 + 24, p281);
 							store64u(p73 + 32, 0);
-							store64u(p73 + 40, n271);
-							tp_threads_drive_beside(p41, p71, p72, p73, n117);
-							uint8_t n343 = load8_volatile((byte *)tp_static);
-							if (n343 != 0) {
+							store64u(p73 + 40, n279);
+							tp_threads_drive_beside(p41, p71, p72, p73, n126);
+							uint8_t n351 = load8_volatile((byte *)tp_static);
+							if (n351 != 0) {
 								TRAP();
 								UNREACHABLE();
 							}
-							n263 = load8(p41);
-							n264 = load64(p41 + 8);
-							n265 = load64(p41 + 16);
-							n266 = load64(p41 + 24);
+							n271 = load8(p41);
+							n272 = load64(p41 + 8);
+							n273 = load64(p41 + 16);
+							n274 = load64(p41 + 24);
 						}
 					}
 				}
-				uint8_t n344 = load8_volatile((byte *)tp_static);
-				if (n344 != 0) {
+				uint8_t n352 = load8_volatile((byte *)tp_static);
+				if (n352 != 0) {
 					TRAP();
 					UNREACHABLE();
 				}
-				n216 = n263;
-				n217 = n264;
-				n218 = n265;
-				n219 = n266;
+				n224 = n271;
+				n225 = n272;
+				n226 = n273;
+				n227 = n274;
 			}
-			uint8_t n345 = (uint8_t)n217;
-			uint8_t n346 = load8_volatile((byte *)tp_static);
-			if (n346 != 0) {
+			uint8_t n353 = (uint8_t)n225;
+			uint8_t n354 = load8_volatile((byte *)tp_static);
+			if (n354 != 0) {
 				TRAP();
 				UNREACHABLE();
 			}
-			if (n216 == 0) {
-				byte *p347 = (byte *)(uintptr_t)n217;
-				uint64_t n348 = 0;
-				while (n348 < n218) {
-					uint64_t n349 = n218 - n348;
-					uint64_t n350 = os_write(1, at(p347, n348), n349);
-					if ((int64_t)n350 < (int64_t)0) {
+			if (n224 == 0) {
+				byte *p355 = (byte *)(uintptr_t)n225;
+				uint64_t n356 = 0;
+				while (n356 < n226) {
+					uint64_t n357 = n226 - n356;
+					uint64_t n358 = os_write(1, at(p355, n356), n357);
+					if ((int64_t)n358 < (int64_t)0) {
 						tp_error_last_error(p17);
-						goto L16;
+						goto L14;
 					}
-					uint64_t n351 = umin64(n350, n349);
-					if (n351 == 0)
-						goto L16;
-					n348 = n348 + n351;
+					uint64_t n359 = umin64(n358, n357);
+					if (n359 == 0)
+						goto L14;
+					n356 = n356 + n359;
 				}
-				if (n219 == 0) {
-					n352 = 0;
-					goto L17;
+				if (n227 == 0) {
+					n360 = 0;
+					goto L15;
 				}
-				rattle_dealloc(p347);
-				n352 = 0;
-				goto L17;
-L16:
+				rattle_dealloc(p355);
+				n360 = 0;
+				goto L15;
+L14:
 				{
 					store8(p5 + 12, 1);
-					store64u(p14, n348);
+					store64u(p14, n356);
 					storeptru(p16, p14);
 					storeptru(p16 + 8, (byte *)tp_static_121);
 					store64u(p16 + 16, 1);
 					tp_Write_write_fmt(p15, p6, p16);
-					if (n219 == 0) {
-						n352 = 1;
-						goto L17;
+					if (n227 == 0) {
+						n360 = 1;
+						goto L15;
 					}
-					rattle_dealloc(p347);
-					n352 = 1;
-					goto L17;
+					rattle_dealloc(p355);
+					n360 = 1;
+					goto L15;
 				}
 			}
-			switch (MOSTLY_0(n345)) {
+			switch (MOSTLY_0(n353)) {
 			case 0: {
-				n353 = 0;
-				goto L18;
+				n361 = 0;
+				goto L16;
 			}
 			case 1: {
-				uint64_t n357, n358, n367, n381, n382, n386;
-				byte *p380;
+				uint64_t n365, n366, n375, n389, n390, n394;
+				byte *p388;
 				memset(p12, 0, 40);
-				uint64_t n354 = 0;
+				uint64_t n362 = 0;
 				for (;;) {
-					if (n354 >= 7) {
-						n357 = n218;
-						n358 = 40;
+					if (n362 >= 7) {
+						n365 = n226;
+						n366 = 40;
 						break;
 					}
-					uint64_t n355 = 7 - n354;
-					uint64_t n356 = os_write(2, at((byte *)tp_static_399, n354), n355);
-					if ((int64_t)n356 < (int64_t)0) {
+					uint64_t n363 = 7 - n362;
+					uint64_t n364 = os_write(2, at((byte *)tp_static_399, n362), n363);
+					if ((int64_t)n364 < (int64_t)0) {
 						tp_error_last_error(p11);
 						store8(p6, 1);
-						goto L19;
+						goto L17;
 					}
-					if (n356 == 0) {
+					if (n364 == 0) {
 						store8(p6, 1);
-						goto L19;
+						goto L17;
 					}
-					n354 = n354 + umin64(n356, n355);
+					n362 = n362 + umin64(n364, n363);
 				}
-				while (n357 > 9999) {
-					uint16_t n359 = (uint16_t)(n357 % 10000);
-					byte *p360 = inside((byte *)tp_static_257, (uint64_t)(uint16_t)((uint32_t)(uint16_t)(n359 % 100) << 1));
-					byte *p361 = at(p12, n358);
-					uint8_t n362 = load8(p360 + 1);
-					store8(at(p361, UINT64_C(18446744073709551614)), load8(p360));
-					store8(at(p361, UINT64_MAX), n362);
-					uint64_t n363 = n358 - 4;
-					byte *p364 = inside((byte *)tp_static_257, (uint64_t)(uint16_t)((uint32_t)(uint16_t)(n359 / 100) << 1));
-					uint8_t n365 = load8(p364 + 1);
-					store8(inside(p12, n363), load8(p364));
-					store8(at(p361, UINT64_C(18446744073709551613)), n365);
-					n357 = n357 / 10000;
-					n358 = n363;
+				while (n365 > 9999) {
+					uint16_t n367 = (uint16_t)(n365 % 10000);
+					byte *p368 = inside((byte *)tp_static_257, (uint64_t)(uint16_t)((uint32_t)(uint16_t)(n367 % 100) << 1));
+					byte *p369 = at(p12, n366);
+					uint8_t n370 = load8(p368 + 1);
+					store8(at(p369, UINT64_C(18446744073709551614)), load8(p368));
+					store8(at(p369, UINT64_MAX), n370);
+					uint64_t n371 = n366 - 4;
+					byte *p372 = inside((byte *)tp_static_257, (uint64_t)(uint16_t)((uint32_t)(uint16_t)(n367 / 100) << 1));
+					uint8_t n373 = load8(p372 + 1);
+					store8(inside(p12, n371), load8(p372));
+					store8(at(p369, UINT64_C(18446744073709551613)), n373);
+					n365 = n365 / 10000;
+					n366 = n371;
 				}
-				if (n357 < 100) {
-					if (n357 < 10) {
-						uint64_t n366 = n358 - 1;
-						store8(inside(p12, n366), (uint8_t)((uint8_t)n357 | 48));
-						n367 = n366;
+				if (n365 < 100) {
+					if (n365 < 10) {
+						uint64_t n374 = n366 - 1;
+						store8(inside(p12, n374), (uint8_t)((uint8_t)n365 | 48));
+						n375 = n374;
 					} else {
-						uint64_t n368 = n358 - 2;
-						byte *p369 = inside((byte *)tp_static_257, n357 << 1);
-						uint8_t n370 = load8(p369 + 1);
-						store8(inside(p12, n368), load8(p369));
-						store8(at(at(p12, n358), UINT64_MAX), n370);
-						n367 = n368;
+						uint64_t n376 = n366 - 2;
+						byte *p377 = inside((byte *)tp_static_257, n365 << 1);
+						uint8_t n378 = load8(p377 + 1);
+						store8(inside(p12, n376), load8(p377));
+						store8(at(at(p12, n366), UINT64_MAX), n378);
+						n375 = n376;
 					}
 				} else {
-					uint16_t n371 = (uint16_t)n357;
-					byte *p372 = inside((byte *)tp_static_257, (uint64_t)(uint16_t)((uint32_t)(uint16_t)(n371 % 100) << 1));
-					byte *p373 = at(p12, n358);
-					uint8_t n374 = load8(p372 + 1);
-					store8(at(p373, UINT64_C(18446744073709551614)), load8(p372));
-					store8(at(p373, UINT64_MAX), n374);
-					uint16_t n375 = (uint16_t)(n371 / 100);
-					if (n357 < 1000) {
-						uint64_t n376 = n358 - 3;
-						store8(inside(p12, n376), (uint8_t)((uint8_t)n375 | 48));
-						n367 = n376;
+					uint16_t n379 = (uint16_t)n365;
+					byte *p380 = inside((byte *)tp_static_257, (uint64_t)(uint16_t)((uint32_t)(uint16_t)(n379 % 100) << 1));
+					byte *p381 = at(p12, n366);
+					uint8_t n382 = load8(p380 + 1);
+					store8(at(p381, UINT64_C(18446744073709551614)), load8(p380));
+					store8(at(p381, UINT64_MAX), n382);
+					uint16_t n383 = (uint16_t)(n379 / 100);
+					if (n365 < 1000) {
+						uint64_t n384 = n366 - 3;
+						store8(inside(p12, n384), (uint8_t)((uint8_t)n383 | 48));
+						n375 = n384;
 					} else {
-						uint64_t n377 = n358 - 4;
-						byte *p378 = inside((byte *)tp_static_257, (uint64_t)(uint16_t)((uint32_t)n375 << 1));
-						uint8_t n379 = load8(p378 + 1);
-						store8(inside(p12, n377), load8(p378));
-						store8(at(p373, UINT64_C(18446744073709551613)), n379);
-						n367 = n377;
+						uint64_t n385 = n366 - 4;
+						byte *p386 = inside((byte *)tp_static_257, (uint64_t)(uint16_t)((uint32_t)n383 << 1));
+						uint8_t n387 = load8(p386 + 1);
+						store8(inside(p12, n385), load8(p386));
+						store8(at(p381, UINT64_C(18446744073709551613)), n387);
+						n375 = n385;
 					}
 				}
-				p380 = at(p12, n367);
-				n381 = 40 - n367;
-				n382 = 0;
+				p388 = at(p12, n375);
+				n389 = 40 - n375;
+				n390 = 0;
 				for (;;) {
-					if (n382 >= n381) {
-						n386 = 0;
+					if (n390 >= n389) {
+						n394 = 0;
 						break;
 					}
-					uint64_t n383 = n381 - n382;
-					uint64_t n384 = os_write(2, at(p380, n382), n383);
-					if ((int64_t)n384 < (int64_t)0) {
+					uint64_t n391 = n389 - n390;
+					uint64_t n392 = os_write(2, at(p388, n390), n391);
+					if ((int64_t)n392 < (int64_t)0) {
 						tp_error_last_error(p10);
 						store8(p6, 1);
-						goto L19;
+						goto L17;
 					}
-					uint64_t n385 = umin64(n384, n383);
-					if (n385 == 0) {
+					uint64_t n393 = umin64(n392, n391);
+					if (n393 == 0) {
 						store8(p6, 1);
-						goto L19;
+						goto L17;
 					}
-					n382 = n382 + n385;
+					n390 = n390 + n393;
 				}
-				while (n386 < 8) {
-					uint64_t n387 = 8 - n386;
-					uint64_t n388 = os_write(2, at((byte *)tp_static_405, n386), n387);
-					if ((int64_t)n388 < (int64_t)0) {
+				while (n394 < 8) {
+					uint64_t n395 = 8 - n394;
+					uint64_t n396 = os_write(2, at((byte *)tp_static_405, n394), n395);
+					if ((int64_t)n396 < (int64_t)0) {
 						tp_error_last_error(p9);
 						store8(p6, 1);
 						break;
 					}
-					if (n388 == 0) {
+					if (n396 == 0) {
 						store8(p6, 1);
 						break;
 					}
-					n386 = n386 + umin64(n388, n387);
+					n394 = n394 + umin64(n396, n395);
 				}
-L19:
+L17:
 				{
-					n352 = 1;
-					goto L17;
+					n360 = 1;
+					goto L15;
 				}
 			}
 			case 2: {
-				n389 = 0;
+				n397 = 0;
 				break;
 			}
 			default: {
@@ -106740,74 +106674,74 @@ L19:
 			}
 			}
 			for (;;) {
-				if (n389 >= 12) {
-					n352 = 1;
-					goto L17;
+				if (n397 >= 12) {
+					n360 = 1;
+					goto L15;
 				}
-				uint64_t n390 = 12 - n389;
-				uint64_t n391 = os_write(2, at((byte *)tp_static_404, n389), n390);
-				if ((int64_t)n391 < (int64_t)0) {
+				uint64_t n398 = 12 - n397;
+				uint64_t n399 = os_write(2, at((byte *)tp_static_404, n397), n398);
+				if ((int64_t)n399 < (int64_t)0) {
 					tp_error_last_error(p8);
 					store8(p6, 1);
-					n352 = 1;
-					goto L17;
+					n360 = 1;
+					goto L15;
 				}
-				if (n391 == 0) {
+				if (n399 == 0) {
 					store8(p6, 1);
-					n352 = 1;
-					goto L17;
+					n360 = 1;
+					goto L15;
 				}
-				n389 = n389 + umin64(n391, n390);
+				n397 = n397 + umin64(n399, n398);
 			}
 			{
-L18:
+L16:
 				for (;;) {
-					if (n353 >= 14) {
-						n352 = 1;
-						goto L17;
+					if (n361 >= 14) {
+						n360 = 1;
+						goto L15;
 					}
-					uint64_t n392 = 14 - n353;
-					uint64_t n393 = os_write(2, at((byte *)tp_static_403, n353), n392);
-					if ((int64_t)n393 < (int64_t)0) {
+					uint64_t n400 = 14 - n361;
+					uint64_t n401 = os_write(2, at((byte *)tp_static_403, n361), n400);
+					if ((int64_t)n401 < (int64_t)0) {
 						tp_error_last_error(p13);
 						store8(p6, 1);
-						n352 = 1;
-						goto L17;
+						n360 = 1;
+						goto L15;
 					}
-					if (n393 == 0) {
+					if (n401 == 0) {
 						store8(p6, 1);
-						n352 = 1;
-						goto L17;
+						n360 = 1;
+						goto L15;
 					}
-					n353 = n353 + umin64(n393, n392);
+					n361 = n361 + umin64(n401, n400);
 				}
 			}
 		}
 		for (;;) {
-			if (n214 >= 51) {
-				n352 = 5;
+			if (n222 >= 51) {
+				n360 = 5;
 				break;
 			}
-			uint64_t n394 = 51 - n214;
-			uint64_t n395 = os_write(2, at((byte *)tp_static_397, n214), n394);
-			if ((int64_t)n395 < (int64_t)0) {
+			uint64_t n402 = 51 - n222;
+			uint64_t n403 = os_write(2, at((byte *)tp_static_397, n222), n402);
+			if ((int64_t)n403 < (int64_t)0) {
 				tp_error_last_error(p74);
 				store8(p6, 1);
-				n352 = 5;
+				n360 = 5;
 				break;
 			}
-			if (n395 == 0) {
+			if (n403 == 0) {
 				store8(p6, 1);
-				n352 = 5;
+				n360 = 5;
 				break;
 			}
-			n214 = n214 + umin64(n395, n394);
+			n222 = n222 + umin64(n403, n402);
 		}
-L17:
+L15:
 		{
-			uint8_t n396 = load8_volatile((byte *)tp_static);
-			if (n396 == 0)
-				return n352;
+			uint8_t n404 = load8_volatile((byte *)tp_static);
+			if (n404 == 0)
+				return n360;
 			TRAP();
 			UNREACHABLE();
 		}
@@ -106823,205 +106757,193 @@ OWN uint8_t tp_command_run_input(byte *p1, uint8_t n2, byte *p3, byte *p4, byte 
 {
 	ALIGN(1) byte p7[41];
 	ALIGN(8) byte p8[128];
-	ALIGN(8) byte p9[96];
-	ALIGN(8) byte p10[24];
-	ALIGN(8) byte p11[128];
-	ALIGN(8) byte p16[24];
-	uint64_t n28, n30;
-	byte *p29;
-	uint8_t n12 = load8(p1);
-	uint64_t n13 = (uint64_t)n12;
-	store64u(p11, n13);
-	memcpy(p11 + 8, p1 + 8, 80);
-	memcpy(p11 + 88, p1 + 88, 40);
-	byte *p14 = loadptru(p4 + 8);
-	uint64_t n15 = load64u(p4 + 16);
-	if (load8(p4) != 0) {
-		bool b17 = tp_bytes_equal(p14, n15, (byte *)tp_static_110, 1);
-		if (!b17) {
-			uint8_t n23;
-			store64u(p8, n13);
-			memcpy(p8 + 8, p1 + 8, 80);
-			memcpy(p8 + 88, p1 + 88, 40);
-			memset(p9, 0, 96);
-			tp_HostRuntimeOpenerFile_open_to_read(p9, p14, n15);
-			if (load8(p9) == 0) {
-				uint32_t n18 = load32u(p5 + 4);
-				uint32_t n19 = load32u(p9 + 4);
-				uint8_t n20 = load8(p5);
+	ALIGN(8) byte p12[24];
+	ALIGN(8) byte p13[96];
+	ALIGN(8) byte p14[24];
+	uint64_t n25, n27;
+	byte *p26;
+	uint8_t n9 = load8(p1);
+	store64u(p8, (uint64_t)n9);
+	memcpy(p8 + 8, p1 + 8, 80);
+	memcpy(p8 + 88, p1 + 88, 40);
+	byte *p10 = loadptru(p4 + 8);
+	uint64_t n11 = load64u(p4 + 16);
+	uint8_t n15 = load8(p4);
+	memset(p13, 0, 96);
+	if (n15 != 0) {
+		bool b16 = tp_bytes_equal(p10, n11, (byte *)tp_static_110, 1);
+		if (!b16) {
+			uint64_t n23;
+			byte *p24;
+			tp_HostRuntimeOpenerFile_open_to_read(p13, p10, n11);
+			if (load8(p13) == 0) {
+				uint32_t n17 = load32u(p5 + 4);
+				uint32_t n18 = load32u(p13 + 4);
+				uint8_t n19 = load8(p5);
 				store8(p5, 1);
 				store8(p5 + 1, 0);
-				store32u(p5 + 4, n19);
+				store32u(p5 + 4, n18);
 				store8(p5 + 8, 0);
-				switch (MOSTLY_0(n20)) {
+				switch (MOSTLY_0(n19)) {
 				case 0:
 				case 2: {
 					break;
 				}
 				case 1: {
-					(void)os_close(n18);
+					(void)os_close(n17);
 					break;
 				}
 				default: {
 					UNREACHABLE();
 				}
 				}
-				store64u(p10, 1);
-				storeptru(p10 + 8, p14);
-				store64u(p10 + 16, n15);
-				uint8_t n21 = tp_command_run_subcommand(p8, n2, p3, p10, p5, p6);
-				uint8_t n22 = load8_volatile((byte *)tp_static);
-				if (n22 != 0) {
-					TRAP();
+				store64u(p14, 1);
+				storeptru(p14 + 8, p10);
+				store64u(p14 + 16, n11);
+				uint8_t n20 = tp_command_run_subcommand(p8, n2, p3, p14, p5, p6);
+				uint8_t n21 = load8_volatile((byte *)tp_static);
+				if (n21 == 0)
+					return n20;
+				TRAP();
+				UNREACHABLE();
+			}
+			uint8_t n22 = load8(p13 + 9);
+			store8(p7, 0);
+			store8(p7 + 1, 1);
+			store8(p7 + 2, 2);
+			store8(p7 + 3, 3);
+			store8(p7 + 4, 4);
+			store8(p7 + 5, 5);
+			store8(p7 + 6, 6);
+			store8(p7 + 7, 7);
+			store8(p7 + 8, 8);
+			store8(p7 + 9, 9);
+			store8(p7 + 10, 10);
+			store8(p7 + 11, 11);
+			store8(p7 + 12, 12);
+			store8(p7 + 13, 13);
+			store8(p7 + 14, 14);
+			store8(p7 + 15, 15);
+			store8(p7 + 16, 16);
+			store8(p7 + 17, 17);
+			store8(p7 + 18, 18);
+			store8(p7 + 19, 19);
+			store8(p7 + 20, 20);
+			store8(p7 + 21, 21);
+			store8(p7 + 22, 22);
+			store8(p7 + 23, 23);
+			store8(p7 + 24, 24);
+			store8(p7 + 25, 25);
+			store8(p7 + 26, 26);
+			store8(p7 + 27, 27);
+			store8(p7 + 28, 28);
+			store8(p7 + 29, 29);
+			store8(p7 + 30, 30);
+			store8(p7 + 31, 31);
+			store8(p7 + 32, 32);
+			store8(p7 + 33, 33);
+			store8(p7 + 34, 34);
+			store8(p7 + 35, 35);
+			store8(p7 + 36, 36);
+			store8(p7 + 37, 37);
+			store8(p7 + 38, 38);
+			store8(p7 + 39, 39);
+			store8(p7 + 40, 40);
+			if (n22 < 41) {
+				switch (MOSTLY_0(load8(inside(p7, (uint64_t)n22)))) {
+				case 0: {
+					n23 = 25;
+					p24 = (byte *)tp_static_374;
+					goto L1;
+				}
+				case 1: {
+					n23 = 17;
+					p24 = (byte *)tp_static_375;
+					goto L1;
+				}
+				case 15: {
+					n23 = 14;
+					p24 = (byte *)tp_static_376;
+					goto L1;
+				}
+				case 14: {
+					n23 = 15;
+					p24 = (byte *)tp_static_377;
+					goto L1;
+				}
+				case 18: {
+					n23 = 33;
+					p24 = (byte *)tp_static_378;
+					goto L1;
+				}
+				case 33: {
+					n23 = 18;
+					p24 = (byte *)tp_static_379;
+					goto L1;
+				}
+				case 38: {
+					n23 = 13;
+					p24 = (byte *)tp_static_343;
+					goto L1;
+				}
+				case 2:
+				case 3:
+				case 4:
+				case 5:
+				case 6:
+				case 7:
+				case 8:
+				case 9:
+				case 10:
+				case 11:
+				case 12:
+				case 13:
+				case 16:
+				case 17:
+				case 19:
+				case 20:
+				case 21:
+				case 22:
+				case 23:
+				case 24:
+				case 25:
+				case 26:
+				case 27:
+				case 28:
+				case 29:
+				case 30:
+				case 31:
+				case 32:
+				case 34:
+				case 35:
+				case 36:
+				case 37:
+				case 39:
+				case 40:
+				case 41: {
+					break;
+				}
+				default: {
 					UNREACHABLE();
 				}
-				n23 = n21;
-			} else {
-				uint64_t n25;
-				byte *p26;
-				uint8_t n24 = load8(p9 + 9);
-				store8(p7, 0);
-				store8(p7 + 1, 1);
-				store8(p7 + 2, 2);
-				store8(p7 + 3, 3);
-				store8(p7 + 4, 4);
-				store8(p7 + 5, 5);
-				store8(p7 + 6, 6);
-				store8(p7 + 7, 7);
-				store8(p7 + 8, 8);
-				store8(p7 + 9, 9);
-				store8(p7 + 10, 10);
-				store8(p7 + 11, 11);
-				store8(p7 + 12, 12);
-				store8(p7 + 13, 13);
-				store8(p7 + 14, 14);
-				store8(p7 + 15, 15);
-				store8(p7 + 16, 16);
-				store8(p7 + 17, 17);
-				store8(p7 + 18, 18);
-				store8(p7 + 19, 19);
-				store8(p7 + 20, 20);
-				store8(p7 + 21, 21);
-				store8(p7 + 22, 22);
-				store8(p7 + 23, 23);
-				store8(p7 + 24, 24);
-				store8(p7 + 25, 25);
-				store8(p7 + 26, 26);
-				store8(p7 + 27, 27);
-				store8(p7 + 28, 28);
-				store8(p7 + 29, 29);
-				store8(p7 + 30, 30);
-				store8(p7 + 31, 31);
-				store8(p7 + 32, 32);
-				store8(p7 + 33, 33);
-				store8(p7 + 34, 34);
-				store8(p7 + 35, 35);
-				store8(p7 + 36, 36);
-				store8(p7 + 37, 37);
-				store8(p7 + 38, 38);
-				store8(p7 + 39, 39);
-				store8(p7 + 40, 40);
-				if (n24 < 41) {
-					switch (MOSTLY_0(load8(inside(p7, (uint64_t)n24)))) {
-					case 0: {
-						n25 = 25;
-						p26 = (byte *)tp_static_374;
-						goto L1;
-					}
-					case 1: {
-						n25 = 17;
-						p26 = (byte *)tp_static_375;
-						goto L1;
-					}
-					case 15: {
-						n25 = 14;
-						p26 = (byte *)tp_static_376;
-						goto L1;
-					}
-					case 14: {
-						n25 = 15;
-						p26 = (byte *)tp_static_377;
-						goto L1;
-					}
-					case 18: {
-						n25 = 33;
-						p26 = (byte *)tp_static_378;
-						goto L1;
-					}
-					case 33: {
-						n25 = 18;
-						p26 = (byte *)tp_static_379;
-						goto L1;
-					}
-					case 38: {
-						n25 = 13;
-						p26 = (byte *)tp_static_343;
-						goto L1;
-					}
-					case 2:
-					case 3:
-					case 4:
-					case 5:
-					case 6:
-					case 7:
-					case 8:
-					case 9:
-					case 10:
-					case 11:
-					case 12:
-					case 13:
-					case 16:
-					case 17:
-					case 19:
-					case 20:
-					case 21:
-					case 22:
-					case 23:
-					case 24:
-					case 25:
-					case 26:
-					case 27:
-					case 28:
-					case 29:
-					case 30:
-					case 31:
-					case 32:
-					case 34:
-					case 35:
-					case 36:
-					case 37:
-					case 39:
-					case 40:
-					case 41: {
-						break;
-					}
-					default: {
-						UNREACHABLE();
-					}
-					}
-				}
-				n25 = 13;
-				p26 = (byte *)tp_static_380;
-L1:
-				{
-					tp_reports_write_located(p6, p14, n15, 1, 0, p26, n25);
-					n23 = 5;
 				}
 			}
-			uint8_t n27 = load8_volatile((byte *)tp_static);
-			if (n27 == 0)
-				return n23;
-			TRAP();
-			UNREACHABLE();
+			n23 = 13;
+			p24 = (byte *)tp_static_380;
+L1:
+			{
+				tp_reports_write_located(p6, p10, n11, 1, 0, p24, n23);
+				return 5;
+			}
 		}
 	}
-	switch (MOSTLY_0(n12)) {
+	switch (MOSTLY_0(n9)) {
 	case 0: {
-		switch (MOSTLY_0(load8(p11 + 8))) {
+		switch (MOSTLY_0(load8(p8 + 8))) {
 		case 0: {
-			n28 = 0;
-			p29 = NULL;
-			n30 = 0;
+			n25 = 0;
+			p26 = NULL;
+			n27 = 0;
 			goto L2;
 		}
 		case 1:
@@ -107042,18 +106964,18 @@ L1:
 		UNREACHABLE();
 	}
 	}
-	n28 = 1;
-	p29 = (byte *)tp_static_251;
-	n30 = 14;
+	n25 = 1;
+	p26 = (byte *)tp_static_251;
+	n27 = 14;
 L2:
 	{
-		store64u(p16, n28);
-		storeptru(p16 + 8, p29);
-		store64u(p16 + 16, n30);
-		uint8_t n31 = tp_command_run_subcommand(p11, n2, p3, p16, p5, p6);
-		uint8_t n32 = load8_volatile((byte *)tp_static);
-		if (n32 == 0)
-			return n31;
+		store64u(p12, n25);
+		storeptru(p12 + 8, p26);
+		store64u(p12 + 16, n27);
+		uint8_t n28 = tp_command_run_subcommand(p8, n2, p3, p12, p5, p6);
+		uint8_t n29 = load8_volatile((byte *)tp_static);
+		if (n29 == 0)
+			return n28;
 		TRAP();
 		UNREACHABLE();
 	}
@@ -107080,151 +107002,150 @@ OWN uint32_t tp_timers_program_main(void)
 	ALIGN(8) byte p13[144];
 	ALIGN(8) byte p14[40];
 	ALIGN(8) byte p15[144];
-	ALIGN(8) byte p16[128];
-	ALIGN(8) byte p17[16];
+	ALIGN(1) byte p16[23];
+	ALIGN(8) byte p17[128];
 	ALIGN(8) byte p18[112];
 	ALIGN(8) byte p19[32];
 	ALIGN(8) byte p20[24];
-	ALIGN(8) byte p21[128];
+	ALIGN(8) byte p21[24];
 	ALIGN(8) byte p22[24];
-	ALIGN(8) byte p23[24];
-	ALIGN(8) byte p24[40];
-	ALIGN(8) byte p25[144];
-	ALIGN(8) byte p26[24];
-	ALIGN(8) byte p27[144];
-	ALIGN(8) byte p28[16];
-	ALIGN(4) byte p29[20];
-	ALIGN(1) byte p30[7];
-	ALIGN(1) byte p31[48];
-	ALIGN(1) byte p32[7];
-	ALIGN(1) byte p33[23];
+	ALIGN(8) byte p23[40];
+	ALIGN(8) byte p24[144];
+	ALIGN(8) byte p25[24];
+	ALIGN(8) byte p26[144];
+	ALIGN(8) byte p27[16];
+	ALIGN(4) byte p28[20];
+	ALIGN(1) byte p29[7];
+	ALIGN(1) byte p30[48];
+	ALIGN(1) byte p31[7];
+	ALIGN(1) byte p32[23];
+	ALIGN(1) byte p33[7];
 	ALIGN(1) byte p34[7];
-	ALIGN(1) byte p35[7];
-	ALIGN(8) byte p36[32];
-	ALIGN(1) byte p37[7];
-	ALIGN(4) byte p38[16];
-	ALIGN(8) byte p39[32];
-	ALIGN(8) byte p40[232];
-	ALIGN(8) byte p41[40];
-	ALIGN(8) byte p42[24];
-	ALIGN(4) byte p43[16];
-	ALIGN(4) byte p44[20];
-	ALIGN(8) byte p45[232];
-	ALIGN(8) byte p46[40];
-	ALIGN(8) byte p47[24];
-	ALIGN(4) byte p48[16];
-	ALIGN(8) byte p49[24];
-	ALIGN(8) byte p50[240];
-	ALIGN(8) byte p51[48];
-	ALIGN(8) byte p52[56];
-	ALIGN(8) byte p53[40];
-	ALIGN(8) byte p54[56];
-	ALIGN(8) byte p55[40];
-	ALIGN(8) byte p56[48];
+	ALIGN(8) byte p35[32];
+	ALIGN(1) byte p36[7];
+	ALIGN(4) byte p37[16];
+	ALIGN(8) byte p38[32];
+	ALIGN(8) byte p39[232];
+	ALIGN(8) byte p40[40];
+	ALIGN(8) byte p41[24];
+	ALIGN(4) byte p42[16];
+	ALIGN(4) byte p43[20];
+	ALIGN(8) byte p44[232];
+	ALIGN(8) byte p45[40];
+	ALIGN(8) byte p46[24];
+	ALIGN(4) byte p47[16];
+	ALIGN(8) byte p48[24];
+	ALIGN(8) byte p49[240];
+	ALIGN(8) byte p50[48];
+	ALIGN(8) byte p51[56];
+	ALIGN(8) byte p52[40];
+	ALIGN(8) byte p53[56];
+	ALIGN(8) byte p54[40];
+	ALIGN(8) byte p55[48];
+	ALIGN(8) byte p56[16];
 	ALIGN(8) byte p57[16];
-	ALIGN(8) byte p58[16];
-	ALIGN(8) byte p59[48];
-	ALIGN(8) byte p60[672];
-	ALIGN(8) byte p61[608];
-	ALIGN(8) byte p62[24];
-	ALIGN(8) byte p63[48];
-	ALIGN(8) byte p64[672];
-	ALIGN(8) byte p65[88];
-	ALIGN(8) byte p66[680];
-	ALIGN(8) byte p67[136];
-	ALIGN(8) byte p68[48];
-	ALIGN(8) byte p69[24];
-	ALIGN(8) byte p70[48];
+	ALIGN(8) byte p58[48];
+	ALIGN(8) byte p59[672];
+	ALIGN(8) byte p60[608];
+	ALIGN(8) byte p61[24];
+	ALIGN(8) byte p62[48];
+	ALIGN(8) byte p63[672];
+	ALIGN(8) byte p64[88];
+	ALIGN(8) byte p65[680];
+	ALIGN(8) byte p66[136];
+	ALIGN(8) byte p67[48];
+	ALIGN(8) byte p68[24];
+	ALIGN(8) byte p69[48];
+	ALIGN(8) byte p70[24];
 	ALIGN(8) byte p71[24];
 	ALIGN(8) byte p72[24];
 	ALIGN(8) byte p73[24];
-	ALIGN(8) byte p74[24];
-	ALIGN(8) byte p75[240];
-	ALIGN(8) byte p76[88];
-	ALIGN(1) byte p77[7];
-	ALIGN(8) byte p78[48];
-	ALIGN(1) byte p79[7];
-	ALIGN(1) byte p80[23];
+	ALIGN(8) byte p74[240];
+	ALIGN(8) byte p75[88];
+	ALIGN(1) byte p76[7];
+	ALIGN(8) byte p77[48];
+	ALIGN(1) byte p78[7];
+	ALIGN(1) byte p79[23];
+	ALIGN(1) byte p80[7];
 	ALIGN(1) byte p81[7];
-	ALIGN(1) byte p82[7];
-	ALIGN(8) byte p83[32];
-	ALIGN(1) byte p84[7];
-	ALIGN(8) byte p85[48];
-	ALIGN(1) byte p86[7];
-	ALIGN(1) byte p87[23];
+	ALIGN(8) byte p82[32];
+	ALIGN(1) byte p83[7];
+	ALIGN(8) byte p84[48];
+	ALIGN(1) byte p85[7];
+	ALIGN(1) byte p86[23];
+	ALIGN(1) byte p87[7];
 	ALIGN(1) byte p88[7];
-	ALIGN(1) byte p89[7];
-	ALIGN(8) byte p90[32];
-	ALIGN(8) byte p91[48];
-	ALIGN(1) byte p92[7];
-	ALIGN(8) byte p93[48];
-	ALIGN(1) byte p94[7];
-	ALIGN(1) byte p95[23];
+	ALIGN(8) byte p89[32];
+	ALIGN(8) byte p90[48];
+	ALIGN(1) byte p91[7];
+	ALIGN(8) byte p92[48];
+	ALIGN(1) byte p93[7];
+	ALIGN(1) byte p94[23];
+	ALIGN(1) byte p95[7];
 	ALIGN(1) byte p96[7];
-	ALIGN(1) byte p97[7];
-	ALIGN(8) byte p98[32];
+	ALIGN(8) byte p97[32];
+	ALIGN(8) byte p98[24];
 	ALIGN(8) byte p99[24];
 	ALIGN(8) byte p100[24];
 	ALIGN(8) byte p101[24];
-	ALIGN(8) byte p102[24];
-	ALIGN(1) byte p103[1];
-	uint64_t n106, n121, n132, n143;
-	byte *p120;
-	uint8_t n555;
+	ALIGN(1) byte p102[1];
+	uint64_t n105, n120, n131, n142;
+	byte *p119;
+	uint8_t n549;
 	(void)os___sysv_signal(13, 1);
-	store8(p103, 0);
-	storeptru(p102, p1);
-	memset(p102 + 8, 0, 16);
+	store8(p102, 0);
+	storeptru(p101, p1);
+	memset(p101 + 8, 0, 16);
+	uint64_t n103 = 0;
 	uint64_t n104 = 0;
-	uint64_t n105 = 0;
 	for (;;) {
-		uint64_t n109, n117;
-		if (n105 == UINT64_MAX) {
-			n106 = n104;
+		uint64_t n108, n116;
+		if (n104 == UINT64_MAX) {
+			n105 = n103;
 			goto L1;
 		}
-		uint64_t n107 = 256;
-		uint32_t n108 = 0;
+		uint64_t n106 = 256;
+		uint32_t n107 = 0;
 		for (;;) {
-			byte *p110;
-			if (n108 == 64)
+			byte *p109;
+			if (n107 == 64)
 				goto L2;
-			storeptru(p101, p1);
-			memset(p101 + 8, 0, 16);
-			if (n107 == 0) {
-				n109 = 0;
-				p110 = p1;
+			storeptru(p100, p1);
+			memset(p100 + 8, 0, 16);
+			if (n106 == 0) {
+				n108 = 0;
+				p109 = p1;
 			} else {
-				bool b111 = tp_Vec_grow_amortized(p101, n107);
-				if (!b111)
+				bool b110 = tp_Vec_grow_amortized(p100, n106);
+				if (!b110)
 					goto L3;
-				uint64_t n112 = load64(p101 + 8);
-				uint64_t n113 = load64(p101 + 16);
-				byte *p114 = loadptr(p101);
-				uint64_t n115 = n112 + n107;
-				uint64_t n116 = n112;
-				while (n116 < n115) {
-					store8(inside(p114, n116), 0);
-					n116 = n116 + 1;
+				uint64_t n111 = load64(p100 + 8);
+				uint64_t n112 = load64(p100 + 16);
+				byte *p113 = loadptr(p100);
+				uint64_t n114 = n111 + n106;
+				uint64_t n115 = n111;
+				while (n115 < n114) {
+					store8(inside(p113, n115), 0);
+					n115 = n115 + 1;
 				}
-				storeptr(p101, p114);
-				store64(p101 + 8, n115);
-				store64(p101 + 16, n113);
-				n109 = n115;
-				p110 = p114;
+				storeptr(p100, p113);
+				store64(p100 + 8, n114);
+				store64(p100 + 16, n112);
+				n108 = n114;
+				p109 = p113;
 			}
-			n117 = rattle_arg(n105, p110, n109);
-			rattle_set_errno(((int64_t)n117 > (int64_t)UINT64_MAX) ? 0 : (uint32_t)((n117 == UINT64_MAX) ? 22 : 36));
-			uint32_t n118 = rattle_errno();
-			switch (n118) {
+			n116 = rattle_arg(n104, p109, n108);
+			rattle_set_errno(((int64_t)n116 > (int64_t)UINT64_MAX) ? 0 : (uint32_t)((n116 == UINT64_MAX) ? 22 : 36));
+			uint32_t n117 = rattle_errno();
+			switch (n117) {
 			case 0: {
 				goto L4;
 			}
 			case 36: {
-				if (load64u(p101 + 16) != 0)
-					rattle_dealloc(loadptru(p101));
-				n107 = uadd_sat64(n107, n107);
-				n108 = n108 + 1;
+				if (load64u(p100 + 16) != 0)
+					rattle_dealloc(loadptru(p100));
+				n106 = uadd_sat64(n106, n106);
+				n107 = n107 + 1;
 				break;
 			}
 			default: {
@@ -107234,348 +107155,349 @@ OWN uint32_t tp_timers_program_main(void)
 		}
 L4:
 		{
-			uint64_t n124;
-			uint64_t n119 = ((int64_t)n117 > (int64_t)0) ? umin64(load64(p101 + 8), umin64(n117, n109)) : 0;
-			p120 = loadptr(p101);
-			n121 = load64(p101 + 16);
-			memset(p100, 0, 24);
-			tp_utf8_from_utf8(p100, p120, n119);
-			if (load8(p100) != 0)
+			uint64_t n123;
+			uint64_t n118 = ((int64_t)n116 > (int64_t)0) ? umin64(load64(p100 + 8), umin64(n116, n108)) : 0;
+			p119 = loadptr(p100);
+			n120 = load64(p100 + 16);
+			memset(p99, 0, 24);
+			tp_utf8_from_utf8(p99, p119, n118);
+			if (load8(p99) != 0)
 				goto L6;
-			uint64_t n122 = load64(p102 + 8);
-			if (load64(p102 + 16) == n122) {
-				bool b123 = tp_std_alloc_vec_Vec_grow_amortized_21(p102, 1);
-				if (!b123)
+			uint64_t n121 = load64(p101 + 8);
+			if (load64(p101 + 16) == n121) {
+				bool b122 = tp_std_alloc_vec_Vec_grow_amortized_21(p101, 1);
+				if (!b122)
 					goto L7;
-				n124 = load64(p102 + 8);
+				n123 = load64(p101 + 8);
 			} else {
-				n124 = n122;
+				n123 = n121;
 			}
-			byte *p125 = inside(loadptr(p102), n124 * 24);
-			storeptru(p125, p120);
-			store64u(p125 + 8, n119);
-			store64u(p125 + 16, n121);
-			uint64_t n126 = n124 + 1;
-			store64(p102 + 8, n126);
-			n104 = n126;
-			n105 = n105 + 1;
+			byte *p124 = inside(loadptr(p101), n123 * 24);
+			storeptru(p124, p119);
+			store64u(p124 + 8, n118);
+			store64u(p124 + 16, n120);
+			uint64_t n125 = n123 + 1;
+			store64(p101 + 8, n125);
+			n103 = n125;
+			n104 = n104 + 1;
 		}
 	}
 L3:
 	{
-		if (load64u(p101 + 16) != 0)
-			rattle_dealloc(loadptru(p101));
+		if (load64u(p100 + 16) != 0)
+			rattle_dealloc(loadptru(p100));
 		goto L2;
 	}
 L5:
 	{
-		if (load64u(p101 + 16) != 0)
-			rattle_dealloc(loadptru(p101));
-		n106 = load64u(p102 + 8);
+		if (load64u(p100 + 16) != 0)
+			rattle_dealloc(loadptru(p100));
+		n105 = load64u(p101 + 8);
 		goto L1;
 	}
 L6:
 	{
-		uint64_t n130;
-		if (n121 != 0)
-			rattle_dealloc(p120);
-		byte *p127 = loadptru(p102);
-		uint64_t n128 = load64u(p102 + 8);
-		uint64_t n129 = load64u(p102 + 16);
-		if (n128 == 0)
+		uint64_t n129;
+		if (n120 != 0)
+			rattle_dealloc(p119);
+		byte *p126 = loadptru(p101);
+		uint64_t n127 = load64u(p101 + 8);
+		uint64_t n128 = load64u(p101 + 16);
+		if (n127 == 0)
 			goto L8;
-		n130 = 0;
-		while (n130 != n128) {
-			byte *p131 = inside(p127, n130 * 24);
-			if (load64u(p131 + 16) != 0)
-				rattle_dealloc(loadptru(p131));
-			n130 = n130 + 1;
+		n129 = 0;
+		while (n129 != n127) {
+			byte *p130 = inside(p126, n129 * 24);
+			if (load64u(p130 + 16) != 0)
+				rattle_dealloc(loadptru(p130));
+			n129 = n129 + 1;
 		}
 L8:
 		{
-			if (n129 == 0) {
-				n132 = 21;
+			if (n128 == 0) {
+				n131 = 21;
 				goto L9;
 			}
-			rattle_dealloc(p127);
-			n132 = 21;
+			rattle_dealloc(p126);
+			n131 = 21;
 			goto L9;
 		}
 	}
 L7:
 	{
-		uint64_t n136;
-		if (n121 != 0)
-			rattle_dealloc(p120);
-		byte *p133 = loadptru(p102);
-		uint64_t n134 = load64u(p102 + 8);
-		uint64_t n135 = load64u(p102 + 16);
-		if (n134 == 0)
+		uint64_t n135;
+		if (n120 != 0)
+			rattle_dealloc(p119);
+		byte *p132 = loadptru(p101);
+		uint64_t n133 = load64u(p101 + 8);
+		uint64_t n134 = load64u(p101 + 16);
+		if (n133 == 0)
 			goto L10;
-		n136 = 0;
-		while (n136 != n134) {
-			byte *p137 = inside(p133, n136 * 24);
-			if (load64u(p137 + 16) != 0)
-				rattle_dealloc(loadptru(p137));
-			n136 = n136 + 1;
+		n135 = 0;
+		while (n135 != n133) {
+			byte *p136 = inside(p132, n135 * 24);
+			if (load64u(p136 + 16) != 0)
+				rattle_dealloc(loadptru(p136));
+			n135 = n135 + 1;
 		}
 L10:
 		{
-			if (n135 == 0) {
-				n132 = 38;
+			if (n134 == 0) {
+				n131 = 38;
 				goto L9;
 			}
-			rattle_dealloc(p133);
-			n132 = 38;
+			rattle_dealloc(p132);
+			n131 = 38;
 			goto L9;
 		}
 	}
 L2:
 	{
-		uint64_t n141;
-		byte *p138 = loadptru(p102);
-		uint64_t n139 = load64u(p102 + 8);
-		uint64_t n140 = load64u(p102 + 16);
-		if (n139 == 0)
+		uint64_t n140;
+		byte *p137 = loadptru(p101);
+		uint64_t n138 = load64u(p101 + 8);
+		uint64_t n139 = load64u(p101 + 16);
+		if (n138 == 0)
 			goto L11;
-		n141 = 0;
-		while (n141 != n139) {
-			byte *p142 = inside(p138, n141 * 24);
-			if (load64u(p142 + 16) != 0)
-				rattle_dealloc(loadptru(p142));
-			n141 = n141 + 1;
+		n140 = 0;
+		while (n140 != n138) {
+			byte *p141 = inside(p137, n140 * 24);
+			if (load64u(p141 + 16) != 0)
+				rattle_dealloc(loadptru(p141));
+			n140 = n140 + 1;
 		}
 L11:
 		{
-			if (n140 == 0) {
-				n132 = 38;
+			if (n139 == 0) {
+				n131 = 38;
 			} else {
-				rattle_dealloc(p138);
-				n132 = 38;
+				rattle_dealloc(p137);
+				n131 = 38;
 			}
 		}
 	}
 L9:
 	{
-		n143 = n132;
+		n142 = n131;
 		goto L12;
 	}
 L1:
 	{
-		uint64_t n154, n156, n157, n161, n172, n173, n174;
-		byte *p159, *p171;
-		byte *p144 = loadptru(p102);
-		uint64_t n145 = load64u(p102 + 16);
-		uint64_t n146 = 0;
-		byte *p147 = p1;
-		uint64_t n148 = 0;
-		uint64_t n149 = n106;
-		uint64_t n150 = 0;
+		uint64_t n153, n155, n156, n160, n171, n172, n173;
+		byte *p158, *p170;
+		byte *p143 = loadptru(p101);
+		uint64_t n144 = load64u(p101 + 16);
+		uint64_t n145 = 0;
+		byte *p146 = p1;
+		uint64_t n147 = 0;
+		uint64_t n148 = n105;
+		uint64_t n149 = 0;
 		for (;;) {
-			byte *p158;
-			uint64_t n164;
-			uint64_t n151 = (n148 == 0) ? 0 : n146;
-			memset(p99 + 8, 0, 16);
+			byte *p157;
+			uint64_t n163;
+			uint64_t n150 = (n147 == 0) ? 0 : n145;
+			memset(p98 + 8, 0, 16);
+			uint64_t n151 = n148;
 			uint64_t n152 = n149;
-			uint64_t n153 = n150;
-			n154 = n148;
+			n153 = n147;
 			for (;;) {
-				if (n152 == 0)
+				if (n151 == 0)
 					goto L13;
-				uint64_t n155 = false ? 0 : n153;
-				n156 = n155 + 1;
-				n157 = n152 - 1;
-				p158 = at(p144, n155 * 24);
-				if (n154 == n151)
+				uint64_t n154 = false ? 0 : n152;
+				n155 = n154 + 1;
+				n156 = n151 - 1;
+				p157 = at(p143, n154 * 24);
+				if (n153 == n150)
 					break;
-				memmove(inside(p147, n154 * 24), p158, 24);
-				n152 = n157;
-				n153 = n156;
-				n154 = n154 + 1;
+				memmove(inside(p146, n153 * 24), p157, 24);
+				n151 = n156;
+				n152 = n155;
+				n153 = n153 + 1;
 			}
-			p159 = loadptru(p158);
-			uint64_t n160 = load64u(p158 + 8);
-			n161 = load64u(p158 + 16);
-			storeptr(p99, p147);
-			store64(p99 + 8, n151);
-			store64(p99 + 16, n146);
-			if (n152 > (n146 - n151)) {
-				bool b162 = tp_std_alloc_vec_Vec_grow_amortized_21(p99, n152);
-				uint64_t n163 = load64(p99 + 8);
-				if (b162 || (load64(p99 + 16) != n163)) {
-					n164 = n163;
+			p158 = loadptru(p157);
+			uint64_t n159 = load64u(p157 + 8);
+			n160 = load64u(p157 + 16);
+			storeptr(p98, p146);
+			store64(p98 + 8, n150);
+			store64(p98 + 16, n145);
+			if (n151 > (n145 - n150)) {
+				bool b161 = tp_std_alloc_vec_Vec_grow_amortized_21(p98, n151);
+				uint64_t n162 = load64(p98 + 8);
+				if (b161 || (load64(p98 + 16) != n162)) {
+					n163 = n162;
 				} else {
-					bool b165 = tp_std_alloc_vec_Vec_grow_amortized_21(p99, 1);
-					if (!b165)
+					bool b164 = tp_std_alloc_vec_Vec_grow_amortized_21(p98, 1);
+					if (!b164)
 						break;
-					n164 = load64(p99 + 8);
+					n163 = load64(p98 + 8);
 				}
 			} else {
-				n164 = n151;
+				n163 = n150;
 			}
-			byte *p166 = inside(loadptr(p99), n164 * 24);
-			storeptru(p166, p159);
-			store64u(p166 + 8, n160);
-			store64u(p166 + 16, n161);
-			uint64_t n167 = n164 + 1;
-			store64(p99 + 8, n167);
-			n146 = load64(p99 + 16);
-			p147 = loadptr(p99);
-			n148 = n167;
-			n149 = n157;
-			n150 = n156;
+			byte *p165 = inside(loadptr(p98), n163 * 24);
+			storeptru(p165, p158);
+			store64u(p165 + 8, n159);
+			store64u(p165 + 16, n160);
+			uint64_t n166 = n163 + 1;
+			store64(p98 + 8, n166);
+			n145 = load64(p98 + 16);
+			p146 = loadptr(p98);
+			n147 = n166;
+			n148 = n156;
+			n149 = n155;
 		}
-		if (n161 != 0)
-			rattle_dealloc(p159);
-		if (n157 != 0) {
-			uint64_t n168 = n156 + (n157 - 0);
-			uint64_t n169 = n156;
-			while (n169 < n168) {
-				byte *p170 = inside(p144, n169 * 24);
-				if (load64u(p170 + 16) != 0)
-					rattle_dealloc(loadptru(p170));
-				n169 = n169 + 1;
+		if (n160 != 0)
+			rattle_dealloc(p158);
+		if (n156 != 0) {
+			uint64_t n167 = n155 + (n156 - 0);
+			uint64_t n168 = n155;
+			while (n168 < n167) {
+				byte *p169 = inside(p143, n168 * 24);
+				if (load64u(p169 + 16) != 0)
+					rattle_dealloc(loadptru(p169));
+				n168 = n168 + 1;
 			}
 		}
-		if (n145 != 0)
-			rattle_dealloc(p144);
-		p171 = loadptru(p99);
-		n172 = load64u(p99 + 8);
-		n173 = load64u(p99 + 16);
-		if (n172 == 0)
+		if (n144 != 0)
+			rattle_dealloc(p143);
+		p170 = loadptru(p98);
+		n171 = load64u(p98 + 8);
+		n172 = load64u(p98 + 16);
+		if (n171 == 0)
 			goto L14;
-		n174 = 0;
-		while (n174 != n172) {
-			byte *p175 = inside(p171, n174 * 24);
-			if (load64u(p175 + 16) != 0)
-				rattle_dealloc(loadptru(p175));
-			n174 = n174 + 1;
+		n173 = 0;
+		while (n173 != n171) {
+			byte *p174 = inside(p170, n173 * 24);
+			if (load64u(p174 + 16) != 0)
+				rattle_dealloc(loadptru(p174));
+			n173 = n173 + 1;
 		}
 L14:
 		{
-			if (n173 != 0)
-				rattle_dealloc(p171);
-			n143 = 38;
+			if (n172 != 0)
+				rattle_dealloc(p170);
+			n142 = 38;
 			goto L12;
 		}
 L13:
 		{
-			uint64_t n177, n178, n179, n185, n414, n416, n417, n419, n420, n421, n422, n426, n429, n459, n460, n462, n463, n464, n465, n469, n472, n475, n478, n541;
-			uint8_t n180, n181, n413, n418, n423, n424, n427, n430, n461, n466, n467, n470, n473, n474, n476, n522, n523, n540, n543;
-			byte *p184, *p415, *p425, *p428, *p458, *p468, *p471, *p477, *p542;
-			uint32_t n521;
-			storeptr(p99, p147);
-			store64(p99 + 8, n154);
-			store64(p99 + 16, n146);
-			uint64_t n176 = (uint64_t)(uintptr_t)p147;
-			if (n145 == 0) {
-				n177 = n146;
-				n178 = n154;
-				n179 = (n176 >> 16) & UINT64_C(281474976710655);
-				n180 = (uint8_t)(n176 >> 8);
-				n181 = (uint8_t)n176;
+			uint64_t n176, n177, n178, n184, n413, n414, n416, n417, n418, n419, n423, n426, n427, n458, n459, n461, n462, n463, n464, n468, n471, n474, n476, n537;
+			uint8_t n179, n180, n415, n420, n421, n424, n428, n429, n460, n465, n466, n469, n472, n473, n477, n518, n519, n536, n539;
+			byte *p183, *p412, *p422, *p425, *p457, *p467, *p470, *p475, *p538;
+			uint32_t n517;
+			storeptr(p98, p146);
+			store64(p98 + 8, n153);
+			store64(p98 + 16, n145);
+			uint64_t n175 = (uint64_t)(uintptr_t)p146;
+			if (n144 == 0) {
+				n176 = n145;
+				n177 = n153;
+				n178 = (n175 >> 16) & UINT64_C(281474976710655);
+				n179 = (uint8_t)(n175 >> 8);
+				n180 = (uint8_t)n175;
 			} else {
-				rattle_dealloc(p144);
-				n177 = load64(p99 + 16);
-				n178 = load64(p99 + 8);
-				n179 = load48u(p99 + 2);
-				n180 = load8(p99 + 1);
-				n181 = load8(p99);
+				rattle_dealloc(p143);
+				n176 = load64(p98 + 16);
+				n177 = load64(p98 + 8);
+				n178 = load48u(p98 + 2);
+				n179 = load8(p98 + 1);
+				n180 = load8(p98);
 			}
-			bool b182 = n177 == 0;
-			byte *p183 = (byte *)(uintptr_t)((((uint64_t)n180 << 8) | (uint64_t)n181) | (n179 << 16));
-			if (n178 != 0) {
-				p184 = at(p183, 24);
-				n185 = usub_sat64(n178, 1);
+			bool b181 = n176 == 0;
+			byte *p182 = (byte *)(uintptr_t)((((uint64_t)n179 << 8) | (uint64_t)n180) | (n178 << 16));
+			if (n177 != 0) {
+				p183 = at(p182, 24);
+				n184 = usub_sat64(n177, 1);
 			} else {
-				p184 = p183;
-				n185 = 0;
+				p183 = p182;
+				n184 = 0;
 			}
-			memset(p92, 0, 7);
-			memset(p93, 0, 48);
-			memset(p94, 0, 7);
-			memset(p95, 0, 23);
+			memset(p91, 0, 7);
+			memset(p92, 0, 48);
+			memset(p93, 0, 7);
+			memset(p94, 0, 23);
+			memset(p95, 0, 7);
 			memset(p96, 0, 7);
-			memset(p97, 0, 7);
-			memset(p98, 0, 32);
-			memset(p77, 0, 7);
-			memset(p78, 0, 48);
-			memset(p79, 0, 7);
-			memset(p80, 0, 23);
+			memset(p97, 0, 32);
+			memset(p76, 0, 7);
+			memset(p77, 0, 48);
+			memset(p78, 0, 7);
+			memset(p79, 0, 23);
+			memset(p80, 0, 7);
 			memset(p81, 0, 7);
-			memset(p82, 0, 7);
-			memset(p83, 0, 32);
-			memset(p84, 0, 7);
-			memset(p85, 0, 48);
-			memset(p86, 0, 7);
-			memset(p87, 0, 23);
+			memset(p82, 0, 32);
+			memset(p83, 0, 7);
+			memset(p84, 0, 48);
+			memset(p85, 0, 7);
+			memset(p86, 0, 23);
+			memset(p87, 0, 7);
 			memset(p88, 0, 7);
-			memset(p89, 0, 7);
-			memset(p90, 0, 32);
-			memset(p91, 0, 48);
-			memset(p75, 0, 240);
-			memset(p76, 0, 88);
-			if (n185 != 0) {
-				uint8_t n242, n243, n345, n346;
-				uint64_t n244, n245, n246, n247, n248, n249, n250, n251, n252, n253, n254, n255, n256, n257, n258, n259, n260, n261, n347, n348, n349, n350, n351, n352, n353, n354, n355, n356, n357, n358, n359, n360, n361, n362, n363;
-				byte *p186 = loadptr(p184);
-				uint64_t n187 = load64(p184 + 8);
-				bool b188 = tp_bytes_equal(p186, n187, (byte *)tp_static_4, 4);
-				if (!b188) {
-					bool b189 = tp_bytes_equal(p186, n187, (byte *)tp_static_17, 5);
-					if (!b189) {
-						bool b190 = tp_bytes_equal(p186, n187, (byte *)tp_static_18, 4);
-						if (!b190) {
-							bool b191 = tp_bytes_equal(p186, n187, (byte *)tp_static_19, 7);
-							if (!b191) {
-								bool b192 = tp_bytes_equal(p186, n187, (byte *)tp_static_20, 5);
-								if (!b192) {
-									bool b193 = tp_arguments_is_of_text(p186, n187);
-									if (!b193) {
-										uint8_t n207, n208;
-										uint64_t n209, n210, n211, n212, n213, n214, n215, n216, n217, n218, n219, n220, n221, n222, n223, n224, n225, n226;
-										memset(p50, 0, 240);
-										memset(p51, 0, 48);
-										storeptru(p49, p1);
-										memset(p49 + 8, 0, 16);
-										bool b194 = tp_std_alloc_vec_Vec_grow_amortized_17(p49);
-										if (b194) {
-											uint64_t n195 = load64(p49 + 8);
-											byte *p196 = inside(loadptr(p49), n195 << 4);
-											storeptru(p196, (byte *)tp_static_4);
-											store64u(p196 + 8, 4);
-											uint64_t n197 = n195 + 1;
-											store64(p49 + 8, n197);
-											uint64_t n198 = n197;
-											uint64_t n199 = 0;
+			memset(p89, 0, 32);
+			memset(p90, 0, 48);
+			memset(p74, 0, 240);
+			memset(p75, 0, 88);
+			if (n184 != 0) {
+				uint8_t n241, n242, n344, n345;
+				uint64_t n243, n244, n245, n246, n247, n248, n249, n250, n251, n252, n253, n254, n255, n256, n257, n258, n259, n260, n346, n347, n348, n349, n350, n351, n352, n353, n354, n355, n356, n357, n358, n359, n360, n361, n362;
+				byte *p185 = loadptr(p183);
+				uint64_t n186 = load64(p183 + 8);
+				bool b187 = tp_bytes_equal(p185, n186, (byte *)tp_static_4, 4);
+				if (!b187) {
+					bool b188 = tp_bytes_equal(p185, n186, (byte *)tp_static_17, 5);
+					if (!b188) {
+						bool b189 = tp_bytes_equal(p185, n186, (byte *)tp_static_18, 4);
+						if (!b189) {
+							bool b190 = tp_bytes_equal(p185, n186, (byte *)tp_static_19, 7);
+							if (!b190) {
+								bool b191 = tp_bytes_equal(p185, n186, (byte *)tp_static_20, 5);
+								if (!b191) {
+									bool b192 = tp_calls_is_of_text(p185, n186);
+									if (!b192) {
+										uint8_t n206, n207;
+										uint64_t n208, n209, n210, n211, n212, n213, n214, n215, n216, n217, n218, n219, n220, n221, n222, n223, n224, n225;
+										memset(p49, 0, 240);
+										memset(p50, 0, 48);
+										storeptru(p48, p1);
+										memset(p48 + 8, 0, 16);
+										bool b193 = tp_std_alloc_vec_Vec_grow_amortized_17(p48);
+										if (b193) {
+											uint64_t n194 = load64(p48 + 8);
+											byte *p195 = inside(loadptr(p48), n194 << 4);
+											storeptru(p195, (byte *)tp_static_4);
+											store64u(p195 + 8, 4);
+											uint64_t n196 = n194 + 1;
+											store64(p48 + 8, n196);
+											uint64_t n197 = n196;
+											uint64_t n198 = 0;
 											for (;;) {
-												uint64_t n204;
-												if (n199 == n185)
+												uint64_t n203;
+												if (n198 == n184)
 													goto L15;
-												byte *p200 = at(p184, n199 * 24);
-												byte *p201 = loadptr(p200);
-												uint64_t n202 = load64(p200 + 8);
-												if (load64(p49 + 16) == n198) {
-													bool b203 = tp_std_alloc_vec_Vec_grow_amortized_17(p49);
-													if (!b203)
+												byte *p199 = at(p183, n198 * 24);
+												byte *p200 = loadptr(p199);
+												uint64_t n201 = load64(p199 + 8);
+												if (load64(p48 + 16) == n197) {
+													bool b202 = tp_std_alloc_vec_Vec_grow_amortized_17(p48);
+													if (!b202)
 														break;
-													n204 = load64(p49 + 8);
+													n203 = load64(p48 + 8);
 												} else {
-													n204 = n198;
+													n203 = n197;
 												}
-												byte *p205 = inside(loadptr(p49), n204 << 4);
-												storeptru(p205, p201);
-												store64u(p205 + 8, n202);
-												uint64_t n206 = n204 + 1;
-												store64(p49 + 8, n206);
-												n198 = n206;
-												n199 = n199 + 1;
+												byte *p204 = inside(loadptr(p48), n203 << 4);
+												storeptru(p204, p200);
+												store64u(p204 + 8, n201);
+												uint64_t n205 = n203 + 1;
+												store64(p48 + 8, n205);
+												n197 = n205;
+												n198 = n198 + 1;
 											}
-											if (load64u(p49 + 16) != 0)
-												rattle_dealloc(loadptru(p49));
-											memset(p76, 0, 88);
-											n207 = 1;
-											n208 = 16;
+											if (load64u(p48 + 16) != 0)
+												rattle_dealloc(loadptru(p48));
+											memset(p75, 0, 88);
+											n206 = 1;
+											n207 = 16;
+											n208 = 0;
 											n209 = 0;
 											n210 = 0;
 											n211 = 0;
@@ -107593,60 +107515,60 @@ L13:
 											n223 = 0;
 											n224 = 0;
 											n225 = 0;
-											n226 = 0;
 											goto L16;
 L15:
 											{
-												tp_arguments_parsed(p50, loadptr(p49), n198, p184, n185);
-												uint8_t n227 = load8(p50 + 8);
-												uint64_t n228 = load64u(p50 + 16);
-												if (load8(p50) == 0) {
-													if (load8(p50 + 136) == 1) {
-														if (load64u(p49 + 16) != 0)
-															rattle_dealloc(loadptru(p49));
-														uint64_t n229 = load56u(p50 + 9);
-														uint64_t n230 = load64(p50 + 24);
-														uint64_t n231 = load64(p50 + 32);
-														uint64_t n232 = load64(p50 + 40);
-														memcpy(p76, p50 + 48, 88);
-														n207 = 0;
-														n208 = n227;
-														n209 = n229 << 8;
-														n210 = n228;
+												tp_calls_parsed(p49, loadptr(p48), n197, p183, n184);
+												uint8_t n226 = load8(p49 + 8);
+												uint64_t n227 = load64u(p49 + 16);
+												if (load8(p49) == 0) {
+													if (load8(p49 + 136) == 1) {
+														if (load64u(p48 + 16) != 0)
+															rattle_dealloc(loadptru(p48));
+														uint64_t n228 = load56u(p49 + 9);
+														uint64_t n229 = load64(p49 + 24);
+														uint64_t n230 = load64(p49 + 32);
+														uint64_t n231 = load64(p49 + 40);
+														memcpy(p75, p49 + 48, 88);
+														n206 = 0;
+														n207 = n226;
+														n208 = n228 << 8;
+														n209 = n227;
+														n210 = n229;
 														n211 = n230;
 														n212 = n231;
-														n213 = n232;
-														n214 = load64(p50 + 136);
-														n215 = load64(p50 + 144);
-														n216 = load64(p50 + 152);
-														n217 = load64(p50 + 160);
-														n218 = load64(p50 + 168);
-														n219 = load64(p50 + 176);
-														n220 = load64(p50 + 184);
-														n221 = load64(p50 + 192);
-														n222 = load64(p50 + 200);
-														n223 = load64(p50 + 208);
-														n224 = load64(p50 + 216);
-														n225 = load64(p50 + 224);
-														n226 = load64(p50 + 232);
+														n213 = load64(p49 + 136);
+														n214 = load64(p49 + 144);
+														n215 = load64(p49 + 152);
+														n216 = load64(p49 + 160);
+														n217 = load64(p49 + 168);
+														n218 = load64(p49 + 176);
+														n219 = load64(p49 + 184);
+														n220 = load64(p49 + 192);
+														n221 = load64(p49 + 200);
+														n222 = load64(p49 + 208);
+														n223 = load64(p49 + 216);
+														n224 = load64(p49 + 224);
+														n225 = load64(p49 + 232);
 													} else {
-														tp_arguments_refusal(p51, (byte *)tp_static_233, 65);
-														uint8_t n233 = load8(p51 + 8);
-														if (load8(p51) == 0) {
-															uint64_t n234 = (uint64_t)load8(p51 + 16);
-															if (load64u(p49 + 16) != 0)
-																rattle_dealloc(loadptru(p49));
-															uint64_t n235 = load64(p51 + 24);
-															uint64_t n236 = load64(p51 + 32);
-															uint64_t n237 = load64(p51 + 40);
-															memset(p76, 0, 88);
-															n207 = 1;
-															n208 = n233;
-															n209 = 0;
+														tp_calls_refusal(p50, (byte *)tp_static_233, 65);
+														uint8_t n232 = load8(p50 + 8);
+														if (load8(p50) == 0) {
+															uint64_t n233 = (uint64_t)load8(p50 + 16);
+															if (load64u(p48 + 16) != 0)
+																rattle_dealloc(loadptru(p48));
+															uint64_t n234 = load64(p50 + 24);
+															uint64_t n235 = load64(p50 + 32);
+															uint64_t n236 = load64(p50 + 40);
+															memset(p75, 0, 88);
+															n206 = 1;
+															n207 = n232;
+															n208 = 0;
+															n209 = n233;
 															n210 = n234;
 															n211 = n235;
 															n212 = n236;
-															n213 = n237;
+															n213 = 0;
 															n214 = 0;
 															n215 = 0;
 															n216 = 0;
@@ -107659,13 +107581,13 @@ L15:
 															n223 = 0;
 															n224 = 0;
 															n225 = 0;
-															n226 = 0;
 														} else {
-															if (load64u(p49 + 16) != 0)
-																rattle_dealloc(loadptru(p49));
-															memset(p76, 0, 88);
-															n207 = 1;
-															n208 = 16;
+															if (load64u(p48 + 16) != 0)
+																rattle_dealloc(loadptru(p48));
+															memset(p75, 0, 88);
+															n206 = 1;
+															n207 = 16;
+															n208 = 0;
 															n209 = 0;
 															n210 = 0;
 															n211 = 0;
@@ -107683,24 +107605,24 @@ L15:
 															n223 = 0;
 															n224 = 0;
 															n225 = 0;
-															n226 = 0;
 														}
 													}
 												} else {
-													uint64_t n238 = n228 & 255;
-													if (load64u(p49 + 16) != 0)
-														rattle_dealloc(loadptru(p49));
-													uint64_t n239 = load64(p50 + 24);
-													uint64_t n240 = load64(p50 + 32);
-													uint64_t n241 = load64(p50 + 40);
-													memset(p76, 0, 88);
-													n207 = 1;
-													n208 = n227;
-													n209 = 0;
+													uint64_t n237 = n227 & 255;
+													if (load64u(p48 + 16) != 0)
+														rattle_dealloc(loadptru(p48));
+													uint64_t n238 = load64(p49 + 24);
+													uint64_t n239 = load64(p49 + 32);
+													uint64_t n240 = load64(p49 + 40);
+													memset(p75, 0, 88);
+													n206 = 1;
+													n207 = n226;
+													n208 = 0;
+													n209 = n237;
 													n210 = n238;
 													n211 = n239;
 													n212 = n240;
-													n213 = n241;
+													n213 = 0;
 													n214 = 0;
 													n215 = 0;
 													n216 = 0;
@@ -107713,15 +107635,15 @@ L15:
 													n223 = 0;
 													n224 = 0;
 													n225 = 0;
-													n226 = 0;
 												}
 											}
 										} else {
-											if (load64u(p49 + 16) != 0)
-												rattle_dealloc(loadptru(p49));
-											memset(p76, 0, 88);
-											n207 = 1;
-											n208 = 16;
+											if (load64u(p48 + 16) != 0)
+												rattle_dealloc(loadptru(p48));
+											memset(p75, 0, 88);
+											n206 = 1;
+											n207 = 16;
+											n208 = 0;
 											n209 = 0;
 											n210 = 0;
 											n211 = 0;
@@ -107739,10 +107661,10 @@ L15:
 											n223 = 0;
 											n224 = 0;
 											n225 = 0;
-											n226 = 0;
 										}
 L16:
 										{
+											n241 = n206;
 											n242 = n207;
 											n243 = n208;
 											n244 = n209;
@@ -107762,7 +107684,6 @@ L16:
 											n258 = n223;
 											n259 = n224;
 											n260 = n225;
-											n261 = n226;
 											goto L17;
 										}
 									}
@@ -107771,303 +107692,304 @@ L16:
 						}
 					}
 				}
-				memset(p65, 0, 88);
-				memset(p66, 0, 680);
-				memset(p67, 0, 136);
-				memset(p68, 0, 48);
-				memset(p69, 0, 24);
-				memset(p70, 0, 48);
+				memset(p64, 0, 88);
+				memset(p65, 0, 680);
+				memset(p66, 0, 136);
+				memset(p67, 0, 48);
+				memset(p68, 0, 24);
+				memset(p69, 0, 48);
+				memset(p70, 0, 24);
 				memset(p71, 0, 24);
 				memset(p72, 0, 24);
 				memset(p73, 0, 24);
-				memset(p74, 0, 24);
-				tp_arguments_program(p66);
-				if (load8(p66) == 0) {
-					uint64_t n271, n272, n273, n274, n275, n276;
-					uint8_t n277;
-					memcpy(p64, p66 + 8, 672);
-					memset(p63, 0, 48);
-					storeptru(p62, p1);
-					memset(p62 + 8, 0, 16);
+				tp_arguments_program(p65);
+				if (load8(p65) == 0) {
+					uint64_t n270, n271, n272, n273, n274, n275;
+					uint8_t n276;
+					memcpy(p63, p65 + 8, 672);
+					memset(p62, 0, 48);
+					storeptru(p61, p1);
+					memset(p61 + 8, 0, 16);
+					uint64_t n261 = 0;
 					uint64_t n262 = 0;
-					uint64_t n263 = 0;
 					for (;;) {
-						uint64_t n268;
-						if (n263 == n185)
+						uint64_t n267;
+						if (n262 == n184)
 							goto L18;
-						byte *p264 = at(p184, n263 * 24);
-						byte *p265 = loadptr(p264);
-						uint64_t n266 = load64(p264 + 8);
-						if (load64(p62 + 16) == n262) {
-							bool b267 = tp_std_alloc_vec_Vec_grow_amortized_12(p62, 1);
-							if (!b267)
+						byte *p263 = at(p183, n262 * 24);
+						byte *p264 = loadptr(p263);
+						uint64_t n265 = load64(p263 + 8);
+						if (load64(p61 + 16) == n261) {
+							bool b266 = tp_std_alloc_vec_Vec_grow_amortized_12(p61, 1);
+							if (!b266)
 								break;
-							n268 = load64(p62 + 8);
+							n267 = load64(p61 + 8);
 						} else {
-							n268 = n262;
+							n267 = n261;
 						}
-						byte *p269 = inside(loadptr(p62), n268 << 4);
-						storeptru(p269, p265);
-						store64u(p269 + 8, n266);
-						uint64_t n270 = n268 + 1;
-						store64(p62 + 8, n270);
-						n262 = n270;
-						n263 = n263 + 1;
+						byte *p268 = inside(loadptr(p61), n267 << 4);
+						storeptru(p268, p264);
+						store64u(p268 + 8, n265);
+						uint64_t n269 = n267 + 1;
+						store64(p61 + 8, n269);
+						n261 = n269;
+						n262 = n262 + 1;
 					}
-					if (load64u(p62 + 16) != 0)
-						rattle_dealloc(loadptru(p62));
+					if (load64u(p61 + 16) != 0)
+						rattle_dealloc(loadptru(p61));
+					n270 = 0;
 					n271 = 0;
 					n272 = 0;
 					n273 = 0;
 					n274 = 0;
-					n275 = 0;
-					n276 = 16;
-					n277 = 1;
+					n275 = 16;
+					n276 = 1;
 					goto L19;
 L18:
 					{
-						byte *p278 = loadptr(p62);
-						bool b279 = load64(p62 + 16) == 0;
-						of_i8_i64 s280 = tp_Command_note_bin_name(p64, p278, n262);
-						if (s280.f0 == 0) {
-							if ((load8(p64 + 669) & 1) == 0) {
-								uint64_t n281 = tp_Command_depth(p64);
-								uint8_t n282 = tp_building_build_levels(uadd_sat64(n281, 2), p64);
-								store8(p64 + 669, n282);
-								if ((n282 & 1) == 0) {
-									uint64_t n283 = tp_Command_depth(p64);
-									uint8_t n284 = tp_building_name_levels(n283, p64);
-									if ((n284 & 1) == 0) {
-										tp_parse_parse_words(p63, p64, p278, n262, s280.f1);
-										if (!b279)
-											rattle_dealloc(p278);
-										n271 = load56u(p63 + 9) << 8;
-										n272 = load64(p63 + 40);
-										n273 = load64(p63 + 32);
-										n274 = load64(p63 + 24);
-										n275 = load64(p63 + 16);
-										n276 = (uint64_t)load8(p63 + 8);
-										n277 = load8(p63);
+						byte *p277 = loadptr(p61);
+						bool b278 = load64(p61 + 16) == 0;
+						of_i8_i64 s279 = tp_Command_note_bin_name(p63, p277, n261);
+						if (s279.f0 == 0) {
+							if ((load8(p63 + 669) & 1) == 0) {
+								uint64_t n280 = tp_Command_depth(p63);
+								uint8_t n281 = tp_building_build_levels(uadd_sat64(n280, 2), p63);
+								store8(p63 + 669, n281);
+								if ((n281 & 1) == 0) {
+									uint64_t n282 = tp_Command_depth(p63);
+									uint8_t n283 = tp_building_name_levels(n282, p63);
+									if ((n283 & 1) == 0) {
+										tp_parse_parse_words(p62, p63, p277, n261, s279.f1);
+										if (!b278)
+											rattle_dealloc(p277);
+										n270 = load56u(p62 + 9) << 8;
+										n271 = load64(p62 + 40);
+										n272 = load64(p62 + 32);
+										n273 = load64(p62 + 24);
+										n274 = load64(p62 + 16);
+										n275 = (uint64_t)load8(p62 + 8);
+										n276 = load8(p62);
 										goto L19;
 									}
 								}
 							}
-							if (b279) {
+							if (b278) {
+								n270 = 0;
 								n271 = 0;
 								n272 = 0;
 								n273 = 0;
 								n274 = 0;
-								n275 = 0;
-								n276 = 16;
-								n277 = 1;
+								n275 = 16;
+								n276 = 1;
 							} else {
-								rattle_dealloc(p278);
+								rattle_dealloc(p277);
+								n270 = 0;
 								n271 = 0;
 								n272 = 0;
 								n273 = 0;
 								n274 = 0;
-								n275 = 0;
-								n276 = 16;
-								n277 = 1;
+								n275 = 16;
+								n276 = 1;
 							}
-						} else if (b279) {
+						} else if (b278) {
+							n270 = 0;
 							n271 = 0;
 							n272 = 0;
 							n273 = 0;
 							n274 = 0;
-							n275 = 0;
-							n276 = 16;
-							n277 = 1;
+							n275 = 16;
+							n276 = 1;
 						} else {
-							rattle_dealloc(p278);
+							rattle_dealloc(p277);
+							n270 = 0;
 							n271 = 0;
 							n272 = 0;
 							n273 = 0;
 							n274 = 0;
-							n275 = 0;
-							n276 = 16;
-							n277 = 1;
+							n275 = 16;
+							n276 = 1;
 						}
 					}
 L19:
 					{
-						uint64_t n291;
-						byte *p285 = loadptru(p64 + 56);
-						if (load8(p64 + 48) == 1) {
-							if (load64u(p64 + 72) != 0)
+						uint64_t n290;
+						byte *p284 = loadptru(p63 + 56);
+						if (load8(p63 + 48) == 1) {
+							if (load64u(p63 + 72) != 0)
+								rattle_dealloc(p284);
+						}
+						byte *p285 = loadptru(p63 + 88);
+						if (load8(p63 + 80) == 1) {
+							if (load64u(p63 + 104) != 0)
 								rattle_dealloc(p285);
 						}
-						byte *p286 = loadptru(p64 + 88);
-						if (load8(p64 + 80) == 1) {
-							if (load64u(p64 + 104) != 0)
+						byte *p286 = loadptru(p63 + 120);
+						if (load8(p63 + 112) == 1) {
+							if (load64u(p63 + 136) != 0)
 								rattle_dealloc(p286);
 						}
-						byte *p287 = loadptru(p64 + 120);
-						if (load8(p64 + 112) == 1) {
-							if (load64u(p64 + 136) != 0)
-								rattle_dealloc(p287);
-						}
-						if (load64u(p64 + 376) != 0)
-							rattle_dealloc(loadptru(p64 + 360));
-						if (load64u(p64 + 400) != 0)
-							rattle_dealloc(loadptru(p64 + 384));
-						if (load64u(p64 + 424) != 0)
-							rattle_dealloc(loadptru(p64 + 408));
-						byte *p288 = loadptru(p64 + 576);
-						uint64_t n289 = load64u(p64 + 584);
-						uint64_t n290 = load64u(p64 + 592);
-						if (n289 == 0)
+						if (load64u(p63 + 376) != 0)
+							rattle_dealloc(loadptru(p63 + 360));
+						if (load64u(p63 + 400) != 0)
+							rattle_dealloc(loadptru(p63 + 384));
+						if (load64u(p63 + 424) != 0)
+							rattle_dealloc(loadptru(p63 + 408));
+						byte *p287 = loadptru(p63 + 576);
+						uint64_t n288 = load64u(p63 + 584);
+						uint64_t n289 = load64u(p63 + 592);
+						if (n288 == 0)
 							goto L20;
-						n291 = 0;
-						while (n291 != n289) {
-							memcpy(p61, inside(p288, n291 * 608), 608);
-							tp_clap_builder_arg_Arg_Destruct_drop(p61);
-							n291 = n291 + 1;
+						n290 = 0;
+						while (n290 != n288) {
+							memcpy(p60, inside(p287, n290 * 608), 608);
+							tp_clap_builder_arg_Arg_Destruct_drop(p60);
+							n290 = n290 + 1;
 						}
 L20:
 						{
-							uint64_t n295;
-							if (n290 != 0)
-								rattle_dealloc(p288);
-							byte *p292 = loadptru(p64 + 600);
-							uint64_t n293 = load64u(p64 + 608);
-							uint64_t n294 = load64u(p64 + 616);
-							if (n293 == 0)
+							uint64_t n294;
+							if (n289 != 0)
+								rattle_dealloc(p287);
+							byte *p291 = loadptru(p63 + 600);
+							uint64_t n292 = load64u(p63 + 608);
+							uint64_t n293 = load64u(p63 + 616);
+							if (n292 == 0)
 								goto L21;
-							n295 = 0;
-							while (n295 != n293) {
-								memcpy(p60, inside(p292, n295 * 672), 672);
-								tp_clap_builder_command_Command_Destruct_drop(p60);
-								n295 = n295 + 1;
+							n294 = 0;
+							while (n294 != n292) {
+								memcpy(p59, inside(p291, n294 * 672), 672);
+								tp_clap_builder_command_Command_Destruct_drop(p59);
+								n294 = n294 + 1;
 							}
 L21:
 							{
-								uint64_t n299;
-								if (n294 != 0)
-									rattle_dealloc(p292);
-								byte *p296 = loadptru(p64 + 624);
-								uint64_t n297 = load64u(p64 + 632);
-								uint64_t n298 = load64u(p64 + 640);
-								if (n297 == 0)
+								uint64_t n298;
+								if (n293 != 0)
+									rattle_dealloc(p291);
+								byte *p295 = loadptru(p63 + 624);
+								uint64_t n296 = load64u(p63 + 632);
+								uint64_t n297 = load64u(p63 + 640);
+								if (n296 == 0)
 									goto L22;
-								n299 = 0;
-								while (n299 != n297) {
-									byte *p300 = inside(p296, n299 * 104);
-									byte *p301 = loadptru(p300 + 48);
-									uint64_t n302 = load64u(p300 + 64);
-									byte *p303 = loadptru(p300 + 72);
-									uint64_t n304 = load64u(p300 + 88);
-									if (load64u(p300 + 32) != 0)
-										rattle_dealloc(loadptru(p300 + 16));
-									if (n302 != 0)
-										rattle_dealloc(p301);
-									if (n304 != 0)
-										rattle_dealloc(p303);
-									n299 = n299 + 1;
+								n298 = 0;
+								while (n298 != n296) {
+									byte *p299 = inside(p295, n298 * 104);
+									byte *p300 = loadptru(p299 + 48);
+									uint64_t n301 = load64u(p299 + 64);
+									byte *p302 = loadptru(p299 + 72);
+									uint64_t n303 = load64u(p299 + 88);
+									if (load64u(p299 + 32) != 0)
+										rattle_dealloc(loadptru(p299 + 16));
+									if (n301 != 0)
+										rattle_dealloc(p300);
+									if (n303 != 0)
+										rattle_dealloc(p302);
+									n298 = n298 + 1;
 								}
 L22:
 								{
-									if (n298 != 0)
-										rattle_dealloc(p296);
-									if (n277 == 0) {
-										uint8_t n305 = (uint8_t)n273;
-										byte *p306 = (byte *)(uintptr_t)(n276 | n271);
-										if (n305 == 1) {
-											byte *p307 = (byte *)(uintptr_t)n272;
-											tp_arguments_subcommand_of(p67, p186, n187, p307 + 16);
-											if (load8(p67) == 1) {
-												uint64_t n317, n318, n319;
-												uint8_t n308 = load8(p67 + 8);
-												uint64_t n309 = load64u(p67 + 16);
-												uint64_t n310 = load64u(p67 + 24);
-												uint64_t n311 = load64u(p67 + 32);
-												uint64_t n312 = load64u(p67 + 40);
-												byte *p313 = loadptr(p307 + 16);
-												uint64_t n314 = load64(p307 + 24);
-												byte *p315 = p313;
-												uint64_t n316 = n314;
+									if (n297 != 0)
+										rattle_dealloc(p295);
+									if (n276 == 0) {
+										uint8_t n304 = (uint8_t)n272;
+										byte *p305 = (byte *)(uintptr_t)(n275 | n270);
+										if (n304 == 1) {
+											byte *p306 = (byte *)(uintptr_t)n271;
+											tp_found_subcommand_of(p66, p185, n186, p306 + 16);
+											if (load8(p66) == 1) {
+												uint64_t n316, n317, n318;
+												uint8_t n307 = load8(p66 + 8);
+												uint64_t n308 = load64u(p66 + 16);
+												uint64_t n309 = load64u(p66 + 24);
+												uint64_t n310 = load64u(p66 + 32);
+												uint64_t n311 = load64u(p66 + 40);
+												byte *p312 = loadptr(p306 + 16);
+												uint64_t n313 = load64(p306 + 24);
+												byte *p314 = p312;
+												uint64_t n315 = n313;
 												for (;;) {
-													if (n316 == 0) {
+													if (n315 == 0) {
+														n316 = 0;
 														n317 = 0;
 														n318 = 0;
-														n319 = 0;
 														goto L23;
 													}
-													bool b320 = tp_bytes_equal(loadptru(p315), load64u(p315 + 8), (byte *)tp_static_44, 4);
-													if (b320)
+													bool b319 = tp_bytes_equal(loadptru(p314), load64u(p314 + 8), (byte *)tp_static_44, 4);
+													if (b319)
 														break;
-													p315 = at(p315, 104);
-													n316 = n316 - 1;
+													p314 = at(p314, 104);
+													n315 = n315 - 1;
 												}
-												if (load64(p315 + 56) != 0) {
-													uint64_t n334, n335, n337, n338, n339;
-													uint8_t n336;
-													byte *p321 = loadptr(p315 + 48);
-													byte *p322 = loadptru(p321);
-													uint64_t n323 = load64u(p321 + 8);
-													uint64_t n324 = 0;
-													while (n324 != n185) {
-														byte *p325 = at(p184, n324 * 24);
-														byte *p326 = loadptr(p325);
-														uint64_t n327 = load64(p325 + 8);
-														bool b328 = tp_bytes_equal(p326, n327, p322, n323);
-														if (b328) {
-															n317 = 1;
-															n318 = (uint64_t)(uintptr_t)p326;
-															n319 = n327;
+												if (load64(p314 + 56) != 0) {
+													uint64_t n333, n334, n336, n337, n338;
+													uint8_t n335;
+													byte *p320 = loadptr(p314 + 48);
+													byte *p321 = loadptru(p320);
+													uint64_t n322 = load64u(p320 + 8);
+													uint64_t n323 = 0;
+													while (n323 != n184) {
+														byte *p324 = at(p183, n323 * 24);
+														byte *p325 = loadptr(p324);
+														uint64_t n326 = load64(p324 + 8);
+														bool b327 = tp_bytes_equal(p325, n326, p321, n322);
+														if (b327) {
+															n316 = 1;
+															n317 = (uint64_t)(uintptr_t)p325;
+															n318 = n326;
 															goto L23;
 														}
-														n324 = n324 + 1;
+														n323 = n323 + 1;
 													}
-													memset(p59, 0, 48);
-													tp_arguments_refusal(p59, (byte *)tp_static_228, 61);
-													uint8_t n329 = load8(p59 + 8);
-													uint8_t n330 = load8(p59 + 16);
-													uint64_t n331 = load64(p59 + 24);
-													uint64_t n332 = load64(p59 + 32);
-													uint64_t n333 = load64(p59 + 40);
-													if (load8(p59) == 0) {
-														n334 = n333;
-														n335 = n332;
-														n336 = n329;
-														n337 = (uint64_t)n330;
-														n338 = n331;
+													memset(p58, 0, 48);
+													tp_calls_refusal(p58, (byte *)tp_static_228, 61);
+													uint8_t n328 = load8(p58 + 8);
+													uint8_t n329 = load8(p58 + 16);
+													uint64_t n330 = load64(p58 + 24);
+													uint64_t n331 = load64(p58 + 32);
+													uint64_t n332 = load64(p58 + 40);
+													if (load8(p58) == 0) {
+														n333 = n332;
+														n334 = n331;
+														n335 = n328;
+														n336 = (uint64_t)n329;
+														n337 = n330;
 													} else {
+														n333 = 0;
 														n334 = 0;
-														n335 = 0;
-														n336 = 16;
+														n335 = 16;
+														n336 = 0;
 														n337 = 0;
-														n338 = 0;
 													}
-													if (n275 == 0)
+													if (n274 == 0)
 														goto L24;
-													n339 = 0;
-													while (n339 != n275) {
-														byte *p340 = inside(p306, n339 * 104);
-														byte *p341 = loadptru(p340 + 48);
-														uint64_t n342 = load64u(p340 + 64);
-														byte *p343 = loadptru(p340 + 72);
-														uint64_t n344 = load64u(p340 + 88);
-														if (load64u(p340 + 40) != 0)
-															rattle_dealloc(loadptru(p340 + 24));
-														if (n342 != 0)
-															rattle_dealloc(p341);
-														if (n344 != 0)
-															rattle_dealloc(p343);
-														n339 = n339 + 1;
+													n338 = 0;
+													while (n338 != n274) {
+														byte *p339 = inside(p305, n338 * 104);
+														byte *p340 = loadptru(p339 + 48);
+														uint64_t n341 = load64u(p339 + 64);
+														byte *p342 = loadptru(p339 + 72);
+														uint64_t n343 = load64u(p339 + 88);
+														if (load64u(p339 + 40) != 0)
+															rattle_dealloc(loadptru(p339 + 24));
+														if (n341 != 0)
+															rattle_dealloc(p340);
+														if (n343 != 0)
+															rattle_dealloc(p342);
+														n338 = n338 + 1;
 													}
 L24:
 													{
-														if (n274 != 0)
-															rattle_dealloc(p306);
-														tp_Box_drop(p307);
-														memset(p76, 0, 88);
-														n345 = 1;
+														if (n273 != 0)
+															rattle_dealloc(p305);
+														tp_Box_drop(p306);
+														memset(p75, 0, 88);
+														n344 = 1;
+														n345 = n335;
 														n346 = n336;
 														n347 = n337;
-														n348 = n338;
-														n349 = n335;
-														n350 = n334;
+														n348 = n334;
+														n349 = n333;
+														n350 = 0;
 														n351 = 0;
 														n352 = 0;
 														n353 = 0;
@@ -108080,67 +108002,67 @@ L24:
 														n360 = 0;
 														n361 = 0;
 														n362 = 0;
-														n363 = 0;
 														goto L25;
 													}
 												}
+												n316 = 0;
 												n317 = 0;
 												n318 = 0;
-												n319 = 0;
 L23:
 												{
-													byte *p365, *p369;
-													uint64_t n366, n367;
-													bool b370;
-													memset(p58, 0, 16);
-													bool b364 = tp_bytes_equal(p186, n187, (byte *)tp_static_17, 5);
-													if (!b364) {
-														n367 = 0;
+													byte *p364, *p368;
+													uint64_t n365, n366;
+													bool b369;
+													memset(p57, 0, 16);
+													bool b363 = tp_bytes_equal(p185, n186, (byte *)tp_static_17, 5);
+													if (!b363) {
+														n366 = 0;
 														goto L26;
 													}
-													p365 = p313;
-													n366 = n314;
+													p364 = p312;
+													n365 = n313;
 													for (;;) {
-														if (n366 == 0) {
-															n367 = 0;
+														if (n365 == 0) {
+															n366 = 0;
 															goto L26;
 														}
-														bool b368 = tp_bytes_equal(loadptru(p365), load64u(p365 + 8), (byte *)tp_static_7, 5);
-														if (b368)
+														bool b367 = tp_bytes_equal(loadptru(p364), load64u(p364 + 8), (byte *)tp_static_7, 5);
+														if (b367)
 															break;
-														p365 = at(p365, 104);
-														n366 = n366 - 1;
+														p364 = at(p364, 104);
+														n365 = n365 - 1;
 													}
-													p369 = loadptr(p365 + 48);
-													b370 = load64(p365 + 56) != 0;
-													memset(p57, 0, 16);
-													if (b370)
-														memcpy(p57, p369, 16);
-													memcpy(p58, p57, 16);
-													n367 = (uint64_t)b370;
+													p368 = loadptr(p364 + 48);
+													b369 = load64(p364 + 56) != 0;
+													memset(p56, 0, 16);
+													if (b369)
+														memcpy(p56, p368, 16);
+													memcpy(p57, p56, 16);
+													n366 = (uint64_t)b369;
 L26:
 													{
-														store64u(p69, n367);
-														memcpy(p69 + 8, p58, 16);
-														tp_arguments_path_among(p68, p184, n185, (byte *)tp_static_6, 8, p69);
-														uint8_t n371 = load8(p68 + 8);
-														uint64_t n372 = load64u(p68 + 16);
-														uint64_t n373 = load64u(p68 + 24);
-														if (load8(p68) != 0) {
-															uint64_t n381 = load64u(p68 + 32);
-															uint64_t n382 = load64u(p68 + 40);
-															storeptru(p72, p306);
-															store64u(p72 + 8, n275);
-															store64u(p72 + 16, n274);
-															tp_std_alloc_vec_Vec_drop_4(p72);
-															tp_Box_drop(p307);
-															memset(p76, 0, 88);
-															n345 = 1;
-															n346 = n371;
-															n347 = n372 & 255;
-															n348 = n373;
+														store64u(p68, n366);
+														memcpy(p68 + 8, p57, 16);
+														tp_calls_path_among(p67, p183, n184, (byte *)tp_static_6, 8, p68);
+														uint8_t n370 = load8(p67 + 8);
+														uint64_t n371 = load64u(p67 + 16);
+														uint64_t n372 = load64u(p67 + 24);
+														if (load8(p67) != 0) {
+															uint64_t n380 = load64u(p67 + 32);
+															uint64_t n381 = load64u(p67 + 40);
+															storeptru(p71, p305);
+															store64u(p71 + 8, n274);
+															store64u(p71 + 16, n273);
+															tp_std_alloc_vec_Vec_drop_4(p71);
+															tp_Box_drop(p306);
+															memset(p75, 0, 88);
+															n344 = 1;
+															n345 = n370;
+															n346 = n371 & 255;
+															n347 = n372;
+															n348 = n380;
 															n349 = n381;
-															n350 = n382;
+															n350 = 0;
 															n351 = 0;
 															n352 = 0;
 															n353 = 0;
@@ -108153,29 +108075,29 @@ L26:
 															n360 = 0;
 															n361 = 0;
 															n362 = 0;
-															n363 = 0;
 															goto L25;
 														}
-														tp_arguments_path_of(p71, p186, n187, p307 + 16);
-														tp_arguments_path_among(p70, p184, n185, (byte *)tp_static_8, 10, p71);
-														uint8_t n374 = load8(p70 + 8);
-														uint64_t n375 = load64u(p70 + 16);
-														uint64_t n376 = load64u(p70 + 24);
-														if (load8(p70) != 0) {
-															uint64_t n379 = load64u(p70 + 32);
-															uint64_t n380 = load64u(p70 + 40);
-															storeptru(p73, p306);
-															store64u(p73 + 8, n275);
-															store64u(p73 + 16, n274);
-															tp_std_alloc_vec_Vec_drop_4(p73);
-															tp_Box_drop(p307);
-															memset(p76, 0, 88);
-															n345 = 1;
-															n346 = n374;
-															n347 = n375 & 255;
-															n348 = n376;
+														tp_found_path_of(p70, p185, n186, p306 + 16);
+														tp_calls_path_among(p69, p183, n184, (byte *)tp_static_8, 10, p70);
+														uint8_t n373 = load8(p69 + 8);
+														uint64_t n374 = load64u(p69 + 16);
+														uint64_t n375 = load64u(p69 + 24);
+														if (load8(p69) != 0) {
+															uint64_t n378 = load64u(p69 + 32);
+															uint64_t n379 = load64u(p69 + 40);
+															storeptru(p72, p305);
+															store64u(p72 + 8, n274);
+															store64u(p72 + 16, n273);
+															tp_std_alloc_vec_Vec_drop_4(p72);
+															tp_Box_drop(p306);
+															memset(p75, 0, 88);
+															n344 = 1;
+															n345 = n373;
+															n346 = n374 & 255;
+															n347 = n375;
+															n348 = n378;
 															n349 = n379;
-															n350 = n380;
+															n350 = 0;
 															n351 = 0;
 															n352 = 0;
 															n353 = 0;
@@ -108188,94 +108110,94 @@ L26:
 															n360 = 0;
 															n361 = 0;
 															n362 = 0;
-															n363 = 0;
 															goto L25;
 														}
-														of_i8_i64 s377 = tp_arguments_number_of_serve(p186, n187, (byte *)tp_static_10, 4, p307 + 16);
-														of_i8_i64 s378 = tp_arguments_number_of_serve(p186, n187, (byte *)tp_static_11, 8, p307 + 16);
-														memcpy(p65, p67 + 48, 48);
-														memcpy(p65 + 48, p67 + 96, 40);
-														storeptru(p74, p306);
-														store64u(p74 + 8, n275);
-														store64u(p74 + 16, n274);
-														tp_std_alloc_vec_Vec_drop_4(p74);
-														tp_Box_drop(p307);
-														memcpy(p76, p65, 88);
-														n345 = 0;
+														of_i8_i64 s376 = tp_found_number_of_serve(p185, n186, (byte *)tp_static_10, 4, p306 + 16);
+														of_i8_i64 s377 = tp_found_number_of_serve(p185, n186, (byte *)tp_static_11, 8, p306 + 16);
+														memcpy(p64, p66 + 48, 48);
+														memcpy(p64 + 48, p66 + 96, 40);
+														storeptru(p73, p305);
+														store64u(p73 + 8, n274);
+														store64u(p73 + 16, n273);
+														tp_std_alloc_vec_Vec_drop_4(p73);
+														tp_Box_drop(p306);
+														memcpy(p75, p64, 88);
+														n344 = 0;
+														n345 = n307;
 														n346 = n308;
 														n347 = n309;
 														n348 = n310;
 														n349 = n311;
-														n350 = n312;
+														n350 = n316;
 														n351 = n317;
 														n352 = n318;
-														n353 = n319;
-														n354 = (uint64_t)n371;
+														n353 = (uint64_t)n370;
+														n354 = n371;
 														n355 = n372;
-														n356 = n373;
-														n357 = (uint64_t)n374;
+														n356 = (uint64_t)n373;
+														n357 = n374;
 														n358 = n375;
-														n359 = n376;
-														n360 = (uint64_t)s377.f0;
-														n361 = s377.f1;
-														n362 = (uint64_t)s378.f0;
-														n363 = s378.f1;
+														n359 = (uint64_t)s376.f0;
+														n360 = s376.f1;
+														n361 = (uint64_t)s377.f0;
+														n362 = s377.f1;
 														goto L25;
 													}
 												}
 											}
 										}
-										memset(p56, 0, 48);
-										tp_arguments_refusal(p56, (byte *)tp_static_228, 61);
-										uint8_t n383 = load8(p56 + 8);
-										uint8_t n384 = load8(p56 + 16);
-										uint64_t n385 = load64(p56 + 24);
-										uint64_t n386 = load64(p56 + 32);
-										uint64_t n387 = load64(p56 + 40);
-										if (load8(p56) == 0) {
-											uint64_t n389;
-											uint64_t n388 = (uint64_t)n384;
-											if (n275 == 0)
+										memset(p55, 0, 48);
+										tp_calls_refusal(p55, (byte *)tp_static_228, 61);
+										uint8_t n382 = load8(p55 + 8);
+										uint8_t n383 = load8(p55 + 16);
+										uint64_t n384 = load64(p55 + 24);
+										uint64_t n385 = load64(p55 + 32);
+										uint64_t n386 = load64(p55 + 40);
+										if (load8(p55) == 0) {
+											uint64_t n388;
+											uint64_t n387 = (uint64_t)n383;
+											if (n274 == 0)
 												goto L27;
-											n389 = 0;
-											while (n389 != n275) {
-												byte *p390 = inside(p306, n389 * 104);
-												byte *p391 = loadptru(p390 + 48);
-												uint64_t n392 = load64u(p390 + 64);
-												byte *p393 = loadptru(p390 + 72);
-												uint64_t n394 = load64u(p390 + 88);
-												if (load64u(p390 + 40) != 0)
-													rattle_dealloc(loadptru(p390 + 24));
-												if (n392 != 0)
-													rattle_dealloc(p391);
-												if (n394 != 0)
-													rattle_dealloc(p393);
-												n389 = n389 + 1;
+											n388 = 0;
+											while (n388 != n274) {
+												byte *p389 = inside(p305, n388 * 104);
+												byte *p390 = loadptru(p389 + 48);
+												uint64_t n391 = load64u(p389 + 64);
+												byte *p392 = loadptru(p389 + 72);
+												uint64_t n393 = load64u(p389 + 88);
+												if (load64u(p389 + 40) != 0)
+													rattle_dealloc(loadptru(p389 + 24));
+												if (n391 != 0)
+													rattle_dealloc(p390);
+												if (n393 != 0)
+													rattle_dealloc(p392);
+												n388 = n388 + 1;
 											}
 L27:
 											{
-												if (n274 != 0)
-													rattle_dealloc(p306);
-												if (n305 == 1) {
-													byte *p395 = (byte *)(uintptr_t)n272;
-													uint64_t n396 = (uint64_t)load8(p395 + 40);
-													uint64_t n397 = load64u(p395 + 48);
-													memcpy(p53, p395, 16);
-													memcpy(p53 + 16, p395 + 16, 24);
-													rattle_dealloc(p395);
-													memcpy(p52, p53, 16);
-													memcpy(p52 + 16, p53 + 16, 24);
-													store64u(p52 + 40, n396);
-													store64u(p52 + 48, n397);
-													tp_clap_parser_matches_SubCommand_Destruct_drop(p52);
+												if (n273 != 0)
+													rattle_dealloc(p305);
+												if (n304 == 1) {
+													byte *p394 = (byte *)(uintptr_t)n271;
+													uint64_t n395 = (uint64_t)load8(p394 + 40);
+													uint64_t n396 = load64u(p394 + 48);
+													memcpy(p52, p394, 16);
+													memcpy(p52 + 16, p394 + 16, 24);
+													rattle_dealloc(p394);
+													memcpy(p51, p52, 16);
+													memcpy(p51 + 16, p52 + 16, 24);
+													store64u(p51 + 40, n395);
+													store64u(p51 + 48, n396);
+													tp_clap_parser_matches_SubCommand_Destruct_drop(p51);
 												}
-												memset(p76, 0, 88);
-												n345 = 1;
-												n346 = n383;
-												n347 = n388;
+												memset(p75, 0, 88);
+												n344 = 1;
+												n345 = n382;
+												n346 = n387;
+												n347 = n384;
 												n348 = n385;
 												n349 = n386;
-												n350 = n387;
+												n350 = 0;
 												n351 = 0;
 												n352 = 0;
 												n353 = 0;
@@ -108288,47 +108210,47 @@ L27:
 												n360 = 0;
 												n361 = 0;
 												n362 = 0;
-												n363 = 0;
 											}
 										} else {
-											uint64_t n398;
-											if (n275 == 0)
+											uint64_t n397;
+											if (n274 == 0)
 												goto L28;
-											n398 = 0;
-											while (n398 != n275) {
-												byte *p399 = inside(p306, n398 * 104);
-												byte *p400 = loadptru(p399 + 48);
-												uint64_t n401 = load64u(p399 + 64);
-												byte *p402 = loadptru(p399 + 72);
-												uint64_t n403 = load64u(p399 + 88);
-												if (load64u(p399 + 40) != 0)
-													rattle_dealloc(loadptru(p399 + 24));
-												if (n401 != 0)
-													rattle_dealloc(p400);
-												if (n403 != 0)
-													rattle_dealloc(p402);
-												n398 = n398 + 1;
+											n397 = 0;
+											while (n397 != n274) {
+												byte *p398 = inside(p305, n397 * 104);
+												byte *p399 = loadptru(p398 + 48);
+												uint64_t n400 = load64u(p398 + 64);
+												byte *p401 = loadptru(p398 + 72);
+												uint64_t n402 = load64u(p398 + 88);
+												if (load64u(p398 + 40) != 0)
+													rattle_dealloc(loadptru(p398 + 24));
+												if (n400 != 0)
+													rattle_dealloc(p399);
+												if (n402 != 0)
+													rattle_dealloc(p401);
+												n397 = n397 + 1;
 											}
 L28:
 											{
-												if (n274 != 0)
-													rattle_dealloc(p306);
-												if (n305 == 1) {
-													byte *p404 = (byte *)(uintptr_t)n272;
-													uint64_t n405 = (uint64_t)load8(p404 + 40);
-													uint64_t n406 = load64u(p404 + 48);
-													memcpy(p55, p404, 16);
-													memcpy(p55 + 16, p404 + 16, 24);
-													rattle_dealloc(p404);
-													memcpy(p54, p55, 16);
-													memcpy(p54 + 16, p55 + 16, 24);
-													store64u(p54 + 40, n405);
-													store64u(p54 + 48, n406);
-													tp_clap_parser_matches_SubCommand_Destruct_drop(p54);
+												if (n273 != 0)
+													rattle_dealloc(p305);
+												if (n304 == 1) {
+													byte *p403 = (byte *)(uintptr_t)n271;
+													uint64_t n404 = (uint64_t)load8(p403 + 40);
+													uint64_t n405 = load64u(p403 + 48);
+													memcpy(p54, p403, 16);
+													memcpy(p54 + 16, p403 + 16, 24);
+													rattle_dealloc(p403);
+													memcpy(p53, p54, 16);
+													memcpy(p53 + 16, p54 + 16, 24);
+													store64u(p53 + 40, n404);
+													store64u(p53 + 48, n405);
+													tp_clap_parser_matches_SubCommand_Destruct_drop(p53);
 												}
-												memset(p76, 0, 88);
-												n345 = 1;
-												n346 = 16;
+												memset(p75, 0, 88);
+												n344 = 1;
+												n345 = 16;
+												n346 = 0;
 												n347 = 0;
 												n348 = 0;
 												n349 = 0;
@@ -108345,17 +108267,17 @@ L28:
 												n360 = 0;
 												n361 = 0;
 												n362 = 0;
-												n363 = 0;
 											}
 										}
 									} else {
-										memset(p76, 0, 88);
-										n345 = 1;
-										n346 = (uint8_t)n276;
-										n347 = n275 & 255;
-										n348 = n274;
-										n349 = n273;
-										n350 = n272;
+										memset(p75, 0, 88);
+										n344 = 1;
+										n345 = (uint8_t)n275;
+										n346 = n274 & 255;
+										n347 = n273;
+										n348 = n272;
+										n349 = n271;
+										n350 = 0;
 										n351 = 0;
 										n352 = 0;
 										n353 = 0;
@@ -108368,16 +108290,16 @@ L28:
 										n360 = 0;
 										n361 = 0;
 										n362 = 0;
-										n363 = 0;
 									}
 								}
 							}
 						}
 					}
 				} else {
-					memset(p76, 0, 88);
-					n345 = 1;
-					n346 = 16;
+					memset(p75, 0, 88);
+					n344 = 1;
+					n345 = 16;
+					n346 = 0;
 					n347 = 0;
 					n348 = 0;
 					n349 = 0;
@@ -108394,13 +108316,13 @@ L28:
 					n360 = 0;
 					n361 = 0;
 					n362 = 0;
-					n363 = 0;
 				}
 L25:
 				{
+					n241 = n344;
 					n242 = n345;
-					n243 = n346;
-					n244 = 0;
+					n243 = 0;
+					n244 = n346;
 					n245 = n347;
 					n246 = n348;
 					n247 = n349;
@@ -108417,207 +108339,206 @@ L25:
 					n258 = n360;
 					n259 = n361;
 					n260 = n362;
-					n261 = n363;
 				}
 L17:
 				{
-					uint64_t n407 = n244 | (uint64_t)n243;
-					store64u(p75 + 8, n407);
-					store64u(p75 + 16, n245);
-					store64u(p75 + 24, n246);
-					store64u(p75 + 32, n247);
-					store64u(p75 + 40, n248);
-					memcpy(p75 + 48, p76, 88);
-					store64u(p75 + 136, n249);
-					store64u(p75 + 144, n250);
-					store64u(p75 + 152, n251);
-					store64u(p75 + 160, n252);
-					store64u(p75 + 168, n253);
-					store64u(p75 + 176, n254);
-					store64u(p75 + 184, n255);
-					store64u(p75 + 192, n256);
-					store64u(p75 + 200, n257);
-					store64u(p75 + 208, n258);
-					store64u(p75 + 216, n259);
-					store64u(p75 + 224, n260);
-					store64u(p75 + 232, n261);
-					memcpy(p77, p75 + 9, 7);
-					memcpy(p78, p76, 48);
-					uint8_t n408 = load8(p75 + 96);
-					memcpy(p79, p76 + 49, 7);
-					uint64_t n409 = load64(p75 + 104);
-					uint64_t n410 = load64(p75 + 112);
-					uint64_t n411 = load64(p75 + 120);
-					uint64_t n412 = load64(p75 + 128);
-					memcpy(p80, p75 + 137, 23);
-					memcpy(p81, p75 + 161, 7);
-					memcpy(p82, p75 + 185, 7);
-					memcpy(p83, p75 + 208, 32);
-					n413 = (uint8_t)n407;
-					n414 = n245;
-					p415 = (byte *)(uintptr_t)n246;
-					n416 = n247;
-					n417 = n248;
-					n418 = n408;
-					n419 = n409;
-					n420 = n410;
-					n421 = n411;
-					n422 = n412;
-					n423 = (uint8_t)n249;
-					n424 = (uint8_t)n252;
-					p425 = (byte *)(uintptr_t)n253;
-					n426 = n254;
-					n427 = (uint8_t)n255;
-					p428 = (byte *)(uintptr_t)n256;
-					n429 = n257;
-					n430 = n242;
+					uint64_t n406 = n243 | (uint64_t)n242;
+					store64u(p74 + 8, n406);
+					store64u(p74 + 16, n244);
+					store64u(p74 + 24, n245);
+					store64u(p74 + 32, n246);
+					store64u(p74 + 40, n247);
+					memcpy(p74 + 48, p75, 88);
+					store64u(p74 + 136, n248);
+					store64u(p74 + 144, n249);
+					store64u(p74 + 152, n250);
+					store64u(p74 + 160, n251);
+					store64u(p74 + 168, n252);
+					store64u(p74 + 176, n253);
+					store64u(p74 + 184, n254);
+					store64u(p74 + 192, n255);
+					store64u(p74 + 200, n256);
+					store64u(p74 + 208, n257);
+					store64u(p74 + 216, n258);
+					store64u(p74 + 224, n259);
+					store64u(p74 + 232, n260);
+					memcpy(p76, p74 + 9, 7);
+					memcpy(p77, p75, 48);
+					uint8_t n407 = load8(p74 + 96);
+					memcpy(p78, p75 + 49, 7);
+					uint64_t n408 = load64(p74 + 104);
+					uint64_t n409 = load64(p74 + 112);
+					uint64_t n410 = load64(p74 + 120);
+					uint64_t n411 = load64(p74 + 128);
+					memcpy(p79, p74 + 137, 23);
+					memcpy(p80, p74 + 161, 7);
+					memcpy(p81, p74 + 185, 7);
+					memcpy(p82, p74 + 208, 32);
+					p412 = (byte *)(uintptr_t)n245;
+					n413 = n246;
+					n414 = n247;
+					n415 = n407;
+					n416 = n408;
+					n417 = n409;
+					n418 = n410;
+					n419 = n411;
+					n420 = (uint8_t)n248;
+					n421 = (uint8_t)n251;
+					p422 = (byte *)(uintptr_t)n252;
+					n423 = n253;
+					n424 = (uint8_t)n254;
+					p425 = (byte *)(uintptr_t)n255;
+					n426 = n256;
+					n427 = n244;
+					n428 = (uint8_t)n406;
+					n429 = n241;
 				}
 			} else {
-				tp_arguments_parsed(p75, (byte *)&tp_static_5, 1, p184, 0);
-				uint8_t n431 = load8(p75);
-				uint8_t n432 = load8(p75 + 8);
-				memcpy(p77, p75 + 9, 7);
-				uint64_t n433 = load64(p75 + 16);
-				byte *p434 = loadptr(p75 + 24);
-				uint64_t n435 = load64(p75 + 32);
-				uint64_t n436 = load64(p75 + 40);
-				memcpy(p78, p75 + 48, 48);
-				uint8_t n437 = load8(p75 + 96);
-				memcpy(p79, p75 + 97, 7);
-				uint64_t n438 = load64(p75 + 104);
-				uint64_t n439 = load64(p75 + 112);
-				uint64_t n440 = load64(p75 + 120);
-				uint64_t n441 = load64(p75 + 128);
-				uint8_t n442 = load8(p75 + 136);
-				memcpy(p80, p75 + 137, 23);
-				uint8_t n443 = load8(p75 + 160);
-				memcpy(p81, p75 + 161, 7);
-				byte *p444 = loadptr(p75 + 168);
-				uint64_t n445 = load64(p75 + 176);
-				uint8_t n446 = load8(p75 + 184);
-				memcpy(p82, p75 + 185, 7);
-				byte *p447 = loadptr(p75 + 192);
-				uint64_t n448 = load64(p75 + 200);
-				memcpy(p83, p75 + 208, 32);
-				n413 = n432;
-				n414 = n433;
-				p415 = p434;
-				n416 = n435;
-				n417 = n436;
-				n418 = n437;
-				n419 = n438;
-				n420 = n439;
-				n421 = n440;
-				n422 = n441;
-				n423 = n442;
-				n424 = n443;
-				p425 = p444;
-				n426 = n445;
-				n427 = n446;
-				p428 = p447;
-				n429 = n448;
-				n430 = n431;
+				tp_calls_parsed(p74, (byte *)&tp_static_5, 1, p183, 0);
+				uint8_t n430 = load8(p74);
+				uint8_t n431 = load8(p74 + 8);
+				memcpy(p76, p74 + 9, 7);
+				uint64_t n432 = load64(p74 + 16);
+				byte *p433 = loadptr(p74 + 24);
+				uint64_t n434 = load64(p74 + 32);
+				uint64_t n435 = load64(p74 + 40);
+				memcpy(p77, p74 + 48, 48);
+				uint8_t n436 = load8(p74 + 96);
+				memcpy(p78, p74 + 97, 7);
+				uint64_t n437 = load64(p74 + 104);
+				uint64_t n438 = load64(p74 + 112);
+				uint64_t n439 = load64(p74 + 120);
+				uint64_t n440 = load64(p74 + 128);
+				uint8_t n441 = load8(p74 + 136);
+				memcpy(p79, p74 + 137, 23);
+				uint8_t n442 = load8(p74 + 160);
+				memcpy(p80, p74 + 161, 7);
+				byte *p443 = loadptr(p74 + 168);
+				uint64_t n444 = load64(p74 + 176);
+				uint8_t n445 = load8(p74 + 184);
+				memcpy(p81, p74 + 185, 7);
+				byte *p446 = loadptr(p74 + 192);
+				uint64_t n447 = load64(p74 + 200);
+				memcpy(p82, p74 + 208, 32);
+				p412 = p433;
+				n413 = n434;
+				n414 = n435;
+				n415 = n436;
+				n416 = n437;
+				n417 = n438;
+				n418 = n439;
+				n419 = n440;
+				n420 = n441;
+				n421 = n442;
+				p422 = p443;
+				n423 = n444;
+				n424 = n445;
+				p425 = p446;
+				n426 = n447;
+				n427 = n432;
+				n428 = n431;
+				n429 = n430;
 			}
-			uint8_t n449 = (uint8_t)n414;
-			if (n430 == 1) {
-				switch (n413) {
+			uint8_t n448 = (uint8_t)n427;
+			if (n429 == 1) {
+				switch (n428) {
 				case 11:
 				case 13: {
-					uint64_t n450 = 0;
-					while (n450 != n185) {
-						byte *p451 = at(p184, n450 * 24);
-						bool b452 = tp_arguments_is_of_text(loadptr(p451), load64(p451 + 8));
-						if (b452) {
-							if (n450 < n185)
+					uint64_t n449 = 0;
+					while (n449 != n184) {
+						byte *p450 = at(p183, n449 * 24);
+						bool b451 = tp_calls_is_of_text(loadptr(p450), load64(p450 + 8));
+						if (b451) {
+							if (n449 < n184)
 								goto L29;
 							break;
 						}
-						n450 = n450 + 1;
+						n449 = n449 + 1;
 					}
-					tp_arguments_refusal(p91, (byte *)tp_static_3, 24);
-					uint8_t n453 = load8(p91 + 8);
-					if (load8(p91) != 0) {
-						if (n449 == 1) {
-							if (n417 != 0)
-								rattle_dealloc(p415);
+					tp_calls_refusal(p90, (byte *)tp_static_3, 24);
+					uint8_t n452 = load8(p90 + 8);
+					if (load8(p90) != 0) {
+						if (n448 == 1) {
+							if (n414 != 0)
+								rattle_dealloc(p412);
 						}
-						memset(p92, 0, 7);
-						memset(p93, 0, 48);
-						memset(p94, 0, 7);
-						memset(p95, 0, 23);
+						memset(p91, 0, 7);
+						memset(p92, 0, 48);
+						memset(p93, 0, 7);
+						memset(p94, 0, 23);
+						memset(p95, 0, 7);
 						memset(p96, 0, 7);
-						memset(p97, 0, 7);
-						memset(p98, 0, 32);
+						memset(p97, 0, 32);
+						p475 = NULL;
 						n476 = 0;
-						p477 = NULL;
-						n478 = 0;
+						n477 = 0;
 						goto L30;
 					}
-					uint64_t n454 = (uint64_t)load8(p91 + 16);
-					byte *p455 = loadptr(p91 + 24);
-					uint64_t n456 = load64(p91 + 32);
-					uint64_t n457 = load64(p91 + 40);
-					if (n449 != 1) {
-						p458 = p455;
+					uint64_t n453 = (uint64_t)load8(p90 + 16);
+					byte *p454 = loadptr(p90 + 24);
+					uint64_t n455 = load64(p90 + 32);
+					uint64_t n456 = load64(p90 + 40);
+					if (n448 != 1) {
+						p457 = p454;
+						n458 = n455;
 						n459 = n456;
-						n460 = n457;
+						n460 = 0;
 						n461 = 0;
 						n462 = 0;
 						n463 = 0;
 						n464 = 0;
 						n465 = 0;
 						n466 = 0;
-						n467 = 0;
-						p468 = NULL;
+						p467 = NULL;
+						n468 = 0;
 						n469 = 0;
-						n470 = 0;
-						p471 = NULL;
-						n472 = 0;
-						n473 = 1;
+						p470 = NULL;
+						n471 = 0;
+						n472 = 1;
+						n473 = n452;
 						n474 = n453;
-						n475 = n454;
 						goto L31;
 					}
-					if (n417 == 0) {
-						p458 = p455;
+					if (n414 == 0) {
+						p457 = p454;
+						n458 = n455;
 						n459 = n456;
-						n460 = n457;
+						n460 = 0;
 						n461 = 0;
 						n462 = 0;
 						n463 = 0;
 						n464 = 0;
 						n465 = 0;
 						n466 = 0;
-						n467 = 0;
-						p468 = NULL;
+						p467 = NULL;
+						n468 = 0;
 						n469 = 0;
-						n470 = 0;
-						p471 = NULL;
-						n472 = 0;
-						n473 = 1;
+						p470 = NULL;
+						n471 = 0;
+						n472 = 1;
+						n473 = n452;
 						n474 = n453;
-						n475 = n454;
 						goto L31;
 					}
-					rattle_dealloc(p415);
-					p458 = p455;
+					rattle_dealloc(p412);
+					p457 = p454;
+					n458 = n455;
 					n459 = n456;
-					n460 = n457;
+					n460 = 0;
 					n461 = 0;
 					n462 = 0;
 					n463 = 0;
 					n464 = 0;
 					n465 = 0;
 					n466 = 0;
-					n467 = 0;
-					p468 = NULL;
+					p467 = NULL;
+					n468 = 0;
 					n469 = 0;
-					n470 = 0;
-					p471 = NULL;
-					n472 = 0;
-					n473 = 1;
+					p470 = NULL;
+					n471 = 0;
+					n472 = 1;
+					n473 = n452;
 					n474 = n453;
-					n475 = n454;
 					goto L31;
 				}
 				case 0:
@@ -108644,259 +108565,265 @@ L17:
 			}
 L29:
 			{
-				memcpy(p84, p77, 7);
-				memcpy(p85, p78, 48);
-				memcpy(p86, p79, 7);
-				memcpy(p87, p80, 23);
+				memcpy(p83, p76, 7);
+				memcpy(p84, p77, 48);
+				memcpy(p85, p78, 7);
+				memcpy(p86, p79, 23);
+				memcpy(p87, p80, 7);
 				memcpy(p88, p81, 7);
-				memcpy(p89, p82, 7);
-				memcpy(p90, p83, 32);
-				p458 = p415;
-				n459 = n416;
-				n460 = n417;
-				n461 = n418;
-				n462 = n419;
-				n463 = n420;
-				n464 = n421;
-				n465 = n422;
-				n466 = n423;
-				n467 = n424;
-				p468 = p425;
-				n469 = n426;
-				n470 = n427;
-				p471 = p428;
+				memcpy(p89, p82, 32);
+				p457 = p412;
+				n458 = n413;
+				n459 = n414;
+				n460 = n415;
+				n461 = n416;
+				n462 = n417;
+				n463 = n418;
+				n464 = n419;
+				n465 = n420;
+				n466 = n421;
+				p467 = p422;
+				n468 = n423;
+				n469 = n424;
+				p470 = p425;
+				n471 = n426;
 				n472 = n429;
-				n473 = n430;
-				n474 = n413;
-				n475 = n414;
+				n473 = n428;
+				n474 = n427;
 			}
 L31:
 			{
-				memcpy(p92, p84, 7);
-				uint8_t n479 = (uint8_t)n475;
-				uint64_t n480 = (n475 >> 8) & UINT64_C(72057594037927935);
-				memcpy(p93, p85, 48);
-				memcpy(p94, p86, 7);
-				memcpy(p95, p87, 23);
+				memcpy(p91, p83, 7);
+				uint8_t n478 = (uint8_t)n474;
+				memcpy(p92, p84, 48);
+				memcpy(p93, p85, 7);
+				memcpy(p94, p86, 23);
+				memcpy(p95, p87, 7);
 				memcpy(p96, p88, 7);
-				memcpy(p97, p89, 7);
-				memcpy(p98, p90, 32);
-				if (n473 == 0) {
-					uint32_t n498;
-					uint8_t n499, n500, n514;
-					store8(p48, 0);
-					store8(p48 + 1, 1);
-					memset(p48 + 2, 0, 14);
-					if (n470 == 1) {
-						switch (MOSTLY_0(n474)) {
+				memcpy(p97, p89, 32);
+				if (n472 == 0) {
+					uint32_t n497;
+					uint8_t n498, n499, n506;
+					uint64_t n479 = (n474 >> 8) & UINT64_C(72057594037927935);
+					store8(p47, 0);
+					store8(p47 + 1, 1);
+					store16(p47 + 2, 0);
+					store32(p47 + 4, 0);
+					store64u(p47 + 8, 0);
+					if (n469 == 1) {
+						switch (MOSTLY_0(n473)) {
 						case 0: {
-							switch (n479) {
+							switch (n478) {
 							case 1: {
-								uint64_t n481, n482;
-								uint32_t n494;
-								uint8_t n495, n496, n497;
-								memcpy(p30, p92, 7);
-								memcpy(p31, p93, 48);
-								memcpy(p32, p94, 7);
-								memcpy(p33, p95, 23);
+								uint64_t n480, n481;
+								uint32_t n493;
+								uint8_t n494, n495, n496;
+								memcpy(p29, p91, 7);
+								memcpy(p30, p92, 48);
+								memcpy(p31, p93, 7);
+								memcpy(p32, p94, 23);
+								memcpy(p33, p95, 7);
 								memcpy(p34, p96, 7);
-								memcpy(p35, p97, 7);
-								memcpy(p36, p98, 32);
-								memset(p29, 0, 20);
-								memset(p39, 0, 32);
-								memset(p42 + 8, 0, 16);
-								memset(p44, 0, 20);
-								memset(p45, 0, 232);
-								memset(p46, 0, 40);
-								memset(p47, 0, 24);
-								memcpy(p37, p94, 7);
-								store8(p38, 0);
-								store8(p38 + 1, 1);
-								memset(p38 + 2, 0, 14);
-								if ((n463 - 65) < UINT64_C(18446744073709551552)) {
+								memcpy(p35, p97, 32);
+								memset(p28, 0, 20);
+								memset(p38, 0, 32);
+								memset(p41 + 8, 0, 16);
+								memset(p43, 0, 20);
+								memset(p44, 0, 232);
+								memset(p45, 0, 40);
+								memset(p46, 0, 24);
+								memcpy(p36, p93, 7);
+								store8(p37, 0);
+								store8(p37 + 1, 1);
+								store16(p37 + 2, 0);
+								store32(p37 + 4, 0);
+								store64u(p37 + 8, 0);
+								if ((n462 - 65) < UINT64_C(18446744073709551552)) {
+									n480 = 0;
 									n481 = 0;
-									n482 = 0;
-								} else if ((n464 - 1048577) < UINT64_C(18446744073708503040)) {
-									n481 = 0;
-									n482 = 256;
-								} else if (n465 > UINT64_C(1152921504606846975)) {
-									n481 = 0;
-									n482 = 512;
-								} else if ((n462 - 65537) < UINT64_C(18446744073709486080)) {
-									n481 = 0;
-									n482 = 1;
+								} else if ((n463 - 1048577) < UINT64_C(18446744073708503040)) {
+									n480 = 0;
+									n481 = 256;
+								} else if (n464 > UINT64_C(1152921504606846975)) {
+									n480 = 0;
+									n481 = 512;
+								} else if ((n461 - 65537) < UINT64_C(18446744073709486080)) {
+									n480 = 0;
+									n481 = 1;
 								} else {
-									uint64_t n483;
-									switch (MOSTLY_0(n461)) {
+									uint64_t n482;
+									switch (MOSTLY_0(n460)) {
 									case 0:
 									case 1:
 									case 2:
 									case 4: {
-										n483 = UINT64_C(1152921504606846975);
+										n482 = UINT64_C(1152921504606846975);
 										break;
 									}
 									case 3: {
-										n483 = 8639999;
+										n482 = 8639999;
 										break;
 									}
 									default: {
 										UNREACHABLE();
 									}
 									}
-									if (n483 >= n465) {
-										if (n467 == 1) {
-											store8(p24, n461);
-											memcpy(p24 + 1, p94, 7);
-											store64(p24 + 8, n462);
-											store64(p24 + 16, n463);
-											store64(p24 + 24, n464);
-											store64(p24 + 32, n465);
-											memset(p25, 0, 144);
-											tp_state_file_read_file(p25, p468, n469, p24);
-											if (load8(p25) == 0) {
-												uint64_t n484 = load64u(p25 + 8);
-												uint64_t n485 = load64u(p25 + 16);
-												uint64_t n486 = load64u(p25 + 24);
-												byte *p487 = loadptru(p25 + 112);
-												uint64_t n488 = load64u(p25 + 128);
-												if (load64u(p25 + 104) != 0)
-													rattle_dealloc(loadptru(p25 + 88));
-												if (n488 != 0)
-													rattle_dealloc(p487);
-												store8(p45, 0);
-												memcpy(p45 + 1, p30, 7);
-												store8(p45 + 8, 1);
-												store56u(p45 + 9, n480);
-												storeptru(p45 + 16, p458);
-												store64u(p45 + 24, n459);
-												store64u(p45 + 32, n460);
-												memcpy(p45 + 40, p31, 48);
-												store8(p45 + 88, n461);
-												memcpy(p45 + 89, p32, 7);
-												store64(p45 + 96, n462);
-												store64(p45 + 104, n463);
-												store64(p45 + 112, n464);
-												store64(p45 + 120, n465);
-												store8(p45 + 128, n466);
-												memcpy(p45 + 129, p33, 23);
-												store8(p45 + 152, 1);
-												memcpy(p45 + 153, p34, 7);
-												storeptru(p45 + 160, p468);
-												store64u(p45 + 168, n469);
-												store8(p45 + 176, 1);
-												memcpy(p45 + 177, p35, 7);
-												storeptr(p45 + 184, p471);
-												store64(p45 + 192, n472);
-												memcpy(p45 + 200, p36, 32);
-												store8(p46, n461);
-												memcpy(p46 + 1, p37, 7);
-												store64u(p46 + 8, n462);
-												store64u(p46 + 16, n463);
-												store64u(p46 + 24, n464);
-												store64u(p46 + 32, n465);
-												byte *p489 = (byte *)(uintptr_t)n484;
-												store64u(p47, 1);
-												storeptru(p47 + 8, p489);
-												store64u(p47 + 16, n485);
-												tp_kept_stream_run_from(p44, p45, p471, n472, p46, p47, p38, p103);
-												if (n486 != 0)
-													rattle_dealloc(p489);
+									if (n482 >= n464) {
+										if (n466 == 1) {
+											store8(p23, n460);
+											memcpy(p23 + 1, p93, 7);
+											store64(p23 + 8, n461);
+											store64(p23 + 16, n462);
+											store64(p23 + 24, n463);
+											store64(p23 + 32, n464);
+											memset(p24, 0, 144);
+											tp_state_file_read_file(p24, p467, n468, p23);
+											if (load8(p24) == 0) {
+												uint64_t n483 = load64u(p24 + 8);
+												uint64_t n484 = load64u(p24 + 16);
+												uint64_t n485 = load64u(p24 + 24);
+												byte *p486 = loadptru(p24 + 112);
+												uint64_t n487 = load64u(p24 + 128);
+												if (load64u(p24 + 104) != 0)
+													rattle_dealloc(loadptru(p24 + 88));
+												if (n487 != 0)
+													rattle_dealloc(p486);
+												store8(p44, 0);
+												memcpy(p44 + 1, p29, 7);
+												store8(p44 + 8, 1);
+												store56u(p44 + 9, n479);
+												storeptru(p44 + 16, p457);
+												store64u(p44 + 24, n458);
+												store64u(p44 + 32, n459);
+												memcpy(p44 + 40, p30, 48);
+												store8(p44 + 88, n460);
+												memcpy(p44 + 89, p31, 7);
+												store64(p44 + 96, n461);
+												store64(p44 + 104, n462);
+												store64(p44 + 112, n463);
+												store64(p44 + 120, n464);
+												store8(p44 + 128, n465);
+												memcpy(p44 + 129, p32, 23);
+												store8(p44 + 152, 1);
+												memcpy(p44 + 153, p33, 7);
+												storeptru(p44 + 160, p467);
+												store64u(p44 + 168, n468);
+												store8(p44 + 176, 1);
+												memcpy(p44 + 177, p34, 7);
+												storeptr(p44 + 184, p470);
+												store64(p44 + 192, n471);
+												memcpy(p44 + 200, p35, 32);
+												store8(p45, n460);
+												memcpy(p45 + 1, p36, 7);
+												store64u(p45 + 8, n461);
+												store64u(p45 + 16, n462);
+												store64u(p45 + 24, n463);
+												store64u(p45 + 32, n464);
+												byte *p488 = (byte *)(uintptr_t)n483;
+												store64u(p46, 1);
+												storeptru(p46 + 8, p488);
+												store64u(p46 + 16, n484);
+												tp_kept_stream_run_from(p43, p44, p470, n471, p45, p46, p37, p102);
+												if (n485 != 0)
+													rattle_dealloc(p488);
 											} else {
-												uint8_t n490 = load8(p25 + 9);
-												uint8_t n491 = load8(p25 + 16);
-												uint64_t n492 = load64u(p25 + 24);
-												uint8_t n493 = load8(p25 + 32);
-												store8(p39, load8(p25 + 8));
-												store8(p39 + 1, n490);
-												store64u(p39 + 8, (uint64_t)n491);
-												store64u(p39 + 16, n492);
-												store8(p39 + 24, n493);
-												tp_state_file_report_no_state(p468, n469, p39, p103);
-												store8(p44, 5);
-												memcpy(p44 + 4, p38, 16);
+												uint8_t n489 = load8(p24 + 9);
+												uint8_t n490 = load8(p24 + 16);
+												uint64_t n491 = load64u(p24 + 24);
+												uint8_t n492 = load8(p24 + 32);
+												store8(p38, load8(p24 + 8));
+												store8(p38 + 1, n489);
+												store64u(p38 + 8, (uint64_t)n490);
+												store64u(p38 + 16, n491);
+												store8(p38 + 24, n492);
+												tp_state_file_report_no_state(p467, n468, p38, p102);
+												store8(p43, 5);
+												memcpy(p43 + 4, p37, 16);
 											}
-											n494 = load32u(p44 + 8);
-											n495 = load8(p44 + 4);
-											n496 = load8(p44);
+											n493 = load32u(p43 + 8);
+											n494 = load8(p43 + 4);
+											n495 = load8(p43);
 											goto L32;
 										}
-										store8(p40, 0);
-										memcpy(p40 + 1, p92, 7);
-										store8(p40 + 8, 1);
-										store56u(p40 + 9, n480);
-										storeptru(p40 + 16, p458);
-										store64u(p40 + 24, n459);
-										store64u(p40 + 32, n460);
-										memcpy(p40 + 40, p93, 48);
-										store8(p40 + 88, n461);
-										memcpy(p40 + 89, p94, 7);
-										store64u(p40 + 96, n462);
-										store64u(p40 + 104, n463);
-										store64u(p40 + 112, n464);
-										store64u(p40 + 120, n465);
-										store8(p40 + 128, n466);
-										memcpy(p40 + 129, p95, 23);
-										store8(p40 + 152, 0);
-										memcpy(p40 + 153, p96, 7);
-										storeptru(p40 + 160, p468);
-										store64u(p40 + 168, n469);
-										store8(p40 + 176, 1);
-										memcpy(p40 + 177, p97, 7);
-										storeptru(p40 + 184, p471);
-										store64u(p40 + 192, n472);
-										memcpy(p40 + 200, p98, 32);
-										store8(p41, n461);
-										memcpy(p41 + 1, p94, 7);
-										store64u(p41 + 8, n462);
-										store64u(p41 + 16, n463);
-										store64u(p41 + 24, n464);
-										store64u(p41 + 32, n465);
-										store64u(p42, 0);
-										store8(p43, 0);
-										store8(p43 + 1, 1);
-										memset(p43 + 2, 0, 14);
-										tp_kept_stream_run_from(p29, p40, p471, n472, p41, p42, p43, p103);
-										n494 = load32u(p29 + 8);
-										n495 = load8(p29 + 4);
-										n496 = load8(p29);
+										store8(p39, 0);
+										memcpy(p39 + 1, p91, 7);
+										store8(p39 + 8, 1);
+										store56u(p39 + 9, n479);
+										storeptru(p39 + 16, p457);
+										store64u(p39 + 24, n458);
+										store64u(p39 + 32, n459);
+										memcpy(p39 + 40, p92, 48);
+										store8(p39 + 88, n460);
+										memcpy(p39 + 89, p93, 7);
+										store64u(p39 + 96, n461);
+										store64u(p39 + 104, n462);
+										store64u(p39 + 112, n463);
+										store64u(p39 + 120, n464);
+										store8(p39 + 128, n465);
+										memcpy(p39 + 129, p94, 23);
+										store8(p39 + 152, 0);
+										memcpy(p39 + 153, p95, 7);
+										storeptru(p39 + 160, p467);
+										store64u(p39 + 168, n468);
+										store8(p39 + 176, 1);
+										memcpy(p39 + 177, p96, 7);
+										storeptru(p39 + 184, p470);
+										store64u(p39 + 192, n471);
+										memcpy(p39 + 200, p97, 32);
+										store8(p40, n460);
+										memcpy(p40 + 1, p93, 7);
+										store64u(p40 + 8, n461);
+										store64u(p40 + 16, n462);
+										store64u(p40 + 24, n463);
+										store64u(p40 + 32, n464);
+										store64u(p41, 0);
+										store8(p42, 0);
+										store8(p42 + 1, 1);
+										store16(p42 + 2, 0);
+										store32(p42 + 4, 0);
+										store64u(p42 + 8, 0);
+										tp_kept_stream_run_from(p28, p39, p470, n471, p40, p41, p42, p102);
+										n493 = load32u(p28 + 8);
+										n494 = load8(p28 + 4);
+										n495 = load8(p28);
 										goto L32;
 									}
-									n481 = n483;
-									n482 = 2;
+									n480 = n482;
+									n481 = 2;
 								}
-								store64(p28, 0);
-								store8(p28, (uint8_t)n482);
-								store8(p28 + 1, (uint8_t)(n482 >> 8));
-								store64(p28 + 8, n481);
-								store64u(p27, (uint64_t)(uintptr_t)p103);
-								memset(p27 + 8, 0, 96);
-								memset(p27 + 128, 0, 16);
-								storeptr(p26, p28);
-								storeptr(p26 + 8, (byte *)tp_static_121);
-								store64(p26 + 16, 1);
-								store32u(p27 + 104, 32);
-								memset(p27 + 108, 0, 12);
-								store64u(p27 + 120, UINT64_MAX);
-								n497 = tp_formatter_Formatter_write_piece(p27, p26);
-								if ((n497 & 1) == 0) {
-									store32u(p27 + 104, 32);
-									memset(p27 + 108, 0, 12);
-									store64u(p27 + 120, UINT64_MAX);
-									if (load64(p27 + 128) == 0) {
-										(void)tp_AdapterWrite_write_str(p27, (byte *)tp_static_121, 1);
+								store64(p27, 0);
+								store8(p27, (uint8_t)n481);
+								store8(p27 + 1, (uint8_t)(n481 >> 8));
+								store64(p27 + 8, n480);
+								store64u(p26, (uint64_t)(uintptr_t)p102);
+								memset(p26 + 8, 0, 96);
+								memset(p26 + 128, 0, 16);
+								storeptr(p25, p27);
+								storeptr(p25 + 8, (byte *)tp_static_121);
+								store64(p25 + 16, 1);
+								store32u(p26 + 104, 32);
+								memset(p26 + 108, 0, 12);
+								store64u(p26 + 120, UINT64_MAX);
+								n496 = tp_formatter_Formatter_write_piece(p26, p25);
+								if ((n496 & 1) == 0) {
+									store32u(p26 + 104, 32);
+									memset(p26 + 108, 0, 12);
+									store64u(p26 + 120, UINT64_MAX);
+									if (load64(p26 + 128) == 0) {
+										(void)tp_AdapterWrite_write_str(p26, (byte *)tp_static_121, 1);
 									} else {
-										(void)tp_Formatter_write_indented(p27, (byte *)tp_static_121, 1);
+										(void)tp_Formatter_write_indented(p26, (byte *)tp_static_121, 1);
 									}
 								}
-								memcpy(p29 + 4, p38, 16);
-								n494 = load32u(p29 + 8);
-								n495 = load8(p29 + 4);
-								n496 = 5;
+								memcpy(p28 + 4, p37, 16);
+								n493 = load32u(p28 + 8);
+								n494 = load8(p28 + 4);
+								n495 = 5;
 L32:
 								{
+									n497 = n493;
 									n498 = n494;
 									n499 = n495;
-									n500 = n496;
 									goto L33;
 								}
 							}
@@ -108919,97 +108846,77 @@ L32:
 						}
 						}
 					}
-					store64u(p21, (uint64_t)n474);
-					store8(p21 + 8, n479);
-					store56u(p21 + 9, n480);
-					storeptru(p21 + 16, p458);
-					store64u(p21 + 24, n459);
-					store64u(p21 + 32, n460);
-					memcpy(p21 + 40, p93, 48);
-					store8(p21 + 88, n461);
-					memcpy(p21 + 89, p94, 7);
-					store64(p21 + 96, n462);
-					store64(p21 + 104, n463);
-					store64(p21 + 112, n464);
-					store64(p21 + 120, n465);
-					if (n467 == 1) {
-						switch (MOSTLY_0(n474)) {
+					memcpy(p16, p94, 23);
+					memset(p18, 0, 112);
+					memset(p19, 0, 32);
+					store64u(p17, (uint64_t)n473);
+					store8(p17 + 8, n478);
+					store56u(p17 + 9, n479);
+					storeptru(p17 + 16, p457);
+					store64u(p17 + 24, n458);
+					store64u(p17 + 32, n459);
+					memcpy(p17 + 40, p92, 48);
+					store8(p17 + 88, n460);
+					memcpy(p17 + 89, p93, 7);
+					store64(p17 + 96, n461);
+					store64(p17 + 104, n462);
+					store64(p17 + 112, n463);
+					store64(p17 + 120, n464);
+					if (n466 == 1) {
+						switch (MOSTLY_0(n473)) {
 						case 0: {
-							switch (n479) {
+							switch (n478) {
 							case 1: {
-								uint8_t n508;
-								uint64_t n501 = (uint64_t)n466;
-								store64u(p16, 0);
-								store8(p16 + 8, 1);
-								store56u(p16 + 9, n480);
-								storeptru(p16 + 16, p458);
-								store64u(p16 + 24, n459);
-								store64u(p16 + 32, n460);
-								memcpy(p16 + 40, p93, 48);
-								store8(p16 + 88, n461);
-								memcpy(p16 + 89, p94, 7);
-								store64(p16 + 96, n462);
-								store64(p16 + 104, n463);
-								store64(p16 + 112, n464);
-								store64(p16 + 120, n465);
-								store8(p14, n461);
-								memcpy(p14 + 1, p94, 7);
-								store64(p14 + 8, n462);
-								store64(p14 + 16, n463);
-								store64(p14 + 24, n464);
-								store64(p14 + 32, n465);
-								memcpy(p17, p95 + 7, 16);
-								memset(p19, 0, 32);
+								store8(p14, n460);
+								memcpy(p14 + 1, p93, 7);
+								store64(p14 + 8, n461);
+								store64(p14 + 16, n462);
+								store64(p14 + 24, n463);
+								store64(p14 + 32, n464);
 								memset(p15, 0, 144);
-								tp_state_file_read_file(p15, p468, n469, p14);
+								tp_state_file_read_file(p15, p467, n468, p14);
 								if (load8(p15) == 0) {
-									uint64_t n502 = load64u(p15 + 32);
-									uint64_t n503 = load64u(p15 + 40);
-									uint64_t n504 = load64u(p15 + 48);
-									uint8_t n505 = load8(p15 + 56);
+									uint64_t n500 = load64u(p15 + 32);
+									uint64_t n501 = load64u(p15 + 40);
+									uint64_t n502 = load64u(p15 + 48);
+									uint8_t n503 = load8(p15 + 56);
 									if (load64u(p15 + 24) != 0)
 										rattle_dealloc(loadptru(p15 + 8));
 									memcpy(p18 + 25, p15 + 57, 87);
-									store64u(p18, n502);
-									store64u(p18 + 8, n503);
-									store64u(p18 + 16, n504);
-									store8(p18 + 24, n505);
-									store64u(p20, n501);
-									memcpy(p20 + 8, p17, 16);
-									uint8_t n506 = tp_command_run_input(p16, 1, p18, p20, p48, p103);
-									uint8_t n507 = load8_volatile((byte *)tp_static);
-									if (n507 != 0) {
-										TRAP();
-										UNREACHABLE();
-									}
-									if (load64u(p18 + 72) != 0)
-										rattle_dealloc(loadptru(p18 + 56));
-									if (load64u(p18 + 96) == 0) {
-										n508 = n506;
-									} else {
+									store64u(p18, n500);
+									store64u(p18 + 8, n501);
+									store64u(p18 + 16, n502);
+									store8(p18 + 24, n503);
+									store64u(p22, (uint64_t)n465);
+									memcpy(p22 + 8, p16 + 7, 16);
+									uint8_t n504 = tp_command_run_input(p17, 1, p18, p22, p47, p102);
+									uint8_t n505 = load8_volatile((byte *)tp_static);
+									if (n505 == 0) {
+										if (load64u(p18 + 72) != 0)
+											rattle_dealloc(loadptru(p18 + 56));
+										if (load64u(p18 + 96) == 0) {
+											n506 = n504;
+											goto L34;
+										}
 										rattle_dealloc(loadptru(p18 + 80));
-										n508 = n506;
+										n506 = n504;
+										goto L34;
 									}
-								} else {
-									uint8_t n509 = load8(p15 + 9);
-									uint8_t n510 = load8(p15 + 16);
-									uint64_t n511 = load64u(p15 + 24);
-									uint8_t n512 = load8(p15 + 32);
-									store8(p19, load8(p15 + 8));
-									store8(p19 + 1, n509);
-									store64u(p19 + 8, (uint64_t)n510);
-									store64u(p19 + 16, n511);
-									store8(p19 + 24, n512);
-									tp_state_file_report_no_state(p468, n469, p19, p103);
-									n508 = 5;
+									TRAP();
+									UNREACHABLE();
 								}
-								uint8_t n513 = load8_volatile((byte *)tp_static);
-								if (n513 == 0) {
-									n514 = n508;
-									goto L34;
-								}
-								TRAP();
-								UNREACHABLE();
+								uint8_t n507 = load8(p15 + 9);
+								uint8_t n508 = load8(p15 + 16);
+								uint64_t n509 = load64u(p15 + 24);
+								uint8_t n510 = load8(p15 + 32);
+								store8(p19, load8(p15 + 8));
+								store8(p19 + 1, n507);
+								store64u(p19 + 8, (uint64_t)n508);
+								store64u(p19 + 16, n509);
+								store8(p19 + 24, n510);
+								tp_state_file_report_no_state(p467, n468, p19, p102);
+								n506 = 5;
+								goto L34;
 							}
 							case 0:
 							case 2: {
@@ -109029,257 +108936,281 @@ L32:
 							UNREACHABLE();
 						}
 						}
-						store64u(p23, (uint64_t)n466);
-						memcpy(p23 + 8, p95 + 7, 16);
-						uint8_t n515 = tp_command_run_input(p21, 0, NULL, p23, p48, p103);
+						store64u(p21, (uint64_t)n465);
+						memcpy(p21 + 8, p94 + 7, 16);
+						uint8_t n511 = tp_command_run_input(p17, 0, NULL, p21, p47, p102);
+						uint8_t n512 = load8_volatile((byte *)tp_static);
+						if (n512 != 0) {
+							TRAP();
+							UNREACHABLE();
+						}
+						n506 = n511;
+					} else {
+						store64u(p20, (uint64_t)n465);
+						memcpy(p20 + 8, p94 + 7, 16);
+						uint8_t n513 = tp_command_run_input(p17, 0, NULL, p20, p47, p102);
+						uint8_t n514 = load8_volatile((byte *)tp_static);
+						if (n514 != 0) {
+							TRAP();
+							UNREACHABLE();
+						}
+						n506 = n513;
+					}
+L34:
+					{
+						uint8_t n515 = load8_volatile((byte *)tp_static);
+						if (n515 != 0) {
+							TRAP();
+							UNREACHABLE();
+						}
+						n497 = load32(p47 + 4);
+						n498 = load8(p47);
+						n499 = n506;
+					}
+L33:
+					{
 						uint8_t n516 = load8_volatile((byte *)tp_static);
 						if (n516 != 0) {
 							TRAP();
 							UNREACHABLE();
 						}
-						n514 = n515;
-					} else {
-						store64u(p22, (uint64_t)n466);
-						memcpy(p22 + 8, p95 + 7, 16);
-						uint8_t n517 = tp_command_run_input(p21, 0, NULL, p22, p48, p103);
-						uint8_t n518 = load8_volatile((byte *)tp_static);
-						if (n518 != 0) {
-							TRAP();
+						switch (MOSTLY_0(n499)) {
+						case 0: {
+							n517 = n497;
+							n518 = n498;
+							n519 = 0;
+							goto L35;
+						}
+						case 1:
+						case 2:
+						case 3: {
+							n517 = n497;
+							n518 = n498;
+							n519 = 1;
+							goto L35;
+						}
+						case 4:
+						case 5: {
+							n517 = n497;
+							n518 = n498;
+							n519 = 2;
+							goto L35;
+						}
+						default: {
 							UNREACHABLE();
 						}
-						n514 = n517;
-					}
-L34:
-					{
-						uint8_t n519 = load8_volatile((byte *)tp_static);
-						if (n519 != 0) {
-							TRAP();
-							UNREACHABLE();
 						}
-						n498 = load32(p48 + 4);
-						n499 = load8(p48);
-						n500 = n514;
 					}
-L33:
-					{
-						uint8_t n520 = load8_volatile((byte *)tp_static);
-						if (n520 != 0) {
-							TRAP();
-							UNREACHABLE();
-						}
-						n521 = n498;
-						n522 = n499;
-						n523 = n500;
-						goto L35;
+				} else {
+					switch (n473) {
+					case 16: {
+						p475 = p457;
+						n476 = n459;
+						n477 = n478;
+						break;
 					}
-				}
-				switch (n474) {
-				case 16: {
-					n476 = n479;
-					p477 = p458;
-					n478 = n460;
-					break;
-				}
-				case 11:
-				case 13: {
-					uint64_t n530, n531;
-					byte *p532;
-					bool b533;
-					memset(p12 + 8, 0, 16);
-					memset(p12 + 57, 0, 7);
-					storeptru(p12, p1);
-					store32u(p12 + 24, 32);
-					memset(p12 + 28, 0, 12);
-					store64u(p12 + 40, UINT64_MAX);
-					store64u(p12 + 48, 0);
-					store8(p12 + 56, 0);
-					memcpy(p11, p12 + 24, 24);
-					store32u(p12 + 24, 32);
-					memset(p12 + 28, 0, 12);
-					store64u(p12 + 40, UINT64_MAX);
-					if (n479 == 1) {
-						byte *p524;
-						uint64_t n525, n526, n529;
-						if (n459 == 0) {
-							p524 = p1;
+					case 11:
+					case 13: {
+						uint64_t n526, n527;
+						byte *p528;
+						bool b529;
+						memset(p12 + 8, 0, 16);
+						memset(p12 + 57, 0, 7);
+						storeptru(p12, p1);
+						store32u(p12 + 24, 32);
+						memset(p12 + 28, 0, 12);
+						store64u(p12 + 40, UINT64_MAX);
+						store64u(p12 + 48, 0);
+						store8(p12 + 56, 0);
+						memcpy(p11, p12 + 24, 24);
+						store32u(p12 + 24, 32);
+						memset(p12 + 28, 0, 12);
+						store64u(p12 + 40, UINT64_MAX);
+						if (n478 == 1) {
+							byte *p520;
+							uint64_t n521, n522, n525;
+							if (n458 == 0) {
+								p520 = p1;
+								n521 = 0;
+								n522 = 0;
+							} else {
+								bool b523 = tp_Vec_grow_amortized(p12, n458);
+								if (!b523)
+									goto L36;
+								p520 = loadptr(p12);
+								n521 = load64(p12 + 16);
+								n522 = load64(p12 + 8);
+							}
+							memset(p12 + 8, 0, 16);
+							byte *p524 = at(p520, n522);
+							if (((uint64_t)(uintptr_t)p524 - (uint64_t)(uintptr_t)p457) >= n458) {
+								memmove(p524, p457, (size_t)n458);
+								goto L37;
+							}
 							n525 = 0;
-							n526 = 0;
-						} else {
-							bool b527 = tp_Vec_grow_amortized(p12, n459);
-							if (!b527)
-								goto L36;
-							p524 = loadptr(p12);
-							n525 = load64(p12 + 16);
-							n526 = load64(p12 + 8);
-						}
-						byte *p528 = at(p524, n526);
-						if (((uint64_t)(uintptr_t)p528 - (uint64_t)(uintptr_t)p458) >= n459) {
-							memmove(p528, p458, (size_t)n459);
-							goto L37;
-						}
-						n529 = 0;
-						while (n529 != n459) {
-							store8(inside(p528, n529), load8(inside(p458, n529)));
-							n529 = n529 + 1;
-						}
+							while (n525 != n458) {
+								store8(inside(p524, n525), load8(inside(p457, n525)));
+								n525 = n525 + 1;
+							}
 L37:
-						{
-							n530 = n525;
-							n531 = n526 + n459;
-							p532 = p524;
-							goto L38;
+							{
+								n526 = n521;
+								n527 = n522 + n458;
+								p528 = p520;
+								goto L38;
+							}
 						}
-					}
-					b533 = tp_Vec_grow_amortized(p12, 21);
-					if (b533) {
-						uint64_t n538;
-						uint64_t n534 = load64(p12 + 8);
-						uint64_t n535 = load64(p12 + 16);
-						byte *p536 = loadptr(p12);
-						byte *p537 = at(p536, n534);
-						if (((uint64_t)(uintptr_t)p537 - (uint64_t)(uintptr_t)(byte *)tp_static_406) >= 21) {
-							memcpy(p537, (byte *)tp_static_406, 21);
-							goto L39;
-						}
-						n538 = 0;
-						while (n538 != 21) {
-							store8(inside(p537, n538), load8(inside((byte *)tp_static_406, n538)));
-							n538 = n538 + 1;
-						}
+						b529 = tp_Vec_grow_amortized(p12, 21);
+						if (b529) {
+							uint64_t n534;
+							uint64_t n530 = load64(p12 + 8);
+							uint64_t n531 = load64(p12 + 16);
+							byte *p532 = loadptr(p12);
+							byte *p533 = at(p532, n530);
+							if (((uint64_t)(uintptr_t)p533 - (uint64_t)(uintptr_t)(byte *)tp_static_406) >= 21) {
+								memcpy(p533, (byte *)tp_static_406, 21);
+								goto L39;
+							}
+							n534 = 0;
+							while (n534 != 21) {
+								store8(inside(p533, n534), load8(inside((byte *)tp_static_406, n534)));
+								n534 = n534 + 1;
+							}
 L39:
-						{
-							n530 = n535;
-							n531 = n534 + 21;
-							p532 = p536;
-							goto L38;
+							{
+								n526 = n531;
+								n527 = n530 + 21;
+								p528 = p532;
+								goto L38;
+							}
 						}
-					}
 L36:
-					{
-						memcpy(p12 + 24, p11, 24);
-						if (load64u(p12 + 16) != 0)
-							rattle_dealloc(loadptru(p12));
-						store64u(p2, (uint64_t)(uintptr_t)p103);
-						memset(p2 + 8, 0, 96);
-						memset(p2 + 128, 0, 16);
-						store32u(p2 + 104, 32);
-						memset(p2 + 108, 0, 12);
-						store64u(p2 + 120, UINT64_MAX);
-						uint8_t n539 = tp_AdapterWrite_write_str(p2, (byte *)tp_static_343, 13);
-						if ((n539 & 1) == 0) {
+						{
+							memcpy(p12 + 24, p11, 24);
+							if (load64u(p12 + 16) != 0)
+								rattle_dealloc(loadptru(p12));
+							store64u(p2, (uint64_t)(uintptr_t)p102);
+							memset(p2 + 8, 0, 96);
+							memset(p2 + 128, 0, 16);
 							store32u(p2 + 104, 32);
 							memset(p2 + 108, 0, 12);
 							store64u(p2 + 120, UINT64_MAX);
-							if (load64(p2 + 128) == 0) {
-								(void)tp_AdapterWrite_write_str(p2, (byte *)tp_static_121, 1);
-							} else {
-								(void)tp_Formatter_write_indented(p2, (byte *)tp_static_121, 1);
+							uint8_t n535 = tp_AdapterWrite_write_str(p2, (byte *)tp_static_343, 13);
+							if ((n535 & 1) == 0) {
+								store32u(p2 + 104, 32);
+								memset(p2 + 108, 0, 12);
+								store64u(p2 + 120, UINT64_MAX);
+								if (load64(p2 + 128) == 0) {
+									(void)tp_AdapterWrite_write_str(p2, (byte *)tp_static_121, 1);
+								} else {
+									(void)tp_Formatter_write_indented(p2, (byte *)tp_static_121, 1);
+								}
 							}
-						}
-						n540 = n479;
-						n541 = n460;
-						p542 = p458;
-						n543 = 1;
-						goto L40;
-					}
-L38:
-					{
-						bool b544 = n530 == 0;
-						uint64_t n545 = 0;
-						while (n545 < n531) {
-							uint64_t n546 = n531 - n545;
-							uint64_t n547 = os_write(1, at(p532, n545), n546);
-							if ((int64_t)n547 < (int64_t)0) {
-								tp_error_last_error(p10);
-								goto L41;
-							}
-							uint64_t n548 = umin64(n547, n546);
-							if (n548 == 0)
-								goto L41;
-							n545 = n545 + n548;
-						}
-						if (b544) {
-							n540 = n479;
-							n541 = n460;
-							p542 = p458;
-							n543 = 0;
+							n536 = n478;
+							n537 = n459;
+							p538 = p457;
+							n539 = 1;
 							goto L40;
 						}
-						rattle_dealloc(p532);
-						n540 = n479;
-						n541 = n460;
-						p542 = p458;
-						n543 = 0;
-						goto L40;
-L41:
+L38:
 						{
-							store64u(p7, n545);
-							storeptru(p9, p7);
-							storeptru(p9 + 8, (byte *)tp_static_121);
-							store64u(p9 + 16, 1);
-							tp_Write_write_fmt(p8, p103, p9);
-							if (b544) {
-								n540 = n479;
-								n541 = n460;
-								p542 = p458;
-								n543 = 1;
+							bool b540 = n526 == 0;
+							uint64_t n541 = 0;
+							while (n541 < n527) {
+								uint64_t n542 = n527 - n541;
+								uint64_t n543 = os_write(1, at(p528, n541), n542);
+								if ((int64_t)n543 < (int64_t)0) {
+									tp_error_last_error(p10);
+									goto L41;
+								}
+								uint64_t n544 = umin64(n543, n542);
+								if (n544 == 0)
+									goto L41;
+								n541 = n541 + n544;
+							}
+							if (b540) {
+								n536 = n478;
+								n537 = n459;
+								p538 = p457;
+								n539 = 0;
 								goto L40;
 							}
-							rattle_dealloc(p532);
-							n540 = n479;
-							n541 = n460;
-							p542 = p458;
-							n543 = 1;
+							rattle_dealloc(p528);
+							n536 = n478;
+							n537 = n459;
+							p538 = p457;
+							n539 = 0;
 							goto L40;
+L41:
+							{
+								store64u(p7, n541);
+								storeptru(p9, p7);
+								storeptru(p9 + 8, (byte *)tp_static_121);
+								store64u(p9 + 16, 1);
+								tp_Write_write_fmt(p8, p102, p9);
+								if (b540) {
+									n536 = n478;
+									n537 = n459;
+									p538 = p457;
+									n539 = 1;
+									goto L40;
+								}
+								rattle_dealloc(p528);
+								n536 = n478;
+								n537 = n459;
+								p538 = p457;
+								n539 = 1;
+								goto L40;
+							}
 						}
 					}
-				}
-				case 0:
-				case 1:
-				case 2:
-				case 3:
-				case 4:
-				case 5:
-				case 6:
-				case 7:
-				case 8:
-				case 9:
-				case 10:
-				case 12:
-				case 14:
-				case 15: {
-					store64u(p13, (uint64_t)(uintptr_t)p103);
-					memset(p13 + 8, 0, 96);
-					memset(p13 + 128, 0, 16);
-					store32u(p13 + 104, 32);
-					memset(p13 + 108, 0, 12);
-					store64u(p13 + 120, UINT64_MAX);
-					if (n479 == 1) {
-						(void)tp_AdapterWrite_write_str(p13, p458, n459);
-					} else {
-						(void)tp_AdapterWrite_write_str(p13, (byte *)tp_static_406, 21);
+					case 0:
+					case 1:
+					case 2:
+					case 3:
+					case 4:
+					case 5:
+					case 6:
+					case 7:
+					case 8:
+					case 9:
+					case 10:
+					case 12:
+					case 14:
+					case 15: {
+						store64u(p13, (uint64_t)(uintptr_t)p102);
+						memset(p13 + 8, 0, 96);
+						memset(p13 + 128, 0, 16);
+						store32u(p13 + 104, 32);
+						memset(p13 + 108, 0, 12);
+						store64u(p13 + 120, UINT64_MAX);
+						if (n478 == 1) {
+							(void)tp_AdapterWrite_write_str(p13, p457, n458);
+						} else {
+							(void)tp_AdapterWrite_write_str(p13, (byte *)tp_static_406, 21);
+						}
+						n536 = n478;
+						n537 = n459;
+						p538 = p457;
+						n539 = 2;
+						goto L40;
 					}
-					n540 = n479;
-					n541 = n460;
-					p542 = p458;
-					n543 = 5;
-					goto L40;
-				}
-				default: {
-					UNREACHABLE();
-				}
+					default: {
+						UNREACHABLE();
+					}
+					}
 				}
 			}
 L30:
 			{
-				store64u(p6, (uint64_t)(uintptr_t)p103);
+				store64u(p6, (uint64_t)(uintptr_t)p102);
 				memset(p6 + 8, 0, 96);
 				memset(p6 + 128, 0, 16);
 				store32u(p6 + 104, 32);
 				memset(p6 + 108, 0, 12);
 				store64u(p6 + 120, UINT64_MAX);
-				uint8_t n549 = tp_AdapterWrite_write_str(p6, (byte *)tp_static_343, 13);
-				if ((n549 & 1) == 0) {
+				uint8_t n545 = tp_AdapterWrite_write_str(p6, (byte *)tp_static_343, 13);
+				if ((n545 & 1) == 0) {
 					store32u(p6 + 104, 32);
 					memset(p6 + 108, 0, 12);
 					store64u(p6 + 120, UINT64_MAX);
@@ -109289,93 +109220,67 @@ L30:
 						(void)tp_Formatter_write_indented(p6, (byte *)tp_static_121, 1);
 					}
 				}
-				n540 = n476;
-				n541 = n478;
-				p542 = p477;
-				n543 = 1;
+				n536 = n477;
+				n537 = n476;
+				p538 = p475;
+				n539 = 1;
 			}
 L40:
 			{
-				if (n540 == 1) {
-					if (n541 == 0) {
-						n521 = 0;
-						n522 = 0;
-						n523 = n543;
+				if (n536 == 1) {
+					if (n537 == 0) {
+						n517 = 0;
+						n518 = 0;
+						n519 = n539;
 					} else {
-						rattle_dealloc(p542);
-						n521 = 0;
-						n522 = 0;
-						n523 = n543;
+						rattle_dealloc(p538);
+						n517 = 0;
+						n518 = 0;
+						n519 = n539;
 					}
 				} else {
-					n521 = 0;
-					n522 = 0;
-					n523 = n543;
+					n517 = 0;
+					n518 = 0;
+					n519 = n539;
 				}
 			}
 L35:
 			{
-				uint8_t n550 = load8_volatile((byte *)tp_static);
-				if (n550 == 0) {
-					uint8_t n551;
-					switch (MOSTLY_0(n523)) {
-					case 0: {
-						n551 = 0;
+				uint8_t n546 = load8_volatile((byte *)tp_static);
+				if (n546 == 0) {
+					uint64_t n547;
+					switch (n518) {
+					case 1: {
+						(void)os_close(n517);
 						break;
 					}
-					case 1:
-					case 2:
-					case 3: {
-						n551 = 1;
-						break;
-					}
-					case 4:
-					case 5: {
-						n551 = 2;
+					case 0:
+					case 2: {
 						break;
 					}
 					default: {
 						UNREACHABLE();
 					}
 					}
-					uint8_t n552 = load8_volatile((byte *)tp_static);
-					if (n552 == 0) {
-						uint64_t n553;
-						switch (n522) {
-						case 1: {
-							(void)os_close(n521);
-							break;
-						}
-						case 0:
-						case 2: {
-							break;
-						}
-						default: {
-							UNREACHABLE();
-						}
-						}
-						if (n178 == 0)
-							goto L42;
-						n553 = 0;
-						while (n553 != n178) {
-							byte *p554 = inside(p183, n553 * 24);
-							if (load64u(p554 + 16) != 0)
-								rattle_dealloc(loadptru(p554));
-							n553 = n553 + 1;
-						}
+					if (n177 == 0)
+						goto L42;
+					n547 = 0;
+					while (n547 != n177) {
+						byte *p548 = inside(p182, n547 * 24);
+						if (load64u(p548 + 16) != 0)
+							rattle_dealloc(loadptru(p548));
+						n547 = n547 + 1;
+					}
 L42:
-						{
-							if (b182) {
-								n555 = n551;
-								goto L43;
-							}
-							rattle_dealloc(p183);
-							n555 = n551;
+					{
+						if (b181) {
+							n549 = n519;
 							goto L43;
 						}
+						rattle_dealloc(p182);
+						n549 = n519;
+						goto L43;
 					}
-					TRAP();
-					UNREACHABLE();
 				}
 				TRAP();
 				UNREACHABLE();
@@ -109424,15 +109329,15 @@ L12:
 		store8(p5 + 38, 38);
 		store8(p5 + 39, 39);
 		store8(p5 + 40, 40);
-		if (load8(inside(p5, n143)) == 38) {
-			store64u(p3, (uint64_t)(uintptr_t)p103);
+		if (load8(inside(p5, n142)) == 38) {
+			store64u(p3, (uint64_t)(uintptr_t)p102);
 			memset(p3 + 8, 0, 96);
 			memset(p3 + 128, 0, 16);
 			store32u(p3 + 104, 32);
 			memset(p3 + 108, 0, 12);
 			store64u(p3 + 120, UINT64_MAX);
-			uint8_t n556 = tp_AdapterWrite_write_str(p3, (byte *)tp_static_343, 13);
-			if ((n556 & 1) == 0) {
+			uint8_t n550 = tp_AdapterWrite_write_str(p3, (byte *)tp_static_343, 13);
+			if ((n550 & 1) == 0) {
 				store32u(p3 + 104, 32);
 				memset(p3 + 108, 0, 12);
 				store64u(p3 + 120, UINT64_MAX);
@@ -109442,16 +109347,16 @@ L12:
 					(void)tp_Formatter_write_indented(p3, (byte *)tp_static_121, 1);
 				}
 			}
-			n555 = 1;
+			n549 = 1;
 		} else {
-			store64u(p4, (uint64_t)(uintptr_t)p103);
+			store64u(p4, (uint64_t)(uintptr_t)p102);
 			memset(p4 + 8, 0, 96);
 			memset(p4 + 128, 0, 16);
 			store32u(p4 + 104, 32);
 			memset(p4 + 108, 0, 12);
 			store64u(p4 + 120, UINT64_MAX);
-			uint8_t n557 = tp_AdapterWrite_write_str(p4, (byte *)tp_static_407, 31);
-			if ((n557 & 1) == 0) {
+			uint8_t n551 = tp_AdapterWrite_write_str(p4, (byte *)tp_static_407, 31);
+			if ((n551 & 1) == 0) {
 				store32u(p4 + 104, 32);
 				memset(p4 + 108, 0, 12);
 				store64u(p4 + 120, UINT64_MAX);
@@ -109461,27 +109366,27 @@ L12:
 					(void)tp_Formatter_write_indented(p4, (byte *)tp_static_121, 1);
 				}
 			}
-			n555 = 2;
+			n549 = 2;
 		}
 	}
 L43:
 	{
-		uint8_t n558 = load8_volatile((byte *)tp_static);
-		if (n558 != 0) {
+		uint8_t n552 = load8_volatile((byte *)tp_static);
+		if (n552 != 0) {
 			TRAP();
 			UNREACHABLE();
 		}
-		uint8_t n559 = load8_volatile((byte *)tp_static);
-		if (n559 != 0) {
+		uint8_t n553 = load8_volatile((byte *)tp_static);
+		if (n553 != 0) {
 			TRAP();
 			UNREACHABLE();
 		}
-		uint8_t n560 = load8_volatile((byte *)tp_static);
-		if (n560 != 0) {
+		uint8_t n554 = load8_volatile((byte *)tp_static);
+		if (n554 != 0) {
 			TRAP();
 			UNREACHABLE();
 		}
-		os__exit((uint32_t)n555);
+		os__exit((uint32_t)n549);
 		(void)load8_volatile((byte *)tp_static);
 		TRAP();
 		UNREACHABLE();
