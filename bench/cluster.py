@@ -1,19 +1,21 @@
 #!/usr/bin/env python3
 """Figures of a cluster on this machine, beside what else keeps timers on a disk. docs/scale.md has them.
 
-    cluster.py PROGRAM [--repeats 3] [--seconds 5] [--timers 1000000] [--shards 2,4,8] [--only rates,late,failover,recovery,peers]
+    cluster.py PROGRAM [--repeats 3] [--seconds 5] [--timers 1000000] [--shards 2,4,8] [--only rates,late,polling,failover,recovery,peers]
+               [--peers NAMES]
 
 Rates: a client of each shard sends requests in batches, and waits for the answers to each. Half of them start a timer, half stop
 one. Late: each shard is asked for 500 timers a second; how long after its deadline a client reads that a timer has expired.
+Polling: the same of PostgreSQL's rows, until a worker has taken a row and deleted it.
 Failover: the longest silence for a client that asks every 10 ms, when something is killed. Recovery: how long a worker takes to
 begin with so many pending timers, from a snapshot. Peers do the same as rates, over one connection, each batch on the disk."""
 import argparse
 import concurrent.futures
 import contextlib
-import json
 import os
 import pathlib
 import random
+import re
 import shutil
 import signal
 import socket
@@ -28,20 +30,28 @@ from figures import HERE, fail, machine, spread, write
 from journal import BATCHES, answers, beanstalkd, rate
 
 TOP = pathlib.Path(HERE).parent / "cluster"
+if not TOP.exists():
+    fail("cluster/ was deleted")
 sys.path.insert(0, str(TOP))
 sys.dont_write_bytecode = True
+from cluster import Cluster
+from logs import open_log
+from shard import Shard, parsed, snapshot
+from timers_cluster import ANSWER, EXPIRED, Client
+
+PORT = 20_000 + os.getpid() % 20_000
 
 
-class Cluster:
-    """One of its own, over an engine."""
+class Own(Cluster):
+    """A cluster of its own, over an engine."""
 
     def __init__(self, given, shards, engine="etcd", *more):
-        self.folder, self.shards = tempfile.mkdtemp(dir=given.folder), shards
-        self.says("up", "--program", given.program, "--shards", shards, "--engine", engine, "--net", f"127.{random.randrange(20, 250)}.1", *more)
-        self.now = json.loads((pathlib.Path(self.folder) / "config").read_text())
+        super().__init__(tempfile.mkdtemp(dir=given.folder))
+        net = f"127.{random.randrange(20, 250)}.1"
+        self.says("up", "--program", given.program, "--shards", shards, "--engine", engine, "--net", net, *more)
 
     def says(self, *words):
-        command = [sys.executable, TOP / "timers-cluster", words[0], self.folder, *words[1:]]
+        command = [sys.executable, TOP / "cluster.py", words[0], self.folder, *words[1:]]
         return subprocess.run([*map(str, command)], check=True, stdout=subprocess.PIPE, text=True).stdout
 
     def __enter__(self):
@@ -52,19 +62,16 @@ class Cluster:
         shutil.rmtree(self.folder, ignore_errors=True)
 
     def client(self, shard, number, window=10000):
-        from timers_cluster import Client
-        at = ",".join(f"{self.now['net']}.{4 + i}:{self.now['port'] + 2 + shard}" for i in range(self.now["workers"]))
-        return Client(at, str(shard), number, None, window)
+        return Client(",".join(self.addresses(shard)), str(shard), number, None, window)
 
     def of_each_shard(self, call, *given):
         """What the call gives for each shard, each in a process."""
-        with concurrent.futures.ProcessPoolExecutor(self.shards) as pool:
-            return [*pool.map(call, [self] * self.shards, range(self.shards), *([value] * self.shards for value in given))]
+        with concurrent.futures.ProcessPoolExecutor(self["shards"]) as pool:
+            return [*pool.map(call, [self] * self["shards"], range(self["shards"]), *([value] * self["shards"] for value in given))]
 
 
 def reads(client, done):
     """The lines that come until that many answers came, or until `done` says so."""
-    from timers_cluster import ANSWER, EXPIRED
     while not done():
         line = client.next(0.05)
         if line.said in (ANSWER, EXPIRED):
@@ -95,9 +102,7 @@ def requests(cluster, shard, number, batch, seconds):
 
 def lateness(cluster, shard, number, asked, seconds):
     """In ms, of each timer."""
-    from logs import open_log
-    from shard import parsed
-    epoch, tick, _ = parsed(open_log(cluster.now["place"], f"steps-{shard}").read(1)).genesis
+    epoch, tick, _ = parsed(open_log(cluster["place"], f"steps-{shard}").read(1)).genesis
     client, late, count, begun = cluster.client(shard, number), [], 0, time.perf_counter()
 
     def over():
@@ -139,26 +144,31 @@ def title(engine, shards):
 
 def rates(given, shards_of):
     for engine, shards in [("etcd", shards) for shards in shards_of] + [("file", 1), ("file", 4)]:
-        with Cluster(given, shards, engine) as cluster:
+        with Own(given, shards, engine) as cluster:
             found = {batch: [] for batch in BATCHES}
             for number, batch in enumerate(batch for _ in range(given.repeats) for batch in BATCHES):
                 found[batch].append(sum(cluster.of_each_shard(requests, number, batch, given.seconds)))
             yield [title(engine, shards), *map(spread, found.values())]
 
 
+def lates(of):
+    """Cells of p50 and p99, of what several runs gave, each sorted."""
+    return spread([statistics.median(late) for late in of]), spread([late[len(late) * 99 // 100] for late in of])
+
+
 def late(given, shards_of):
     for engine, shards in [("etcd", shards) for shards in shards_of] + [("file", 4)]:
-        with Cluster(given, shards, engine) as cluster:
-            middle, high = [], []
-            for number in range(given.repeats):
-                all_of = sorted(sum(cluster.of_each_shard(lateness, number, 500, given.seconds), []))
-                middle.append(statistics.median(all_of))
-                high.append(all_of[len(all_of) * 99 // 100])
-            yield [title(engine, shards), spread(middle), spread(high)]
+        with Own(given, shards, engine) as cluster:
+            of = [sorted(sum(cluster.of_each_shard(lateness, number, 500, given.seconds), [])) for number in range(given.repeats)]
+            yield [title(engine, shards), *lates(of)]
+
+
+def polling(given, _):
+    yield ["PostgreSQL SKIP LOCKED, 2 workers that look each 10 ms", *lates([polled(given) for _ in range(given.repeats)])]
 
 
 def failover(given, _):
-    with Cluster(given, 4) as cluster:
+    with Own(given, 4) as cluster:
         numbers = iter(range(64))
         for fault in ("workers are killed", "the leader is killed", "all nodes are killed"):
             found = []
@@ -183,11 +193,10 @@ def fill(cluster, shard, number, count):
 
 
 def recovery(given, _):
-    from shard import Shard, snapshot
-    with Cluster(given, 1, "etcd", "--every", 100) as cluster:
+    with Own(given, 1, "etcd", "--every", 100) as cluster:
         begun = time.perf_counter()
         fill(cluster, 0, 0, given.timers)
-        filled, place, ways, found = time.perf_counter() - begun, cluster.now["place"], [], []
+        filled, place, ways, found = time.perf_counter() - begun, cluster["place"], [], []
         for _ in range(given.repeats):
             begun = time.perf_counter()
             shard = Shard(place, "0", given.program)
@@ -205,11 +214,10 @@ def recovery(given, _):
 
 @contextlib.contextmanager
 def redis(mode, folder, _):
-    port = 20_000 + os.getpid() % 20_000
-    command = ["redis-server", "--port", port, "--dir", folder, "--appendonly", "yes", "--appendfsync", mode, "--save", ""]
+    command = ["redis-server", "--port", PORT, "--dir", folder, "--appendonly", "yes", "--appendfsync", mode, "--save", ""]
     with subprocess.Popen([*map(str, command)], stdout=subprocess.DEVNULL) as process:
         time.sleep(1)
-        peer = socket.create_connection(("127.0.0.1", port))
+        peer = socket.create_connection(("127.0.0.1", PORT))
 
         def plays(numbers):
             peer.sendall(b"".join(b"ZADD t 1000 %d\r\n" % n if n % 2 else b"ZREM t %d\r\n" % (n - 1) for n in numbers))
@@ -222,32 +230,85 @@ def redis(mode, folder, _):
 
 
 @contextlib.contextmanager
-def postgres(user, folder, _):
-    """Rows that are taken out with `for update skip locked`; here they are put and deleted."""
+def served_by_postgres(folder):
+    """What connects to a server of its own, which syncs each commit, with a table of timers."""
     import psycopg2
-    os.chmod(folder, 0o755)
-    own = f"{folder}/postgres"
-    os.mkdir(own)
-    shutil.chown(own, user)
-    run, path = ["setpriv", f"--reuid={user}", "--clear-groups"], os.environ["PATH"] + ":/usr/lib/postgresql/15/bin"
-    makes = [*run, shutil.which("initdb", path=path), "-A", "trust", "-U", "t", "-D", f"{own}/data"]
-    subprocess.run(makes, check=True, cwd="/", stdout=subprocess.DEVNULL)
-    command = [*run, shutil.which("postgres", path=path), "-D", f"{own}/data", "-k", own, "-c", "listen_addresses="]
-    with subprocess.Popen(command, stdout=subprocess.DEVNULL, stderr=subprocess.DEVNULL) as process:
-        time.sleep(2)
-        base = psycopg2.connect(f"host={own} user=t dbname=postgres")
-        base.autocommit = True
-        cursor = base.cursor()
-        cursor.execute("create table t (id bigint primary key, due bigint, action bigint); create index on t (due)")
+    said = f"{folder}/postgres"
+    command = ["pg_virtualenv", "-t", "-o", "fsync=on", "sh", "-c", 'env | grep ^PG > "$0.new"; mv "$0.new" "$0"; exec cat', said]
+    with subprocess.Popen(command, stdin=subprocess.PIPE, stdout=subprocess.DEVNULL):
+        while not os.path.exists(said):
+            time.sleep(0.1)
+        with open(said, encoding="utf-8") as file:
+            os.environ |= dict(line.split("=", 1) for line in file.read().split())
 
-        def plays(numbers):
-            starts, stops = [n for n in numbers if n % 2], [n - 1 for n in numbers if n % 2 == 0]
-            values = ",".join(f"({n}, 1000, 7)" for n in starts)
-            cursor.execute((f"insert into t values {values};" if starts else "") + f"delete from t where id = any(array{stops}::bigint[])")
+        def connects():
+            base = psycopg2.connect("")
+            base.autocommit = True
+            return base.cursor()
 
-        yield plays
-        base.close()
-        process.terminate()
+        connects().execute("create table t (id bigint primary key, due bigint, action bigint); create index on t (due)")
+        yield connects
+
+
+TAKES = "select id, due from t where due <= %s order by due, id limit %s for update skip locked"
+
+
+def inserts(ids, due):
+    values = ",".join(f"({n}, {due}, 7)" for n in ids)
+    return f"insert into t values {values};" if values else ""
+
+
+def takes(cursor, now, most):
+    """As a worker does: rows that are due, some act, and the rows are gone, in one transaction."""
+    cursor.execute("begin; " + TAKES, (now, most))
+    rows = cursor.fetchall()
+    cursor.execute("delete from t where id = any(%s); commit", ([row[0] for row in rows],))
+    return rows
+
+
+@contextlib.contextmanager
+def postgres(how, folder, _):
+    """Rows that are put and deleted; or are put, and taken out with `skip locked` by a worker."""
+    with served_by_postgres(folder) as connects:
+        cursor, worker = connects(), connects()
+
+        def deletes(numbers):
+            stops = [n - 1 for n in numbers if n % 2 == 0]
+            cursor.execute(inserts([n for n in numbers if n % 2], 1000) + f"delete from t where id = any(array{stops}::bigint[])")
+
+        def hands_out(numbers):
+            starts = [n for n in numbers if n % 2]
+            if starts:
+                cursor.execute(inserts(starts, 1000))
+            if len(starts) < len(numbers) and not takes(worker, 1000, len(numbers) - len(starts)):
+                fail("no row was taken")
+
+        yield {"deletes": deletes, "skip locked": hands_out}[how]
+
+
+def polled(given):
+    """In ms, how late workers that look each 10 ms take 500 timers a second, which one connection puts as they come."""
+    with tempfile.TemporaryDirectory(dir=given.folder) as folder, served_by_postgres(folder) as connects:
+        late, over = [], threading.Event()
+
+        def works():
+            cursor = connects()
+            while not over.is_set():
+                rows = takes(cursor, int(time.time() * 1000), 1000)
+                late.extend(time.time() * 1000 - due for _, due in rows)
+                time.sleep(0 if rows else 0.01)
+
+        with concurrent.futures.ThreadPoolExecutor() as pool:
+            both, cursor, count, begun = [pool.submit(works) for _ in range(2)], connects(), 0, time.perf_counter()
+            while (elapsed := time.perf_counter() - begun) < given.seconds:
+                if (wanted := int(500 * elapsed)) > count:
+                    cursor.execute(inserts(range(count, wanted), int(time.time() * 1000) + random.randrange(200, 2200)))
+                    count = wanted
+                time.sleep(0.002)
+            while len(late) < count:
+                time.sleep(0.01)
+            over.set()
+            return [each.result() for each in both] and sorted(late)
 
 
 @contextlib.contextmanager
@@ -255,12 +316,12 @@ def rabbitmq(_, folder, __):
     """A durable queue whose messages die after a time, each batch in a transaction. A message can't be cancelled: all are put."""
     import pika
     given = {"RABBITMQ_MNESIA_BASE": folder, "RABBITMQ_LOG_BASE": folder, "RABBITMQ_NODENAME": "figures@localhost",
-             "RABBITMQ_NODE_PORT": str(20_000 + os.getpid() % 20_000), "HOME": folder}
+             "RABBITMQ_NODE_PORT": str(PORT), "HOME": folder}
     with subprocess.Popen(["/usr/lib/rabbitmq/bin/rabbitmq-server"], env=os.environ | given, stdout=subprocess.DEVNULL,
                           start_new_session=True) as process:
         while True:
             with contextlib.suppress(pika.exceptions.AMQPError, OSError):
-                peer = pika.BlockingConnection(pika.ConnectionParameters("127.0.0.1", int(given["RABBITMQ_NODE_PORT"])))
+                peer = pika.BlockingConnection(pika.ConnectionParameters("127.0.0.1", PORT))
                 break
             time.sleep(0.5)
         channel = peer.channel()
@@ -280,9 +341,9 @@ def rabbitmq(_, folder, __):
 
 def peers(given, _):
     kinds = {"Redis ZSET, AOF always": (redis, "always", True), "Redis ZSET, AOF everysec": (redis, "everysec", True),
-             "PostgreSQL rows": (postgres, "nobody", True), "beanstalkd -f0": (beanstalkd, shutil.which("beanstalkd"), True),
-             "RabbitMQ TTL, classic queue": (rabbitmq, None, True)}
-    for name, kind in kinds.items():
+             "PostgreSQL rows": (postgres, "deletes", True), "PostgreSQL SKIP LOCKED": (postgres, "skip locked", True),
+             "beanstalkd -f0": (beanstalkd, shutil.which("beanstalkd"), True), "RabbitMQ TTL, classic queue": (rabbitmq, None, True)}
+    for name, kind in [(name, kind) for name, kind in kinds.items() if re.search(given.peers, name)]:
         found = {batch: [rate(kind, given.folder, batch, given.seconds) for _ in range(given.repeats)] for batch in BATCHES}
         yield [name, *map(spread, found.values())]
 
@@ -292,11 +353,11 @@ def main():
     parser.add_argument("program", type=os.path.abspath)
     for name, default in ("repeats", 3), ("seconds", 5.0), ("timers", 1_000_000), ("shards", "2,4,8"), ("folder", tempfile.gettempdir()):
         parser.add_argument(f"--{name}", default=default, type=type(default))
-    parser.add_argument("--only", default="rates,late,failover,recovery,peers")
+    parser.add_argument("--only", default="rates,late,polling,failover,recovery,peers")
+    parser.add_argument("--peers", default=".", help="those whose names match")
     given = parser.parse_args()
-    if not TOP.exists():
-        fail("cluster/ was deleted")
     heads = {"rates": ["requests a second, by batches", *BATCHES], "late": ["an expiry is late by, in ms", "p50", "p99"],
+             "polling": ["a row is late by, in ms", "p50", "p99"],
              "failover": ["silence, in s", ""], "recovery": ["recovery", "s, snapshot", "s, all", "MB", "filled, a second"],
              "peers": ["requests a second, by batches", *BATCHES]}
     for name in given.only.split(","):

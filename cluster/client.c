@@ -19,7 +19,7 @@
 
 struct request {
 	uint64_t name, interval;       /* 0: it starts no timer */
-	char word[8], rest[72];        /* its line, around the client and the number */
+	char text[80];                 /* its line, without the client and the number behind the word */
 };
 
 struct timers_client {
@@ -53,41 +53,41 @@ uint64_t timers_shard(const char *key, uint64_t shards)   /* FNV-1a */
 
 size_t timers_client_waiting(const struct timers_client *client) { return client->count; }
 
-static uint64_t asks(struct timers_client *c, const char *word, uint64_t interval, const char *format, ...)
+static uint64_t asks(struct timers_client *c, uint64_t interval, const char *format, ...)
 {
 	if (c->count == c->window)
 		return 0;
 	struct request *request = &c->waiting[(c->first + c->count++) % c->window];
 	va_list values;
 	*request = (struct request){.name = ++c->names, .interval = interval};
-	strcpy(request->word, word);
 	va_start(values, format);
-	vsnprintf(request->rest, sizeof request->rest, format, values);
+	vsnprintf(request->text, sizeof request->text, format, values);
 	va_end(values);
 	return request->name;
 }
 
 uint64_t timers_client_start(struct timers_client *c, uint64_t interval, uint64_t action)
 {
-	return asks(c, "start", interval, " %" PRIu64 " %" PRIu64, interval, action);
+	return (interval | action) >> 60 ? 0 : asks(c, interval, "start %" PRIu64 " %" PRIu64, interval, action);
 }
 
 uint64_t timers_client_stop(struct timers_client *c, uint64_t serial)
 {
-	return asks(c, "stop", 0, " %" PRIu64, serial);
+	return serial >> 60 ? 0 : asks(c, 0, "stop %" PRIu64, serial);
 }
 
 uint64_t timers_client_restart(struct timers_client *c, uint64_t serial, uint64_t interval, uint64_t action)
 {
-	return asks(c, "restart", interval, " %" PRIu64 " %" PRIu64 " %" PRIu64, serial, interval, action);
+	const bool fits = (serial | interval | action) >> 60 == 0;
+	return fits ? asks(c, interval, "restart %" PRIu64 " %" PRIu64 " %" PRIu64, serial, interval, action) : 0;
 }
 
 /* The request that waits at `i`, with the number that it has now. */
 static size_t form(const struct timers_client *c, size_t i, char line[LINE])
 {
-	const struct request *request = &c->waiting[(c->first + i) % c->window];
+	const char *text = c->waiting[(c->first + i) % c->window].text, *rest = strchr(text, ' ');
 	const uint64_t number = c->place.number + 1 + i;
-	return (size_t)snprintf(line, LINE, "%s %" PRIu64 " %" PRIu64 "%s\n", request->word, c->client, number, request->rest);
+	return (size_t)snprintf(line, LINE, "%.*s %" PRIu64 " %" PRIu64 "%s\n", (int)(rest - text), text, c->client, number, rest);
 }
 
 static void disconnect(struct timers_client *c)

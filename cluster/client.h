@@ -23,7 +23,7 @@ struct timers_client *timers_client_open(const char *workers, const char *shard,
                                          size_t window);
 void timers_client_close(struct timers_client *client);
 
-/* Each returns a name for the request, or 0 if the window is full: then call timers_client_next first. */
+/* Each returns a name for the request, or 0: if a number isn't below 2^60, or if the window is full until timers_client_next. */
 uint64_t timers_client_start(struct timers_client *client, uint64_t interval, uint64_t action);
 uint64_t timers_client_stop(struct timers_client *client, uint64_t serial);
 uint64_t timers_client_restart(struct timers_client *client, uint64_t serial, uint64_t interval, uint64_t action);

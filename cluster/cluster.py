@@ -1,7 +1,7 @@
 """timers-cluster   a cluster of timers on one machine
 
-    up FOLDER [--shards 4] [--workers 2] [--engine etcd] [--apart]    starts three nodes of etcd, workers and followers (an engine may be
-                       `file` or a PLACE, too; with --apart root gives nodes and workers networks of their own)
+    up FOLDER [--shards 4] [--workers 2] [--engine etcd] [--apart]    starts three nodes of etcd or nats, workers and followers (an engine
+                       may be `file` or a PLACE, too; with --apart root gives nodes and workers networks of their own)
     demo FOLDER [--seconds 30] [--rate 60] [--faults NAME,..]    clients ask, each so often a second, and there are faults (all, unless
                        some are named; `none`: do what you like. A rate of 100000 is as much as the cluster takes)
     fault FOLDER [NAME]    what can be done to this cluster, or does it
@@ -10,7 +10,9 @@
     down FOLDER        ends all"""
 import argparse
 import collections
+import concurrent.futures
 import contextlib
+import itertools
 import json
 import os
 import pathlib
@@ -22,12 +24,22 @@ import threading
 import time
 
 from judge import Load, Model
-from logs import Again, Http, open_log
-from shard import Differs, Shard, said_by
+from logs import Again, open_log
+from shard import Differs, Shard, keep_snapshot, said_by
 
 HERE = pathlib.Path(__file__).resolve().parent
 HEADLINE = "lost", "doubled", "early", "out of order"
-REFUSED, DIFFERS = 2, 9  # exit statuses of a worker that is not started again
+REFUSED, DIFFERS = 2, 9  # exit statuses of what is not started again
+# Of an engine whose nodes are started here: where a node is for clients, what it is for the others, and its command.
+ENGINES = {
+    "etcd": ("http://{host}:{port}", "n{home}=http://{host}:{peer}", """etcd --name=n{home} --data-dir={folder}/n{home} --initial-cluster={nodes}
+        --listen-client-urls=http://{host}:{port} --advertise-client-urls=http://{host}:{port}
+        --listen-peer-urls=http://{host}:{peer} --initial-advertise-peer-urls=http://{host}:{peer}
+        --heartbeat-interval=200 --election-timeout=2000 --quota-backend-bytes=8589934592
+        --auto-compaction-mode=revision --auto-compaction-retention=1000"""),
+    "nats": ("http://{host}:{monitor}", "nats://{host}:{peer}", """nats-server --config={here}/nats.conf --name=n{home} --store_dir={folder}/n{home}
+        --addr={host} --port={port} --http_port={monitor} --cluster_name=timers --cluster=nats://{host}:{peer} --routes={nodes}"""),
+}
 NETWORKS = """ip link add $TAG type bridge; ip addr add $NET.254/24 dev $TAG; ip link set $TAG up
 for i in $HOMES; do
     ip netns add $TAG$i; ip link add $TAG$i type veth peer name eth0 netns $TAG$i; ip link set $TAG$i master $TAG up
@@ -42,17 +54,17 @@ class Cluster:
     def __init__(self, folder):
         self.folder = pathlib.Path(folder).resolve()
 
-    def config(self, name="config", **changes):
-        """Others read it meanwhile."""
-        path = self.folder / name
-        known = (json.loads(path.read_text()) if path.exists() else {}) | changes
-        if changes:
-            path.with_suffix(".new").write_text(json.dumps(known))
-            path.with_suffix(".new").replace(path)
-        return known
+    def read(self, name="config"):
+        return json.loads((self.folder / name).read_text())
 
     def __getitem__(self, key):
-        return self.config()[key]
+        return self.read()[key]
+
+    def write(self, name, content):
+        """Others read it meanwhile."""
+        new = self.folder / f"{name}.new"
+        new.write_text(json.dumps(content))
+        new.replace(self.folder / name)
 
     def host(self, home):
         """The first three homes are those of nodes, and workers have one each."""
@@ -70,28 +82,27 @@ class Cluster:
         """Of a shard's workers."""
         return [f"{self.host(3 + i)}:{self['port'] + 2 + int(shard)}" for i in range(self["workers"])]
 
-    def etcd(self):
-        """Commands of the nodes, and the place of their logs."""
-        clients, peers = ([f"http://{self.host(i)}:{port}" for i in range(3)] for port in (self["port"], self["port"] + 1))
-        all_nodes = ",".join(f"n{i}={url}" for i, url in enumerate(peers))
-        nodes = [[*self.inside(i), "etcd", "--heartbeat-interval=200", "--election-timeout=2000", "--auto-compaction-mode=revision",
-                  "--auto-compaction-retention=1000", f"--quota-backend-bytes={8 << 30}", f"--initial-cluster={all_nodes}", f"--name=n{i}",
-                  f"--data-dir={self.folder}/n{i}", f"--listen-client-urls={client}", f"--advertise-client-urls={client}",
-                  f"--listen-peer-urls={peer}", f"--initial-advertise-peer-urls={peer}"] for i, (client, peer) in enumerate(zip(clients, peers))]
-        return {"nodes": nodes, "place": "etcd:" + ",".join(clients)}
+    def nodes(self, engine):
+        """Their commands, and the place of their logs."""
+        at, name, command = ENGINES[engine]
+        port, folder = self["port"], self.folder
+        homes = [{"home": i, "host": self.host(i), "port": port, "peer": port + 1, "monitor": port + 2} for i in range(3)]
+        every = {"nodes": ",".join(name.format(**home) for home in homes), "folder": folder, "here": HERE}
+        commands = [[*self.inside(i), *(word.format(**home, **every) for word in command.split())] for i, home in enumerate(homes)]
+        return {"nodes": commands, "place": f"{engine}:" + ",".join(at.format(**home) for home in homes)}
 
     def up(self, given):
         self.folder.mkdir(parents=True, exist_ok=True)
         net = given.net or ("10.77.0" if given.apart else "127.0.0")
-        known = {key: getattr(given, key) for key in ("apart", "port", "shards", "workers", "every", "options")}
-        self.config(net=net, tag="tc" + bytes(map(int, net.split("."))).hex() + "n", program=os.path.abspath(given.program), **known)
-        place = f"file:{self.folder}/logs" if given.engine == "file" else given.engine
-        self.config(**self.etcd() if given.engine == "etcd" else {"nodes": [], "place": place})
+        config = vars(given) | {"net": net, "tag": "tc" + bytes(map(int, net.split("."))).hex() + "n"}
+        config |= {"nodes": [], "place": f"file:{self.folder}/logs" if given.engine == "file" else given.engine}
+        self.write("config", config)
+        if given.engine in ENGINES:
+            self.write("config", config | self.nodes(given.engine))
         self.networks("set -e; " + NETWORKS)
         with open(self.folder / "log", "a", encoding="utf-8") as log:
-            keeper = subprocess.Popen([sys.executable, HERE / "timers-cluster", "keep", self.folder], stdin=subprocess.DEVNULL, stdout=log,
-                                      stderr=log, start_new_session=True)
-        self.config(keeper=keeper.pid)
+            subprocess.Popen([sys.executable, HERE / "cluster.py", "keep", self.folder], stdin=subprocess.DEVNULL, stdout=log, stderr=log,
+                             start_new_session=True)
         end = time.monotonic() + 120
         while not all(self.holders(shard) for shard in range(given.shards)):
             if time.monotonic() > end:
@@ -101,10 +112,10 @@ class Cluster:
 
     def commands(self):
         """Those of all processes, by their names."""
-        now = self.config()
+        now = self.read()
         found = {f"node {i}": command for i, command in enumerate(now["nodes"])}
         for shard in map(str, range(now["shards"])):
-            found[f"snapshots {shard}"] = [sys.executable, HERE / "timers-cluster", "snapshots", self.folder, shard]
+            found[f"snapshots {shard}"] = [sys.executable, HERE / "cluster.py", "snapshots", self.folder, shard]
             at = self.addresses(shard)
             for i in range(now["workers"]):
                 name = f"{shard}.{i}"
@@ -121,7 +132,7 @@ class Cluster:
             for name, command in self.commands().items():
                 if name not in kept or kept[name].poll() not in (None, REFUSED, DIFFERS):
                     kept[name] = subprocess.Popen(command, stdin=subprocess.DEVNULL, stdout=subprocess.DEVNULL)
-            self.config("pids", **{name: process.pid for name, process in kept.items()})
+            self.write("pids", {"keeper": os.getpid()} | {name: process.pid for name, process in kept.items()})
             time.sleep(0.3)
         for process in kept.values():
             process.kill()
@@ -129,13 +140,13 @@ class Cluster:
         (self.folder / "pids").unlink()
 
     def down(self, _):
-        os.kill(self["keeper"], signal.SIGTERM)
+        os.kill(self.read("pids")["keeper"], signal.SIGTERM)
         while (self.folder / "pids").exists():
             time.sleep(0.1)
         self.networks(NO_NETWORKS)
 
     def shards(self, given):
-        self.config(shards=max(self["shards"], int(given.more)))
+        self.write("config", self.read() | {"shards": max(self["shards"], int(given.more))})
 
     def holders(self, shard):
         """Of its lease, by the names of their processes."""
@@ -151,19 +162,17 @@ class Cluster:
                       f" its clock is {ahead:.1f} ms ahead")
 
     def leader(self):
-        """The home of etcd's, or of some node."""
-        for i, address in enumerate(self["place"][5:].split(",")):
-            with contextlib.suppress(Again, KeyError):
-                said = Http([address]).ask("/v3/maintenance/status", {"": 0})
-                if said["leader"] == said["header"]["member_id"]:
-                    return i
+        """The home of the node that leads, or of some node."""
+        with contextlib.suppress(Again):
+            return open_log(self["place"], "steps-0").leader()
         return random.randrange(3)
 
     def faults(self):
         """What can be done to a cluster now, by names: a signal to processes, for some seconds, or ways between homes that are cut."""
         kill, stop = signal.SIGKILL, signal.SIGSTOP
         workers = [name for shard in range(self["shards"]) for name in self.holders(shard)]
-        found = {"a process is killed": ([random.choice([*self.config("pids")])], kill, 0), "workers are killed": (workers, kill, 0),
+        kept = [name for name in self.read("pids") if name != "keeper"]
+        found = {"a process is killed": ([random.choice(kept)], kill, 0), "workers are killed": (workers, kill, 0),
                  "workers are stopped and wake up": (workers, stop, 4)}
         if self["nodes"]:
             nodes, first = [f"node {i}" for i in range(3)], self.leader()
@@ -192,17 +201,14 @@ class Cluster:
         """If it stops them, it wakes them up later."""
         for name in names:
             with contextlib.suppress(ProcessLookupError):
-                os.kill(self.config("pids")[name], number)
+                os.kill(self.read("pids")[name], number)
         time.sleep(seconds)
         if number == signal.SIGSTOP:
             self.signals(names, signal.SIGCONT)
 
-    def demo(self, given):
-        ended, end, happened = threading.Event(), time.monotonic() + given.seconds, 0
-        models = [Model(self["place"], str(shard)) for shard in range(self["shards"])]
-        loads = [Load(",".join(self.addresses(model.shard)), model.shard, i, ended, given.rate) for model in models for i in (0, 1)]
-        follower = threading.Thread(target=follows, args=(models, loads), daemon=True)
-        follower.start()
+    def harm(self, given):
+        """Faults at random, for so many seconds. How many there were."""
+        end, happened = time.monotonic() + given.seconds, 0
         while time.monotonic() < end:
             time.sleep(random.uniform(0.5, 2))
             if given.faults != "none":
@@ -211,12 +217,22 @@ class Cluster:
                 print(given.more, flush=True)
                 happened += 1
         time.sleep(1)
-        ended.set()
-        seconds = time.monotonic() - end + given.seconds
-        follower.join()
-        wrong = sum((model.judged([load for load in loads if load.shard == model.shard]) for model in models), collections.Counter())
+        return happened
+
+    def demo(self, given):
+        begun, ended = time.monotonic(), threading.Event()
+        models = [Model(self["place"], str(shard)) for shard in range(self["shards"])]
+        loads = [[Load(",".join(self.addresses(model.shard)), model.shard, i, ended, given.rate) for i in (0, 1)] for model in models]
+        with concurrent.futures.ThreadPoolExecutor(len(models)) as pool:
+            judged = pool.map(Model.judged, models, loads)
+            try:
+                happened = self.harm(given)
+            finally:
+                ended.set()  # the clients and the judges end then
+            seconds = time.monotonic() - begun
+            wrong = sum(judged, collections.Counter())
         others = ", ".join(f"{count} {what}" for what, count in wrong.items() if what not in HEADLINE)
-        answers, expired = sum(load.answers for load in loads), sum(model.expired for model in models)
+        answers, expired = sum(load.answers for load in itertools.chain(*loads)), sum(model.expired for model in models)
         print(f"{others or 'nothing else wrong'}; {answers} requests answered, {answers / seconds:.0f} a second, {expired} timers"
               f" expired, {happened} faults")
         print(", ".join(f"{wrong[what]} {what}" for what in HEADLINE))
@@ -228,33 +244,14 @@ class Cluster:
         every = self["every"]
         one, other = (Shard(self["place"], given.more, self["program"], scheme) for scheme in ("hier", "hashed"))
         while True:
-            record = None
-            with contextlib.suppress(Again):
-                record = one.log.wait(one.last + 1, 1)
-            if record:
-                one.follow(record), other.follow(record)
-            if record and one.last % every == 0 and (lines := one.state()):
+            if not (record := one.log.wait(one.last + 1, 1)):
+                continue
+            one.follow(record), other.follow(record)
+            if one.last % every == 0 and (lines := one.state()):
                 if other.state() != lines:
                     raise Differs(f"snapshots after record {one.last}")
-                keep_snapshot(one, lines, one.last - every)
-
-
-def follows(models, loads):
-    """The log, before what it has to follow is cut off."""
-    while any(load.is_alive() for load in loads):
-        time.sleep(0 if any([model.step() for model in models]) else 0.02)
-
-
-def keep_snapshot(shard, lines, before):
-    """Appends its parts in a row, and cuts off what it stands for. If it isn't known whether one stands there all come again."""
-    parts = [b"".join(lines[i:i + 4000]) for i in range(0, len(lines), 4000)]
-    while True:
-        with contextlib.suppress(Again):
-            last = shard.snapshots.last()
-            if all(shard.snapshots.append(last + i, b"part %d %d\n%b" % (i, len(parts), part)) for i, part in enumerate(parts)):
-                shard.log.cut(before)
-                return shard.snapshots.cut(last)
-        time.sleep(0.05)
+                with contextlib.suppress(Again):  # the next one will do
+                    keep_snapshot(one, lines, one.last - every)
 
 
 def main():
@@ -268,4 +265,12 @@ def main():
     parser.add_argument("--apart", action="store_true")
     parser.add_argument("--options", nargs="*", default=[])  # of workers, as OPTION=NUMBER, or NAME:OPTION=NUMBER for one
     given = parser.parse_args()
-    return getattr(Cluster(given.folder), given.verb)(given)
+    try:
+        return getattr(Cluster(given.folder), given.verb)(given)
+    except Differs as why:
+        print(f"{given.verb}: Differs {why}", file=sys.stderr)
+        return DIFFERS
+
+
+if __name__ == "__main__":
+    sys.exit(main())

@@ -5,8 +5,8 @@ import random
 import threading
 import time
 
-from logs import Again, open_log
-from shard import EXPIRED_MOST, NO_CHAIN, Differs, begun, parsed, snapshot
+from logs import Again
+from shard import EXPIRED_MOST, Differs, Follower
 from timers_cluster import ANSWER, CUT, EXPIRED, NOTHING, WRONG, Client
 
 LAST = 2**60 - 1
@@ -17,7 +17,7 @@ class Load(threading.Thread):
 
     def __init__(self, workers, shard, client, ended, rate):
         super().__init__(daemon=True)
-        self.opens, self.shard, self.number, self.ended, self.rate = (workers, shard, client), shard, client, ended, rate
+        self.opens, self.number, self.ended, self.rate = (workers, shard, client), client, ended, rate
         self.said, self.lines, self.pending, self.asked, self.answers = "", [], set(), 0, 0
         self.start()
 
@@ -55,66 +55,57 @@ class Load(threading.Thread):
         client.close()
 
 
-class Model:
-    """An independent model of a shard: docs/formats.md on a dictionary. It follows the log, and counts what is wrong."""
+class Model(Follower):
+    """An independent model of a shard: docs/formats.md on a dictionary. It counts what is wrong with the log."""
 
     def __init__(self, place, shard):
-        self.log, self.shard, self.record, self.chain = open_log(place, f"steps-{shard}"), shard, 0, NO_CHAIN
-        self.wrong, self.lines = collections.Counter(), collections.defaultdict(list)  # of each client
-        self.now, self.serials, self.numbers, self.pending = 0, 0, [0] * 64, {}
-        self.owed, self.latest, self.expired, self.most = [], (), 0, 0  # bytes of requests in a record
-        if text := snapshot(open_log(place, f"snapshots-{shard}")):
-            self.record, self.chain, (*_, self.capacity), self.now, state = begun(text)
-            state = [line.split() for line in state.splitlines()]
-            self.serials, self.numbers = int(state[0][3]), [int(line[2]) for line in state if line[0] == b"number"]
-            for serial, client, _, deadline, action in (map(int, line[1:]) for line in state if line[0] == b"timer"):
-                self.pending[serial] = deadline, serial, client, action
+        self.shard, self.wrong, self.lines = shard, collections.Counter(), collections.defaultdict(list)  # of each client
+        self.latest, self.expired, self.most = (), 0, 0  # bytes of requests in a record
+        super().__init__(place, shard)
 
-    def step(self):
-        """Follows the next record. Whether there was one; None if the log didn't say."""
-        with contextlib.suppress(Again):
-            if record := self.log.read(self.record + 1):
-                self.follow(record)
-            return bool(record)
-        return None
+    def begins(self, *genesis, state=b""):
+        self.capacity, self.serials, self.numbers, self.pending = genesis[2], 0, [0] * 64, {}
+        for word, *values in map(bytes.split, state.splitlines()):
+            if word == b"timer":
+                serial, client, _, deadline, action = map(int, values)
+                self.pending[serial] = deadline, client, serial, action
+            elif word == b"number":
+                self.numbers[int(values[0])] = int(values[1])
+            elif values[0] == b"open":
+                self.serials = int(values[2])
 
-    def follow(self, record):
+    def judges(self, record):
         try:
-            step = parsed(record, self.chain)
+            self.follow(record)
         except Differs:
             self.wrong["breaks in the chain"] += 1
-            step = parsed(record)
-        self.record, self.chain = self.record + 1, step.chain
-        if step.genesis:
-            self.capacity = step.genesis[2]
-            return
-        self.now, self.most = max(step.tick, self.now), max(self.most, sum(map(len, step.requests)))
-        self.expires([tuple(map(int, line.split()[1:])) for line in step.expired])
-        answers = [self.answer(word, *map(int, values)) for word, *values in (line.decode().split() for line in step.requests)]
-        self.wrong["other answers"] += answers != [line.decode()[:-1] for line in step.answers]
-        for line in [line.decode()[:-1] for line in step.expired + step.answers]:
+            self.chain = None  # whatever it is
+            self.follow(record)
+
+    def plays(self, step):
+        self.wrong["ticks that fall"] += step.tick < self.now
+        self.now, self.most = step.tick, max(self.most, sum(map(len, step.requests)))
+        expired, answers = ([line.decode()[:-1] for line in lines] for lines in (step.expired, step.answers))
+        self.expires([tuple(map(int, line.split()[1:])) for line in expired])
+        wanted = [self.answer(word, *map(int, values)) for word, *values in (line.decode().split() for line in step.requests)]
+        self.wrong["other answers"] += answers != wanted
+        for line in expired + answers:
             word, *values = line.split()
             if values[-1] not in ("repeated", "ahead"):
                 self.lines[int(values[word == "expired"])].append(line)
 
     def expires(self, said):
         """The headline: each timer once, not before its deadline, in order. What a record has no room for is in the next one."""
-        due = sorted(timer for timer in self.pending.values() if timer[0] <= self.now)
-        for timer in due:
-            del self.pending[timer[1]]
-        self.owed += due
-        self.expired += len(due)
-        left = set(self.owed)
-        for tick, client, serial, action in said:
-            self.wrong["early"] += serial in self.pending
-            self.wrong["doubled"] += serial not in self.pending and (tick, serial, client, action) not in left
+        self.expired += len(said)
+        for timer in said:
+            tick, _, serial, _ = timer
+            self.wrong["early"] += tick > self.now
+            self.wrong["doubled"] += self.pending.pop(serial, None) != timer  # it was handed out before, or never was
             self.wrong["out of order"] += (tick, serial) <= self.latest
             self.latest = tick, serial
-            left.discard((tick, serial, client, action))
-        self.owed = sorted(left)
         if len(said) < EXPIRED_MOST:
-            self.wrong["lost"] += len(self.owed)
-            self.owed = []
+            left = [serial for serial, (deadline, *_) in self.pending.items() if deadline <= self.now]
+            self.wrong["lost"] += len([self.pending.pop(serial) for serial in left])
 
     def answer(self, word, client, number, *rest):
         refused, serial, (interval, action) = f"refused {client} {number} ", rest[0], (rest[-2:] if word != "stop" else (1, 0))
@@ -123,7 +114,7 @@ class Model:
         if number != self.numbers[client] + 1:
             return refused + ("ahead" if number > self.numbers[client] else "repeated")
         self.numbers[client] = number
-        if word != "start" and (serial not in self.pending or self.pending[serial][2] != client):
+        if word != "start" and (serial not in self.pending or self.pending[serial][1] != client):
             return refused + "no-such"
         if word != "stop" and (interval == 0 or self.now + interval > LAST):
             return refused + ("too-late" if interval else "zero-interval")
@@ -134,13 +125,18 @@ class Model:
         if word == "stop":
             return f"stopped {client} {number} {serial}"
         self.serials += 1
-        self.pending[self.serials] = self.now + interval, self.serials, client, action
+        self.pending[self.serials] = self.now + interval, client, self.serials, action
         return f"{word}ed {client} {number}{f' {serial}' * (word == 'restart')} {self.serials} {self.now + interval}"
 
     def judged(self, loads=()):
-        """What is wrong, now that these clients have ended: also whether each saw what the log says."""
-        while self.step() is not False:
-            pass
+        """What is wrong by the end of the log, once these clients have ended: also whether each saw what the log says."""
+        end = None
+        while end is None or self.last < end:
+            if record := self.log.wait(self.last + 1, 0.1):
+                self.judges(record)
+            elif not any(load.is_alive() for load in loads):
+                with contextlib.suppress(Again):
+                    end = self.log.last()
         for load in loads:
             self.wrong[f"client that is {load.said or 'stuck'}"] += load.said != "done"
             self.wrong["requests without one answer"] += abs(load.asked - load.answers)

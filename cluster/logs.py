@@ -45,10 +45,21 @@ class Log:
     def wait(self, at, seconds):
         """Reads a record, and waits for it: None if it doesn't come in time. What an engine would report by itself is lost with its node."""
         end, pause = time.monotonic() + seconds, 0.002
-        while (record := self.read(at)) is None and (left := end - time.monotonic()) > 0:
+        while True:
+            with contextlib.suppress(Again):
+                if (record := self.read(at)) is not None:
+                    return record
+            if (left := end - time.monotonic()) <= 0:
+                return None
             time.sleep(min(pause, left))
             pause = min(2 * pause, 0.05)
-        return record
+
+    def insist(self, last, record):
+        """Appends, until it is known whether this record, of which there is but one, stands there."""
+        while True:
+            with contextlib.suppress(Again):
+                return self.append(last, record) or self.read(last + 1) == record
+            time.sleep(0.02)
 
     def cut(self, upto):
         """But never the last record, which says the next one's number."""
@@ -82,7 +93,8 @@ class Etcd(Log):
     cut off from the others gives no answer."""
 
     def __init__(self, where, name):
-        self.http, self.name = Http(where.split(",")), name
+        self.urls, self.name = where.split(","), name
+        self.http = Http(self.urls)
 
     def span(self, first, end=2**64 - 1):
         keys = (base64.b64encode(f"timers/{self.name}/{number:016x}".encode()).decode() for number in (first, end))
@@ -110,6 +122,15 @@ class Etcd(Log):
 
     def delete(self, upto):
         self.http.ask("/v3/kv/deleterange", self.span(0, upto + 1))
+
+    def leader(self):
+        """Which of the servers it is."""
+        for i, url in enumerate(self.urls):
+            with contextlib.suppress(Again):
+                said = Http([url]).ask("/v3/maintenance/status", {"": 0})
+                if said.get("leader") == said["header"]["member_id"]:
+                    return i
+        raise Again("no leader")
 
 
 class Sql(Log):
@@ -234,15 +255,19 @@ class Nats(Log):
             raise Again(f"nats: {status or said['error']}")
         return error, said
 
-    def state(self):
-        return self.ask(f"$JS.API.STREAM.INFO.{self.stream}", b"")[1]["state"]
+    def info(self):
+        return self.ask(f"$JS.API.STREAM.INFO.{self.stream}", b"")[1]
+
+    def leader(self):
+        """The number at the end of its name."""
+        return int(self.info()["cluster"].get("leader", "n0")[-1])
 
     def last(self):
-        return self.state()["last_seq"]
+        return self.info()["state"]["last_seq"]
 
     def fetch(self, at):
         error, said = self.ask(f"$JS.API.STREAM.MSG.GET.{self.stream}", {"seq": at})
-        if error and at < self.state()["first_seq"]:
+        if error and at < self.info()["state"]["first_seq"]:
             raise Cut
         return [] if error else [(at, base64.b64decode(said["message"].get("data", "")))]
 

@@ -39,16 +39,34 @@ def parsed(record, chain=None):
     return Step(own, None, tick, lines[:requests], lines[requests:requests + expired], lines[requests + expired:])
 
 
-class Shard:
-    """What the records of a log come to: its child is in the state after the record `last`."""
+class Follower:
+    """Follows the records of a log, from the latest snapshot on: `last` is the record it has come to."""
+
+    def __init__(self, place, shard):
+        self.log, self.snapshots = (open_log(place, f"{log}-{shard}") for log in ("steps", "snapshots"))
+        self.last, self.chain, self.now = 0, NO_CHAIN, 0
+        if text := snapshot(self.snapshots):
+            after, _, state = text.partition(b"\n")
+            record, self.chain, *genesis = after.split()[1:]
+            self.last, self.now = int(record), int(state.split(None, 3)[2])
+            self.begins(*map(int, genesis), state=state)
+
+    def follow(self, record):
+        """The one after the last one."""
+        step = parsed(record, self.chain)
+        self.last, self.chain = self.last + 1, step.chain
+        if step.genesis:
+            self.begins(*step.genesis)
+        else:
+            self.plays(step)
+
+
+class Shard(Follower):
+    """What the records come to: its child is in the state after the last one."""
 
     def __init__(self, place, shard, program, scheme="hier"):
-        self.log, self.snapshots = (open_log(place, f"{log}-{shard}") for log in ("steps", "snapshots"))
-        self.command = [program, "serve", "--wakeups", "--scheme", scheme]
-        self.last, self.chain, self.now, self.wakeup, self.owed = 0, NO_CHAIN, 0, None, []
-        if text := snapshot(self.snapshots):
-            self.last, self.chain, genesis, self.now, state = begun(text)
-            self.begins(*genesis, state=state)
+        self.command, self.wakeup, self.owed = [program, "serve", "--wakeups", "--scheme", scheme], None, []
+        super().__init__(place, shard)
 
     def begins(self, *genesis, state=b""):
         """Starts the child, in this state."""
@@ -80,12 +98,8 @@ class Shard:
         self.owed += self.play(b"at %d\n" % tick)
         self.now = tick
 
-    def follow(self, record):
-        """Plays the record after the last one, and compares its answers with the child's."""
-        step = parsed(record, self.chain)
-        self.last, self.chain = self.last + 1, step.chain
-        if step.genesis:
-            return self.begins(*step.genesis)
+    def plays(self, step):
+        """Compares its answers with the child's."""
         if step.tick < self.now:
             raise Differs("its tick falls")
         self.advance(step.tick)
@@ -115,11 +129,13 @@ def snapshot(log, most=None):
     return b""
 
 
-def begun(text):
-    """What a snapshot begins with: its record, CHAIN, genesis and tick, and the state itself."""
-    after, _, state = text.partition(b"\n")
-    record, chain, *genesis = after.split()[1:]
-    return int(record), chain, tuple(map(int, genesis)), int(state.split(None, 3)[2]), state
+def keep_snapshot(shard, lines, before):
+    """Appends its parts in a row, and cuts off what it stands for."""
+    parts = [b"".join(lines[i:i + 4000]) for i in range(0, len(lines), 4000)]
+    last = shard.snapshots.last()
+    if all(shard.snapshots.insist(last + i, b"part %d %d\n%b" % (i, len(parts), part)) for i, part in enumerate(parts)):
+        shard.log.cut(before)
+        shard.snapshots.cut(last)
 
 
 def said_by(address):

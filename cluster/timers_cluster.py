@@ -1,32 +1,29 @@
 """Clients of a cluster of timers, over libtimers_cluster.so. client.h says what each call does."""
 import collections
 import ctypes
-import os
+import pathlib
 
 NOTHING, ANSWER, FOREIGN, EXPIRED, CUT, WRONG = range(6)
 Place = collections.namedtuple("Place", "record line number chain")
 Line = collections.namedtuple("Line", "said text request place")
 
-_lib = ctypes.CDLL(os.path.join(os.path.dirname(os.path.abspath(__file__)), "build", "libtimers_cluster.so"))
-_u64, _text, _at = ctypes.c_uint64, ctypes.c_char_p, ctypes.c_void_p
-
-
-class _Place(ctypes.Structure):
-    _fields_ = [(name, _u64) for name in Place._fields]
+_U64, _TEXT, _AT = ctypes.c_uint64, ctypes.c_char_p, ctypes.c_void_p
+_PLACE = _U64 * len(Place._fields)
 
 
 class _Line(ctypes.Structure):
-    _fields_ = [("text", _text), ("request", _u64), ("place", _Place)]
+    _fields_ = [("text", _TEXT), ("request", _U64), ("place", _PLACE)]
 
 
+_lib = ctypes.CDLL(str(pathlib.Path(__file__).resolve().parent / "build" / "libtimers_cluster.so"))
 for _name, _returns, *_takes in [
-    ("open", _at, _text, _text, _u64, ctypes.POINTER(_Place), ctypes.c_size_t), ("close", None, _at),
-    ("start", _u64, _at, _u64, _u64), ("stop", _u64, _at, _u64), ("restart", _u64, _at, _u64, _u64, _u64),
-    ("waiting", ctypes.c_size_t, _at), ("next", ctypes.c_int, _at, ctypes.c_int64, ctypes.POINTER(_Line)),
+    ("shard", _U64, _TEXT, _U64), ("client_open", _AT, _TEXT, _TEXT, _U64, ctypes.POINTER(_PLACE), ctypes.c_size_t),
+    ("client_close", None, _AT), ("client_waiting", ctypes.c_size_t, _AT), ("client_start", _U64, _AT, _U64, _U64),
+    ("client_stop", _U64, _AT, _U64), ("client_restart", _U64, _AT, _U64, _U64, _U64),
+    ("client_next", ctypes.c_int, _AT, ctypes.c_int64, ctypes.POINTER(_Line)),
 ]:
-    _call = getattr(_lib, f"timers_client_{_name}")
+    _call = getattr(_lib, f"timers_{_name}")
     _call.restype, _call.argtypes = _returns, _takes
-_lib.timers_shard.restype, _lib.timers_shard.argtypes = _u64, [_text, _u64]
 
 
 def shard_of(key, shards):
@@ -37,8 +34,7 @@ class Client:
     """A client of one shard. `place` is that of the last line that was acted on, or None."""
 
     def __init__(self, workers, shard, client, place=None, window=1000):
-        at = ctypes.byref(_Place(*place)) if place else None
-        self._at, self._line = _lib.timers_client_open(workers.encode(), shard.encode(), client, at, window), _Line()
+        self._at = _lib.timers_client_open(workers.encode(), shard.encode(), client, _PLACE(*place) if place else None, window)
         if not self._at:
             raise ValueError(f"no addresses: {workers}")
 
@@ -55,11 +51,9 @@ class Client:
         return _lib.timers_client_waiting(self._at)
 
     def next(self, seconds):
-        said, line = _lib.timers_client_next(self._at, int(1000 * seconds), self._line), self._line
-        if not line.text:
-            return Line(said, "", 0, None)
-        place = Place(*(getattr(line.place, name) for name in Place._fields))
-        return Line(said, line.text.decode(), line.request, place)
+        line = _Line()
+        said = _lib.timers_client_next(self._at, int(1000 * seconds), line)
+        return Line(said, line.text.decode(), line.request, Place(*line.place)) if line.text else Line(said, "", 0, None)
 
     def close(self):
         _lib.timers_client_close(self._at)

@@ -16,8 +16,8 @@ from logs import Again, Cut, Refused, open_log
 from shard import EXPIRED_MOST, NO_CHAIN, Differs, Shard, parsed, said_by, sealed, snapshot
 
 OPTIONS = {"lease": 3000, "bound": 100, "tick": 10, "capacity": 1 << 20, "clock": 0, "fence": 1, "duel": 0}
-ASKED_MOST, UNREAD_MOST = 100000, 1 << 20  # bytes: of requests for which a record has room, and of what a client doesn't read
-LINE_MOST, RECENT = 108, 64
+ASKED_MOST, LINE_MOST = 100000, 108  # bytes: of requests for which a record has room, and of one
+RECENT = 64  # records, which no client has to wait for
 NUMBER = rb"(?: (?:0|[1-9]\d{0,18}))"
 REQUESTS = re.compile(rb"(?:start%b{4}\n|stop%b{3}\n|restart%b{5}\n)*" % (NUMBER, NUMBER, NUMBER))
 
@@ -54,9 +54,8 @@ class Worker(Shard):
         self.options, self.lease, self.shard, self.written = options, options["lease"] / 1000, shard, 0
         self.name, (self.address, *self.others) = f"{name}-{os.urandom(4).hex()}", addresses.split(",")
         super().__init__(place, shard, program)
-        self.reader, self.heard, self.working = open_log(place, f"steps-{shard}"), elapsed(), False
-        self.shown, self.recent, self.asked = {}, {}, []  # who knows all up to the last record, by clients; what they asked since
-        self.came, self.stepping, self.reading = asyncio.Event(), asyncio.Lock(), asyncio.Lock()
+        self.reader, self.heard, self.working = open_log(place, f"steps-{shard}"), elapsed(), False  # one of all connections
+        self.clients, self.recent, self.asked = {}, {}, []  # connections by numbers; what they are told; what they asked for since
 
     def wall(self):
         return int(time.time() * 1000) + self.options["clock"]
@@ -72,18 +71,18 @@ class Worker(Shard):
         host, port = self.address.rsplit(":", 1)
         await asyncio.start_server(self.serve, host, int(port))
         while True:
-            with contextlib.suppress(Again):
-                while record := await asyncio.to_thread(self.log.wait, self.last + 1, 0.03):
-                    self.follow(record)
-                    self.heard = elapsed()
-                if self.options["duel"]:
-                    return
+            while record := await asyncio.to_thread(self.log.wait, self.last + 1, 0.03):
+                self.follow(record)
+                self.heard = elapsed()
+            if self.options["duel"]:
+                return
             if elapsed() - self.heard >= self.lease:
                 if not await asyncio.to_thread(self.is_off):
                     return
                 self.heard = elapsed()
 
     async def work(self):
+        self.came, self.appended, self.reading = asyncio.Event(), asyncio.Event(), asyncio.Lock()
         await self.follow_until_it_is_free()
         apart = self.wall() - 1000 * elapsed()
         if not self.last:
@@ -101,10 +100,9 @@ class Worker(Shard):
                 raise GivesUp("our clock jumped")
             renews = elapsed() - self.heard >= self.lease / 4
             if self.asked or renews or (self.wakeup is not None and self.tick() >= self.wakeup):
-                async with self.stepping:
-                    asked, self.asked = self.asked, []
-                    self.came.clear()
-                    await self.step(b"".join(lines for client, writer, lines in asked if self.shown.get(client) is writer), renews)
+                asked, self.asked = b"".join(self.asked), []
+                self.came.clear()
+                await self.step(asked, renews)
 
     def tick(self):
         return max((self.wall() - self.epoch) // self.tick_ms, self.now)
@@ -126,56 +124,16 @@ class Worker(Shard):
         record = sealed(self.chain, body)
         await asyncio.to_thread(self.insist, record)
         self.written, self.heard, self.last, self.chain = self.written + 1, elapsed(), self.last + 1, record[:16]
-        _, said = self.recent[self.last] = told(self.last, record)
+        self.recent[self.last] = told(self.last, record)
         self.recent.pop(self.last - RECENT, None)
-        for client, writer in [*self.shown.items()]:
-            self.tell(writer, said[client])
+        self.appended.set()
+        self.appended = asyncio.Event()
 
     def insist(self, record):
-        """If it isn't known whether the log has accepted a record, what stands in its place says so."""
-        accepted = None
-        while not accepted:
-            try:
-                accepted = self.log.append(self.last, record)
-            except Again:
-                with contextlib.suppress(Again):
-                    there = self.log.wait(self.last + 1, 0.02)
-                    accepted = there and there == record
-            if accepted is False and not self.options["fence"]:
-                self.last, accepted = self.log.last(), None  # a test: what comes of it
-            if accepted is False:
+        while not self.log.insist(self.last, record):
+            if self.options["fence"]:
                 raise GivesUp(f"fenced after record {self.last}")
-
-    def tell(self, writer, lines=()):
-        """Who knows all before: these, and that this was all. Who doesn't read it is left, and comes again."""
-        writer.write(b"".join(line for _, line in lines) + b"here %d %s\n" % (self.last, self.chain))
-        if writer.transport.get_write_buffer_size() > UNREAD_MOST:
-            writer.transport.abort()
-
-    async def show(self, writer, client, record, line, chain):
-        """What a client that goes on after this line is told. All of it stands in the log. After it comes what `append` tells, and whoever
-        was this client before is told no more."""
-        at = record
-        if not record:
-            record, chain, number = await self.read(self.latest, client)
-            at, line = record + 1, 0
-            writer.write(b"from %d %s %d\n" % (record, chain, number))
-        if record > self.last:  # we were asleep, unless the log itself has no such record
-            raise Ends("another past") if await self.read(self.reader.last) < record else OSError
-        while self.shown.get(client) is not writer:
-            while at <= self.last:
-                own, said = self.recent.get(at) or told(at, await self.read(self.reader.read, at))
-                if at == record and own != chain:
-                    raise Ends("another past")
-                writer.write(b"".join(text for i, text in said[client] if i > line))
-                await writer.drain()
-                at, line = at + 1, 0
-            async with self.stepping:
-                if at > self.last:
-                    if client in self.shown:
-                        self.shown[client].transport.abort()
-                    self.shown[client] = writer
-                    self.tell(writer)
+            self.last = self.log.last()  # a test: what comes of it
 
     async def read(self, call, *given):
         """Of logs that all connections share."""
@@ -190,48 +148,75 @@ class Worker(Shard):
 
     async def serve(self, reader, writer):
         """A client says which shard it means, which client it is, and after which line of which record it goes on: 0 is after the latest
-        snapshot. It sends no request before it is told that that was all. Others ask for our clock."""
-        with contextlib.suppress(OSError, ValueError, Again):
+        snapshot. Whoever was this client before is told no more. Others ask for our clock."""
+        try:
             said = (await reader.readline()).split()
             if said == [b"clock"]:
                 writer.write(f"{'works' if self.working else 'follows'} {self.name} {self.last} {self.wall()}\n".encode())
             elif self.working:
-                await self.hear(reader, writer, *said)
-        writer.close()
-
-    async def hear(self, reader, writer, shard, client, record, line, chain):
-        client = int(client)
-        try:
-            if shard.decode() != self.shard:
-                raise Ends("another shard")
-            await self.show(writer, client, int(record), int(line), chain)
+                shard, *numbers, chain = said
+                client, record, line = map(int, numbers)
+                if shard.decode() != self.shard:
+                    raise Ends("another shard")
+                if before := self.clients.get(client):
+                    before.transport.abort()
+                self.clients[client] = writer
+                await asyncio.gather(self.hear(reader, writer, client), self.show(writer, client, record, line, chain))
         except (Ends, Cut) as why:
             writer.write(b"%s\n" % (str(why) or "cut").encode())
-            return
+        except (OSError, ValueError, Again):
+            pass
+        finally:
+            writer.close()
+
+    async def show(self, writer, client, record, line, chain):
+        """Tells a client what stands in the log and concerns it, until it is gone. If it doesn't read, this waits."""
+        at = record
+        if not record:
+            record, chain, number = await self.read(self.latest, client)
+            at, line = record + 1, 0
+            writer.write(b"from %d %s %d\n" % (record, chain, number))
+        if record > self.last:  # we were asleep, unless the log has no such record: our next append is its last one
+            await self.appended.wait()
+        if record > self.last:
+            raise Ends("another past")
+        while self.clients.get(client) is writer:
+            while at <= self.last:
+                own, said = self.recent.get(at) or told(at, await self.read(self.reader.wait, at, 2))
+                if at == record and own != chain:
+                    raise Ends("another past")
+                writer.write(b"".join(text for i, text in said[client] if i > line))
+                await writer.drain()
+                at, line = at + 1, 0
+            writer.write(b"here %d %s\n" % (self.last, self.chain))
+            await self.appended.wait()
+
+    async def hear(self, reader, writer, client):
+        """Takes its requests, as fast as they are played, and leaves whoever sends something else."""
         rest = b""
-        while self.shown.get(client) is writer and (got := await reader.read(1 << 14)):
-            lines, end, rest = (rest + got).rpartition(b"\n")
-            if not are_requests(lines + end) or len(rest) > LINE_MOST:
-                break
-            self.asked.append((client, writer, lines + end))
-            self.came.set()
-            while sum(len(lines) for *_, lines in self.asked) > ASKED_MOST:
-                await asyncio.sleep(0.001)
-        if self.shown.get(client) is writer:
-            del self.shown[client]
-
-
-async def work(*given, options):
-    await Worker(*given, OPTIONS | {key: int(value) for key, value in (option.split("=") for option in options)}).work()
+        with contextlib.suppress(OSError):
+            while self.clients.get(client) is writer and (got := await reader.read(1 << 14)):
+                lines, end, rest = (rest + got).rpartition(b"\n")
+                if not are_requests(lines + end) or len(rest) > LINE_MOST:
+                    break
+                self.asked.append(lines + end)
+                self.came.set()
+                while sum(map(len, self.asked)) > ASKED_MOST:
+                    await asyncio.sleep(0.001)
+        if self.clients.get(client) is writer:
+            del self.clients[client]
+        writer.close()
 
 
 def main():
-    place, shard, name, addresses, program, *options = sys.argv[1:]
+    place, shard, name, addresses, program, *given = sys.argv[1:]
+    options = OPTIONS | {key: int(value) for key, value in (option.split("=") for option in given)}
     try:
-        asyncio.run(work(place, shard, name, addresses, program, options=options))
+        asyncio.run(Worker(place, shard, name, addresses, program, options).work())
     except (Refused, GivesUp, Cut, Again, OSError, Differs) as why:
         print(f"{name}: {type(why).__name__} {why}", file=sys.stderr, flush=True)
         os._exit({Refused: 2, Differs: 9}.get(type(why), 1))
 
 
-main()
+if __name__ == "__main__":
+    main()
