@@ -243,7 +243,9 @@ EOT
     grep -x '3000: tea' "$work/cmake_cpp/out"
 }
 has_licences() {
-    for name in generated/NOTICE LICENSE-MIT LICENSE-APACHE; do cmp "$name" "$1/$(basename "$name")"; done
+    cmp generated/NOTICE "$1/NOTICE"
+    cmp LICENSES/MIT.txt "$1/LICENSE-MIT"
+    cmp LICENSES/Apache-2.0.txt "$1/LICENSE-APACHE"
 }
 # An installation that CMake's find_package finds, of this version and of no later one.
 cmake_finds() {

@@ -43,11 +43,13 @@ link lib/libtimers.so libtimers.so.${version%%.*}
 644 share/zsh/site-functions/_timers tools/install/completions/_timers
 644 share/fish/vendor_completions.d/timers.fish tools/install/completions/timers.fish
 644 share/doc/timers/NOTICE generated/NOTICE
+644 share/doc/timers/LICENSE-MIT LICENSES/MIT.txt
+644 share/doc/timers/LICENSE-APACHE LICENSES/Apache-2.0.txt
 644 share/timers/c/timers.c generated/timers.c
 644 share/timers/c/timers.h include/timers.h
 644 share/timers/c/timers_desk.h include/timers_desk.h
 EOT
-    for path in CHANGELOG.md LICENSE-APACHE LICENSE-MIT docs/{embedding,formats,journal,platforms,porting,server,versions,walkthroughs,wheels}.md; do
+    for path in CHANGELOG.md docs/{embedding,formats,journal,platforms,porting,server,versions,walkthroughs,wheels}.md; do
         echo "644 share/doc/timers/$path $path"
     done
     for path in include/*.h; do

@@ -46,12 +46,17 @@ def see_refused(program, folder):
     for length in 2, 9, 17, 18, 40, 4000:
         refused(f"a text of {length} bytes", "no journal", file=diary[:length])
     refused("a group of other text", "no journal", file=file_of([b"Dear diary\n"]))
-    refused("another version", ".*", file=file_of([preamble().replace(b" 1 ", b" 2 ", 1)]))
+    refused("another version", "a journal of another version", file=file_of([preamble().replace(b" 1 ", b" 2 ", 1)]))
+    for counts_of in b"00 0", b"0 +1", b"0":
+        wrong = preamble().replace(b"begins 0 0", b"begins " + counts_of, 1)
+        refused(f"a beginning with {counts_of}", "a journal with a wrong beginning", file=file_of([wrong]))
+    refused("a beginning without its options' end", "a journal of other options: .*", file=file_of([preamble().split(b"\n")[0]]))
     for options in [["--clients", "3"], [*TWO, "--capacity", "1025"], [*TWO, "--scheme", "plain"], [*TWO, "--slots", "8"]]:
         refused(f"other options: {options}", "a journal of other options: hier 2 1024 256", *options)
     refused("a state that is cut off", ".*", file=file_of([preamble()[:-4]]))
     refused("a state that can't be", ".*", file=file_of([preamble(state="state open 0 0\nnumber 0 0\nnumber 2 0\nstate end 0\n")]))
-    refused("more answers seen than it has", ".*", *TWO, "--seen", "99")
+    answers = len(stages_of(program)[0][-2][0])
+    refused("more answers seen than it has", ".*", *TWO, "--seen", str(answers + 1))
     later = file_of([preamble(lines=5, answers=4), BURSTS[0]])
     refused("fewer answers seen than are before its beginning", ".*", *TWO, "--seen", "3", file=later)
     state = os.path.join(scene.folder, "state")

@@ -117,18 +117,10 @@ serves() {
     [ "$status" -ne 77 ] || skip "no addresses for 4.29 billion timers"
     [ "$status" -eq 0 ]
 }
-@test "all memory comes from an allocator that was set, and goes back" {
-    build allocator.c $wrap
-    runs resizes
-    runs copies
-}
-@test "that malloc was called is noticed" { build allocator.c -DFORGETS $wrap && notices resizes; }
-@test "calls with a const pointer write nothing" { build reads_only.c $wrap && runs; }
-@test "a call that writes is noticed" { build reads_only.c -DWRITES $wrap && notices; }
 @test "timers take the memory that the header says" { build memory.c $wrap && runs; }
 @test "callers of the library are found from inside it" { build backtrace.c $wraps && runs; }
 
-@test "the desk's edges are as the header says" { build desk_edges.c && runs; }
+@test "a desk's room is enough for what a client keeps, and with one word less it isn't" { build desk_edges.c && runs; }
 @test "random calls to a desk, its lines freed and opened again, agree with a model over each table" { agrees desk; }
 @test "a desk in C++ and its lines are moved, and throw what is refused" { build desk_agree.cpp && runs; }
 @test "threads beside a desk get all their words, and the end of them" {

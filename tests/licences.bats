@@ -24,9 +24,7 @@ setup_file() {
     fi
 }
 
-@test "the licences that packages have are those of LICENSES" {
-    cmp LICENSE-MIT LICENSES/MIT.txt
-    cmp LICENSE-APACHE LICENSES/Apache-2.0.txt
+@test "the licences in NOTICE are those of LICENSES" {
     squeezed() { tr -s ' \n' ' ' < "$1"; }
     for name in BSD-3-Clause Unicode-3.0; do
         [[ $(squeezed generated/NOTICE) == *"$(squeezed "LICENSES/$name.txt")"* ]]

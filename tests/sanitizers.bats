@@ -41,9 +41,6 @@ models() {
         runs $kind 10000 3
         runs --copies $kind 10000 4
     done
-    build allocator.c $wrap $sanitize
-    runs resizes
-    runs copies
     build loop_model.c $sanitize
     runs 30000 2
     build desk_edges.c $sanitize
@@ -73,8 +70,6 @@ threads() {
     build desk_bell.c -Wl,--wrap=write $sanitize
     runs pass 5000
     runs load 5000
-    build reads_only.c $wrap $sanitize
-    runs
 }
 # The examples with threads.
 servers() {

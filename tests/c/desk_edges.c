@@ -1,58 +1,6 @@
-/* What random calls of a desk don't meet (tests/driver): the ends of each range of a configuration, its tables, and how much
- * room a client needs. */
+/* How much room a client needs, however seldom it reads. */
 #include "timers_desk.h"
 #include "check.h"
-
-static void configurations(void)
-{
-	struct timers_desk d = TIMERS_DESK_INIT;
-	struct timers_line l[TIMERS_DESK_CLIENTS + 1] = { TIMERS_LINE_INIT };
-	struct timers_desk_config good = { sizeof(struct timers_desk_config), 5, 100, 8, 4, TIMERS_WIDE }, c;
-	CHECK(timers_desk_new(&d, l, 0, &good) == TIMERS_DESK_OUT_OF_RANGE && timers_desk_new(&d, l, TIMERS_DESK_CLIENTS + 1, &good) == TIMERS_DESK_OUT_OF_RANGE);
-	c = good, c.size--; CHECK(timers_desk_new(&d, l, 1, &c) == TIMERS_DESK_OUT_OF_RANGE);
-	c = good, c.size = 0; CHECK(timers_desk_new(&d, l, 1, &c) == TIMERS_DESK_OUT_OF_RANGE && d.mark == 0 && l[0].mark == 0);
-	c = good, c.capacity = 0; CHECK(timers_desk_new(&d, l, 1, &c) == TIMERS_DESK_OUT_OF_RANGE);
-	c = good, c.capacity = 1048577; CHECK(timers_desk_new(&d, l, 1, &c) == TIMERS_DESK_OUT_OF_RANGE);
-	c = good, c.first_tick = TIMERS_LAST + 1; CHECK(timers_desk_new(&d, l, 1, &c) == TIMERS_DESK_OUT_OF_RANGE);
-	c = good, c.room = 1; CHECK(timers_desk_new(&d, l, 1, &c) == TIMERS_DESK_OUT_OF_RANGE);
-	c = good, c.line = 0; CHECK(timers_desk_new(&d, l, 1, &c) == TIMERS_DESK_OUT_OF_RANGE);
-	c = good, c.line = 65537; CHECK(timers_desk_new(&d, l, 1, &c) == TIMERS_DESK_OUT_OF_RANGE);
-	CHECK(timers_desk_new(&d, l, TIMERS_DESK_CLIENTS, &good) == TIMERS_DESK_OK && timers_desk_now(&d) == 5);
-	timers_desk_free(&d);
-	for (int i = 0; i < TIMERS_DESK_CLIENTS; i++)
-		timers_line_free(&l[i]);
-}
-
-/* The table of the configuration: its range, its last tick, and that a program that names none has TIMERS_WIDE. */
-static void tables(void)
-{
-	struct timers_desk d = TIMERS_DESK_INIT;
-	struct timers_line l = TIMERS_LINE_INIT;
-	struct timers_desk_config c = { .size = sizeof(struct timers_desk_config), .first_tick = TIMERS_SMALL_LAST + 1, .capacity = 100, .room = 8, .line = 4 };
-	uint64_t n;
-	CHECK(c.table == TIMERS_WIDE && timers_desk_new(&d, &l, 1, &c) == TIMERS_DESK_OK && timers_desk_now(&d) == TIMERS_SMALL_LAST + 1);
-	timers_desk_free(&d), timers_line_free(&l);
-	c.table = TIMERS_SMALL;
-	CHECK(timers_desk_new(&d, &l, 1, &c) == TIMERS_DESK_OUT_OF_RANGE && d.mark == 0 && l.mark == 0);
-	c.first_tick = TIMERS_SMALL_LAST - 5, c.table = TIMERS_TABLES;
-	CHECK(timers_desk_new(&d, &l, 1, &c) == TIMERS_DESK_OUT_OF_RANGE);
-	c.table = UINT32_MAX;
-	CHECK(timers_desk_new(&d, &l, 1, &c) == TIMERS_DESK_OUT_OF_RANGE && d.mark == 0 && l.mark == 0);
-	for (c.table = 0; c.table < TIMERS_TABLES; c.table++) {
-		c.first_tick = TIMERS_LAST_OF(c.table);
-		CHECK(timers_desk_new(&d, &l, 1, &c) == TIMERS_DESK_OK && timers_desk_now(&d) == c.first_tick);
-		timers_desk_free(&d), timers_line_free(&l);
-		c.first_tick++;
-		CHECK(timers_desk_new(&d, &l, 1, &c) == TIMERS_DESK_OUT_OF_RANGE && d.mark == 0 && l.mark == 0);
-	}
-	/* a wake-up may come before the first deadline, at which the timer moves to a lower wheel */
-	c.first_tick = 0, c.table = TIMERS_WIDE;
-	CHECK(timers_desk_new(&d, &l, 1, &c) == TIMERS_DESK_OK && timers_desk_next(&d) == TIMERS_NEVER);
-	CHECK(timers_line_start(&l, 4161, 1, &n) == TIMERS_DESK_OK && timers_line_start(&l, 9000, 2, &n) == TIMERS_DESK_OK);
-	CHECK(timers_desk_serve_all(&d, 9) == TIMERS_DESK_OK);
-	CHECK(timers_desk_wakeup(&d) == 4096 && timers_desk_next(&d) == 4161);
-	timers_desk_free(&d), timers_line_free(&l);
-}
 
 static uint64_t seed = 1;
 
@@ -88,7 +36,7 @@ static void send(struct timers_line *l, struct kept *kept, uint64_t way)
 		kept->requests++, kept->standing++, kept->timers += way > 0;
 }
 
-/* Whether a request has to wait for room, of a client that keeps so many timers and requests, however seldom it reads. */
+/* Whether a request has to wait for room, of a client that keeps so many timers and requests. */
 static bool lacks_room(uint64_t timers, uint64_t requests, uint64_t room)
 {
 	struct timers_desk d = TIMERS_DESK_INIT;
@@ -117,7 +65,7 @@ static bool lacks_room(uint64_t timers, uint64_t requests, uint64_t room)
 }
 
 /* As timers_desk.h says, k + q + 1 is enough. With a word less some client lacks room. */
-static void rooms(void)
+int main(void)
 {
 	bool too_few = false;
 	for (uint64_t timers = 1; timers <= 12; timers++)
@@ -126,13 +74,5 @@ static void rooms(void)
 			too_few = lacks_room(timers, requests, timers + requests) || too_few;
 		}
 	CHECK(too_few);
-}
-
-int main(void)
-{
-	configurations();
-	tables();
-	rooms();
-	puts("ok");
 	return 0;
 }

@@ -31,6 +31,13 @@ static size_t client, line_index;
 static uint64_t spread, most_clients;
 static struct timers_desk_config config;
 
+static const struct client_model *the_client(void)
+{
+	static const struct client_model none;
+
+	return model_has_client(m, client) ? &m->clients[client] : &none;
+}
+
 static uint64_t status_seen(const char *call, enum timers_desk_status status, enum timers_desk_status wanted)
 {
 	WANT(call, status, wanted == TIMERS_DESK_OK && may_allocate && refusals > 0 ? TIMERS_DESK_NO_MEMORY : wanted);
@@ -86,6 +93,18 @@ static void choose_config(uint32_t table)
 	config.room = 2 + below_power(10) + (replays ? config.line : 0);
 }
 
+/* A number with as many bits, or one at the ends of its range. */
+static uint64_t random_end(uint64_t least, uint64_t most, uint64_t bits)
+{
+	const uint64_t beside = below(2);
+
+	switch (below(3)) {
+	case 0: return least - beside;
+	case 1: return most + beside;
+	default: return below_power(bits);
+	}
+}
+
 static void make_new(void)
 {
 	struct timers_desk_config asked = config;
@@ -93,12 +112,12 @@ static void make_new(void)
 	uint64_t status;
 
 	switch (replays ? 48 : below(48)) {
-	case 0: asked.size += below(3) - 1; break;
-	case 1: asked.table = (uint32_t)below(TIMERS_TABLES + 1); break;
-	case 2: asked.first_tick = next_random(); break;
-	case 3: asked.capacity = below_power(25); break;
-	case 4: asked.room = below_power(18); break;
-	case 5: asked.line = below_power(18); break;
+	case 0: asked.size = random_end(asked.size, asked.size, 4); break;
+	case 1: asked.table = (uint32_t)random_end(0, TIMERS_TABLES - 1, 2); break;
+	case 2: asked.first_tick = random_end(0, TIMERS_LAST_OF(asked.table), 64); break;
+	case 3: asked.capacity = random_end(1, 1048576, 25); break;
+	case 4: asked.room = random_end(2, 65536, 18); break;
+	case 5: asked.line = random_end(1, 65536, 18); break;
 	}
 	may_allocate = true;
 	status = status_seen("new", timers_desk_new(d, side->lines, count, &asked), desk_model_new(m, side->line_models, count, &asked));
@@ -120,11 +139,14 @@ static void make_free(void)
 
 static uint64_t make_serve(void)
 {
+	const bool held = the_client()->holds;
 	enum timers_desk_status status;
 
 	may_allocate = model_serve_allocates(m, client);
 	status = timers_desk_serve(d, client);
 	status_seen("serve", status, model_can_serve(m, client));
+	OCCURS("what ran out of memory is served by a later call", held && status == TIMERS_DESK_OK);
+	OCCURS("what ran out of memory is served after a tick", held && status == TIMERS_DESK_OK && m->now > the_client()->held_since);
 	if (status == TIMERS_DESK_OK)
 		model_serve(m, client);
 	if (status == TIMERS_DESK_NO_MEMORY)
@@ -386,8 +408,9 @@ static bool is_read_out(bool so) { return *line_model != NULL && so && (*line_mo
 
 static void make_ended(void)
 {
-	const bool ended = timers_line_ended(line);
+	bool ended;
 
+	READING(ended = timers_line_ended(line));
 	WANT("ended", ended, is_read_out(*line_model != NULL && (*line_model)->ended));
 	TOLD(timers_line_ended, (line_index), (returned(ended)));
 }
@@ -411,31 +434,36 @@ static void make_line_free(void)
 
 #define READ(name, arguments, wanted) \
 	do { \
-		const uint64_t got = timers_desk_##name arguments; \
+		uint64_t got; \
+		READING(got = timers_desk_##name arguments); \
 		WANT(#name, got, wanted); \
 		TOLD(timers_desk_##name, (client), (got)); \
 	} while (0)
 
 static uint64_t first_deadline(void) { return m->length > 0 ? m->pending[0].deadline : TIMERS_NEVER; }
-static const struct client_model *the_client(void)
-{
-	static const struct client_model none;
-
-	return model_has_client(m, client) ? &m->clients[client] : &none;
-}
-
 static void make_now(void) { READ(now, (d), m->open ? m->now : 0); }
 static void make_len(void) { READ(len, (d), m->length); }
 static void make_next(void) { READ(next, (d), first_deadline()); }
 static void make_pending(void) { READ(pending, (d, client), the_client()->pending); }
 static void make_outbox(void) { READ(outbox, (d, client), the_client()->outbox.count); }
-static void make_line_freed(void) { READ(line_freed, (d, client), the_client()->line != NULL && the_client()->line->freed); }
+
+/* It notes what it has found. */
+static void make_line_freed(void)
+{
+	const bool freed = timers_desk_line_freed(d, client);
+
+	WANT("line freed", freed, the_client()->line != NULL && the_client()->line->freed);
+	TOLD(timers_desk_line_freed, (client), (freed));
+}
 
 static void make_wakeup(void)
 {
-	const uint64_t wakeup = timers_desk_wakeup(d), first = first_deadline();
+	const uint64_t first = first_deadline();
+	uint64_t wakeup;
 
+	READING(wakeup = timers_desk_wakeup(d));
 	WANT("wake-up", first == TIMERS_NEVER ? wakeup == first : wakeup > m->now && wakeup <= first, true);
+	OCCURS("wake-ups before the next deadline", wakeup < first);
 	TOLD(timers_desk_wakeup, (client), (wakeup));
 }
 
@@ -664,6 +692,32 @@ static void lack_at_serve(void)
 		serve();
 }
 
+/* The first start of a desk lacks memory, and is held. */
+static void lack_first(void)
+{
+	renew();
+	client = 0;
+	choose_line(side, client);
+	make_start();
+	memory_refuse_next();
+	serve();
+}
+
+/* The row held_request: the next serve takes what is held. */
+static void held_request(void)
+{
+	lack_first();
+	serve_client();
+}
+
+/* The row held_over_tick: so it does after a tick, from which the interval counts. */
+static void held_over_tick(void)
+{
+	lack_first();
+	make_tick();
+	serve_client();
+}
+
 static void look(void)
 {
 	WANT("now", timers_desk_now(d), m->open ? m->now : 0);
@@ -675,7 +729,8 @@ static const struct step STEPS[] = {
 	{ choose, 60, false }, { serve_client, 40, false }, { receive_all, 10, false }, { succeed, 2, false }, { end_client, 1, false },
 	{ move, 1, true }, { spend, 2, true }, { crowd, 1, false }, { make_new, 1, true }, { make_free, 1, true },
 	{ serve, 20, false }, { make_serve_all, 10, false }, { make_flush, 10, false }, { make_flush_all, 10, false },
-	{ make_tick, 20, false }, { make_advance, 10, false }, { make_close, 2, false }, { lack_at_close, 1, true }, { lack_at_serve, 2, true }, { make_settle, 12, true },
+	{ make_tick, 20, false }, { make_advance, 10, false }, { make_close, 2, false }, { lack_at_close, 1, true },
+	{ lack_at_serve, 2, true }, { held_request, 1, true }, { held_over_tick, 1, true }, { make_settle, 12, true },
 	{ make_end, 6, false }, { make_end_all, 16, true }, { make_stop_pending, 2, false }, { make_open, 2, false },
 	{ make_reserve, 3, false }, { make_now, 2, false }, { make_len, 2, false }, { make_pending, 2, false },
 	{ make_outbox, 2, false }, { make_wakeup, 2, false }, { make_next, 2, false }, { make_line_freed, 2, false },

@@ -287,6 +287,7 @@ void model_serve(struct desk_model *m, size_t client)
 void model_hold(struct desk_model *m, size_t client)
 {
 	m->clients[client].held = take_request(&m->clients[client]);
+	m->clients[client].held_since = m->clients[client].holds ? m->clients[client].held_since : m->now;
 	m->clients[client].holds = true;
 }
 

@@ -45,6 +45,7 @@ struct client_model {
 	size_t pending;
 	bool holds;                              /* a request that has run out of memory */
 	struct request held;
+	uint64_t held_since;                     /* the tick of that */
 };
 
 struct desk_model {

@@ -59,11 +59,11 @@ void make_steps(const struct step *steps, size_t count, uint64_t length, void (*
 	}
 }
 
-/* Of three programs one lacks no memory, one lacks it at random, and one at a single request. */
+/* Of three programs one lacks no memory, one lacks it at random, and one at a single request: at each of the first 24 in turn. */
 static void begin_memory(uint64_t seed)
 {
 	static const uint64_t refusals[] = { 3, 10, 30, 200 };
-	const uint64_t lacks = below(3), one_in = refusals[below(4)], turn = 1 + below(24);
+	const uint64_t number = seed / TIMERS_TABLES, lacks = number % 3, turn = 1 + number / 3 % 24, one_in = refusals[below(4)];
 
 	memory_begin(seed, lacks == 1 && !replays ? one_in : 0, lacks == 2 && !replays ? turn : 0);
 }

@@ -58,6 +58,7 @@ uint64_t memory_hash(void) { return 0; }
 uint64_t memory_hash_at(uint64_t address) { return address & 0; }
 void memory_set(const struct followers *words, uint64_t value) { (void)words, (void)value; }
 void memory_follow(struct followers *words, uint64_t value) { words->count = value & 0; }
+void memory_lock(bool so) { (void)so; }
 #else
 enum { HEAD = 16, FENCE = 16, NEW = 0xa5, FREED = 0x5a, OUTSIDE = 0xfd };
 /* The upper bytes of an address in the stack: an empty vector points to some place there, where nothing is read. */
@@ -132,6 +133,16 @@ static bool map_arena(void)
 {
 	arena = mmap(ARENA_AT, MOST_BYTES, PROT_READ | PROT_WRITE, MAP_PRIVATE | MAP_ANONYMOUS | MAP_NORESERVE, -1, 0);
 	return arena == ARENA_AT;
+}
+
+/* Of one call in eight, since it takes time. */
+void memory_lock(bool so)
+{
+	static unsigned turn;
+
+	turn += so;
+	if (turn % 8 == 0 && mprotect(arena, used, so ? PROT_READ : PROT_READ | PROT_WRITE) != 0)
+		abort();
 }
 
 static bool has(size_t at, uint64_t value)

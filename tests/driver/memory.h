@@ -33,6 +33,10 @@ struct followers {
 void memory_follow(struct followers *words, uint64_t value);
 void memory_set(const struct followers *words, uint64_t value);
 
+/* A call that is given a const pointer. It writes to no block: meanwhile none can be written. */
+#define READING(call) do { memory_lock(true); call; memory_lock(false); } while (0)
+void memory_lock(bool so);
+
 /* How many blocks are held, and how often a byte beside a block was written. */
 uint64_t memory_blocks(void);
 uint64_t memory_overruns(void);

@@ -5,6 +5,7 @@
 #include <timers.h>
 
 #include "driver.h"
+#include "memory.h"
 #include "timers_model.h"
 #include "trace.h"
 
@@ -356,8 +357,9 @@ static void make_look(void)
 	const struct timers_handle handle = random_handle();
 	const size_t index = model_find(m, handle);
 	struct timers_expired out = OLD_TIMER;
-	const enum timers_status status = timers_look(t, handle, &out);
+	enum timers_status status;
 
+	READING(status = timers_look(t, handle, &out));
 	status_seen("look", status, !m->open ? TIMERS_NOT_OPEN : index == m->count ? TIMERS_NOT_PENDING : TIMERS_OK);
 	if (status == TIMERS_OK)
 		want_timer("look", &out, &m->list[index]);
@@ -372,8 +374,9 @@ static void make_each(void)
 	struct timers_handle handle = OLD_HANDLE;
 	struct timers_expired out = OLD_TIMER;
 	uint64_t at = cursor;
-	const bool found = timers_each(t, &at, &handle, is_wanted() ? &out : NONE);
+	bool found;
 
+	READING(found = timers_each(t, &at, &handle, is_wanted() ? &out : NONE));
 	if (found) {
 		const size_t index = model_find(m, handle);
 		WANT("a timer that is found is held", index < m->count, true);
@@ -596,7 +599,8 @@ static void make_expire_batch(void)
 /* A call that only reads, and one that writes to an object, or leaves it as it was. */
 #define READ(name) \
 	do { \
-		const uint64_t got = timers_##name(t); \
+		uint64_t got; \
+		READING(got = timers_##name(t)); \
 		WANT(#name, got, model_##name(m)); \
 		TOLD(timers_##name, (), (got)); \
 	} while (0)
@@ -605,7 +609,8 @@ static void make_expire_batch(void)
 		_Static_assert(sizeof(type) <= 16, "two numbers"); \
 		union { type object; uint64_t numbers[2]; } out = { .numbers = { 71, 72 } }; \
 		const bool wanted = is_wanted(); \
-		const enum timers_status status = timers_##name(t, wanted ? &out.object : NONE); \
+		enum timers_status status; \
+		READING(status = timers_##name(t, wanted ? &out.object : NONE)); \
 		status_seen(#name, status, m->open ? TIMERS_OK : TIMERS_NOT_OPEN); \
 		if (m->open && wanted) \
 			want_##name(m, &out.object); \

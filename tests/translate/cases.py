@@ -119,18 +119,6 @@ declare('void @llvm.memset.p0.i64(ptr, i8, i64, i1)')
 declare('void @llvm.memcpy.p0.p0.i64(ptr, ptr, i64, i1)')
 declare('void @llvm.memmove.p0.p0.i64(ptr, ptr, i64, i1)')
 declare('{ i64, i1 } @llvm.umul.with.overflow.i64(i64, i64)')
-case('frozen_pair', 64, [64, 64], """  %p = call { i64, i1 } @llvm.umul.with.overflow.i64(i64 %a, i64 %b)
-  %f = freeze { i64, i1 } %p
-  %n = extractvalue { i64, i1 } %f, 0
-  %o = extractvalue { i64, i1 } %f, 1
-  %w = zext i1 %o to i64
-  %r = sub i64 %n, %w
-  ret i64 %r""")
-case('constant_pair', 8, [8], """  %p = insertvalue { i8, i8 } { i8 3, i8 poison }, i8 %a, 1
-  %x = extractvalue { i8, i8 } %p, 0
-  %y = extractvalue { i8, i8 } %p, 1
-  %r = sub i8 %x, %y
-  ret i8 %r""")
 declare('i32 @llvm.fshl.i32(i32, i32, i32)')
 for n in (0, 1, 26, 32, 35):
     value(f'llvm_fshl32_{n}', 32, [32, 32], f'call i32 @llvm.fshl.i32(i32 %a, i32 %b, i32 {n})')
@@ -246,13 +234,6 @@ case('backwards', 8, [64, 8], """  %m = alloca [24 x i8], align 8
   ret i8 %r""")
 
 # The order of what reads and writes memory.
-case('store_between', 64, [64, 64], """  %m = alloca i64, align 8
-  store i64 %a, ptr %m, align 8
-  %x = load i64, ptr %m, align 8
-  store i64 %b, ptr %m, align 8
-  %y = load i64, ptr %m, align 8
-  %r = sub i64 %x, %y
-  ret i64 %r""")
 case('call_between', 64, [64, 64], """  %m = alloca i64, align 8
   store i64 %a, ptr %m, align 8
   %x = load i64, ptr %m, align 8
@@ -269,19 +250,6 @@ case('over_kept', 64, [64, 64], """  %m = alloca i64, align 8
   store i64 %b, ptr %m, align 8
   %z = mul i64 %y, %y
   ret i64 %z""")
-case('one_way_in', 64, [64, 64], """start:
-  %m = alloca i64, align 8
-  store i64 %a, ptr %m, align 8
-  %c = icmp ugt i64 %a, %b
-  %x = load i64, ptr %m, align 8
-  br i1 %c, label %more, label %less
-more:
-  %y = phi i64 [ %x, %start ]
-  store i64 %b, ptr %m, align 8
-  %z = mul i64 %y, %y
-  ret i64 %z
-less:
-  ret i64 1""")
 for orders in (('monotonic', 'monotonic', 'monotonic'), ('acquire', 'release', 'acq_rel'), ('seq_cst', 'seq_cst', 'seq_cst')):
     for w in (8, 64):
         case(f'atomic{w}_{orders[0]}', w, [w, w], f"""  %m = alloca i64, align 8
@@ -293,12 +261,6 @@ for orders in (('monotonic', 'monotonic', 'monotonic'), ('acquire', 'release', '
   %y = mul i{w} %x, 3
   %r = add i{w} %o, %y
   ret i{w} %r""")
-case('atomic_between', 64, [64, 64], """  %m = alloca i64, align 8
-  store i64 %a, ptr %m, align 8
-  %x = load i64, ptr %m, align 8
-  %o = atomicrmw xchg ptr %m, i64 %b seq_cst, align 8
-  %r = sub i64 %x, %o
-  ret i64 %r""")
 case('volatile_load', 8, [8, 8], """  %m = alloca i8, align 1
   store i8 %a, ptr %m, align 1
   %x = load volatile i8, ptr %m, align 1
@@ -334,50 +296,6 @@ loop:
 out:
   %r = sub i64 %x, %y
   ret i64 %r""")
-case('fibonacci', 64, [8], """start:
-  br label %loop
-loop:
-  %x = phi i64 [ 0, %start ], [ %y, %loop ]
-  %y = phi i64 [ 1, %start ], [ %s, %loop ]
-  %n = phi i8 [ 0, %start ], [ %m, %loop ]
-  %s = add i64 %x, %y
-  %m = add i8 %n, 1
-  %done = icmp eq i8 %n, %a
-  br i1 %done, label %out, label %loop
-out:
-  ret i64 %x""")
-case('collatz', 64, [8, 8], """start:
-  %s = zext i8 %a to i64
-  %s1 = add i64 %s, 1
-  %e = zext i8 %b to i64
-  br label %loop
-loop:
-  %x = phi i64 [ %s1, %start ], [ %h, %even ], [ %t1, %odd ]
-  %k = phi i64 [ 0, %start ], [ %k1, %even ], [ %k1, %odd ]
-  %one = icmp eq i64 %x, 1
-  br i1 %one, label %out, label %on
-on:
-  %k1 = add i64 %k, 1
-  %enough = icmp ugt i64 %k, %e
-  br i1 %enough, label %far, label %step
-step:
-  %bit = and i64 %x, 1
-  %is = icmp eq i64 %bit, 0
-  br i1 %is, label %even, label %odd
-even:
-  %h = lshr i64 %x, 1
-  br label %loop
-odd:
-  %t = mul i64 %x, 3
-  %t1 = add i64 %t, 1
-  br label %loop
-far:
-  %f = add i64 %x, 1000000
-  br label %out
-out:
-  %r = phi i64 [ %k, %loop ], [ %f, %far ]
-  %q = mul i64 %r, %r
-  ret i64 %q""")
 case('nested', 64, [8, 8], """start:
   br label %outer
 outer:
@@ -414,26 +332,6 @@ out:
   %r = phi i64 [ %s, %outer ], [ %s2, %next ], [ %g, %found ], [ %s3, %more ]
   %q = xor i64 %r, 5
   ret i64 %q""")
-case('two_joins', 64, [8, 64], """  switch i8 %a, label %c [
-    i8 0, label %x
-    i8 1, label %y
-  ]
-x:
-  br label %first
-y:
-  %p = add i64 %b, 1
-  br label %first
-c:
-  %q = mul i64 %b, 7
-  br label %second
-first:
-  %s = phi i64 [ 5, %x ], [ %p, %y ]
-  %t = mul i64 %s, %s
-  br label %second
-second:
-  %u = phi i64 [ %t, %first ], [ %q, %c ]
-  %v = xor i64 %u, %b
-  ret i64 %v""")
 case('outer_again', 64, [8, 8], """start:
   br label %outer
 outer:
@@ -530,31 +428,7 @@ e:
   %r = phi i64 [ %s1, %n3 ], [ %t1, %n4 ]
   %v = mul i64 %r, %r
   ret i64 %v""")
-# Arms that differ in which of two variables they use, or in the numbers of a switch.
-for name, one, other in (('same', '%u, %w', '%u2, %u2'), ('order', '%u, %w', '%w2, %u2')):
-    case(f'twins_{name}', 64, [8, 64], f"""  %m = alloca [16 x i8], align 8
-  %n = getelementptr inbounds i8, ptr %m, i64 8
-  store i64 %b, ptr %m, align 8
-  store i64 3, ptr %n, align 8
-  %c = icmp ult i8 %a, 9
-  br i1 %c, label %x, label %y
-x:
-  %u = load i64, ptr %m, align 8
-  %w = load i64, ptr %n, align 8
-  store i64 7, ptr %m, align 8
-  store i64 9, ptr %n, align 8
-  %v = sub i64 {one}
-  br label %e
-y:
-  %u2 = load i64, ptr %m, align 8
-  %w2 = load i64, ptr %n, align 8
-  store i64 7, ptr %m, align 8
-  store i64 9, ptr %n, align 8
-  %v2 = sub i64 {other}
-  br label %e
-e:
-  %r = phi i64 [ %v, %x ], [ %v2, %y ]
-  ret i64 %r""")
+# Arms that differ in the numbers of a switch.
 case('twins_numbers', 8, [8, 8], """  %c = icmp ult i8 %a, 9
   br i1 %c, label %x, label %y
 x:
@@ -670,33 +544,15 @@ out:
   %r = sub i64 %y, %x
   ret i64 %r""")
 # Constants behind what changes nothing are as wide as they were.
-for name, w, frozen, text in (('shift', 64, '1', 'shl i64 %f, 40'), ('sum', 32, '2147483647', 'add i32 %f, 2147483647'),
-                              ('product', 32, '65537', 'mul i32 %f, %f'), ('minus', 64, '3', 'sub i64 %f, 4'),
-                              ('choice', 64, '3', 'select i1 %c, i64 %f, i64 1'), ('divided', 64, '9', 'udiv i64 %f, 4')):
-    case(f'frozen_{name}', w, [w], f"""  %c = icmp ult i{w} %a, 9
-  %f = freeze i{w} {frozen}
-  %x = {text}
-  %y = shl i{w} %x, {w // 2 + 1 if name == 'choice' else 0}
-  %z = lshr i{w} %y, 1
-  %r = xor i{w} %z, %a
-  ret i{w} %r""")
-case('bit_shifted', 64, [8], '  %c = icmp ult i8 %a, 9\n  %x = zext i1 %c to i64\n  %r = shl i64 %x, 40\n  ret i64 %r')
-case('frozen_chosen', 8, [8], """  %f = freeze i64 5
-  switch i64 %f, label %x [
-    i64 1099511627781, label %y
-    i64 3, label %z
-  ]
-x:
-  ret i8 %a
-y:
-  ret i8 17
-z:
-  ret i8 18""")
-for w in (40, 48, 56):
-    case(f'widened{w}', 64, [64], f"""  %f = zext i{w} 7 to i64
-  %x = shl i64 %f, 33
-  %r = xor i64 %x, %a
+case('frozen_choice', 64, [64], """  %c = icmp ult i64 %a, 9
+  %f = freeze i64 3
+  %x = select i1 %c, i64 %f, i64 1
+  %y = shl i64 %x, 33
+  %z = lshr i64 %y, 1
+  %r = xor i64 %z, %a
   ret i64 %r""")
+case('bit_shifted', 64, [8], '  %c = icmp ult i8 %a, 9\n  %x = zext i1 %c to i64\n  %r = shl i64 %x, 40\n  ret i64 %r')
+for w in (40, 48, 56):
     case(f'narrowed{w}', 8, [64], f'  %x = trunc i64 %a to i{w}\n  %r = trunc i{w} %x to i8\n  ret i8 %r')
 for w in (1, *WIDTHS):
     case(f'freeze_of{w}', w, [64], f"""  %m = alloca i64, align 8
@@ -734,11 +590,6 @@ case('behind_null', 64, [64], """  %p = getelementptr i8, ptr null, i64 8
   %z = mul i64 %y, 3
   %r = add i64 %x, %z
   ret i64 %r""", 'a < 99')
-case('same_way', 8, [8], """  %c = icmp eq i8 %a, 0
-  br i1 %c, label %x, label %x
-x:
-  %r = add i8 %a, 1
-  ret i8 %r""")
 
 # Calls: of functions of the module, by pointer, of each other, with two results, of what stands elsewhere.
 declare('i64 @outside(i64)')
@@ -748,10 +599,6 @@ case('calls', 64, [64, 64], """  %p = call { i64, i1 } @pair(i64 %a, i64 %b)
   %y = select i1 %o, i64 %x, i64 17
   %z = call i64 @outside(i64 %y)
   ret i64 %z""")
-case('by_pointer', 64, [8, 64], """  %c = icmp ult i8 %a, 5
-  %f = select i1 %c, ptr @triple, ptr @negated
-  %r = call i64 %f(i64 %b)
-  ret i64 %r""")
 case('by_pointer_of_two', 64, [8, 64], """  %c = icmp ult i8 %a, 5
   %f = select i1 %c, ptr @minus, ptr @twice_minus
   %r = call i64 %f(i64 %b, i64 3)
@@ -885,10 +732,6 @@ define internal { i64, i1 } @pair(i64 %a, i64 %b) {
   %q = insertvalue { i64, i1 } %p, i1 %c, 1
   ret { i64, i1 } %q
 }
-define internal i64 @triple(i64 %n) {
-  %r = mul i64 %n, 3
-  ret i64 %r
-}
 define internal i64 @minus(i64 %n, i64 %m) {
   %r = sub i64 %n, %m
   ret i64 %r
@@ -896,10 +739,6 @@ define internal i64 @minus(i64 %n, i64 %m) {
 define internal i64 @twice_minus(i64 %n, i64 %m) {
   %k = shl i64 %n, 1
   %r = sub i64 %k, %m
-  ret i64 %r
-}
-define internal i64 @negated(i64 %n) {
-  %r = sub i64 0, %n
   ret i64 %r
 }
 attributes #0 = { noinline }

@@ -74,5 +74,4 @@ LISTS = {
                            "static void make_{name}(void) {{ READ_OBJECT({name}, {of}); }}"),
     "steps of reads": lambda: reads("\t{{ make_{name}, 4, false }},"),
     "costs of reads": costs_of_reads,
-    "reads that write nothing": lambda: reads("\tsum += timers_{name}(t{unwanted}), sum += timers_{name}(&all->later{unwanted});"),
 }

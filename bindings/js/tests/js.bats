@@ -34,9 +34,9 @@ needs_package() {
     needs_package
     { node -p "require('./bindings/js/package.json').files.join('\n')" && echo package.json; } | sed 's/^/package\//' | sort |
         diff - <(tar -tf "$packed" | sort)
-    for name in generated/NOTICE LICENSE-{MIT,APACHE} LICENSES/LicenseRef-Rattle-libraries.txt; do
-        cmp "$name" "$app/node_modules/libtimers/${name##*/}"
-    done
+    for name in generated/NOTICE LICENSES/LicenseRef-Rattle-libraries.txt; do cmp "$name" "$app/node_modules/libtimers/${name##*/}"; done
+    cmp LICENSES/MIT.txt "$app/node_modules/libtimers/LICENSE-MIT"
+    cmp LICENSES/Apache-2.0.txt "$app/node_modules/libtimers/LICENSE-APACHE"
     [ "$(node -p "require('$app/node_modules/libtimers/package.json').version")" = "$(cat tools/install/version)" ]
     grep -F "$(licence)" bindings/js/package.json
     [ "$(cd "$app" && node -p "WebAssembly.Module.imports(new WebAssembly.Module(fs.readFileSync(require.resolve('libtimers/timers.wasm')))).length")" = 0 ]

@@ -1,4 +1,4 @@
-//! What is refused and what stands then, limits, and what comes at one tick.
+//! What is refused and what stands then, limits, and what comes at one tick. replay.rs has the clock.
 // SPDX-License-Identifier: MIT OR Apache-2.0
 use std::collections::HashSet;
 use std::error;
@@ -57,18 +57,6 @@ fn a_refusal_changes_nothing_and_gives_the_value_back() {
 }
 
 #[test]
-fn no_tick_passes_while_an_expired_timer_waits() {
-    let mut timers = Timers::new().unwrap();
-    let handles: Vec<Handle> = (0..4).map(|value| timers.start(Ticks(3), value).unwrap()).collect();
-    assert_eq!(timers.advance(Ticks(100)), Ok(Ticks(3)));
-    assert_eq!((timers.has_due(), timers.advance(Ticks(0)), timers.advance(Ticks(1))), (true, Ok(Ticks(0)), Err(Error::Due)));
-    assert_eq!((timers.advance_to(Tick(3)), timers.advance_to(Tick(4)), timers.now()), (Ok(()), Err(Error::Due), Tick(3)));
-    assert_eq!((timers.stop(handles[1]), timers.stop(handles[1])), (Some(1), None)); // expired, not yet taken
-    assert!(timers.take_due(Tick(3)).map(|timer| timer.value).eq([0, 2, 3]));
-    assert_eq!((timers.advance(Ticks(1)), timers.now()), (Ok(Ticks(1)), Tick(4)));
-}
-
-#[test]
 fn the_work_of_a_timer_stops_another_of_its_tick_in_another_thread() {
     let mut timers = Timers::with_table(Table::Small, Tick(0)).unwrap();
     let values = thread::spawn(move || {
@@ -83,29 +71,6 @@ fn the_work_of_a_timer_stops_another_of_its_tick_in_another_thread() {
         values
     });
     assert_eq!(values.join().unwrap(), [10]);
-}
-
-#[test]
-fn the_last_tick_is_the_end_of_the_clock() {
-    let mut timers = Timers::with_table(Table::Small, LAST_OF_SMALL - Ticks(1)).unwrap();
-    timers.start(Ticks(1), 1).unwrap();
-    assert_eq!(timers.take(Tick(u64::MAX)).map(|timer| timer.deadline), Some(LAST_OF_SMALL));
-    assert_eq!((timers.take(Tick(u64::MAX)), timers.now()), (None, LAST_OF_SMALL));
-    assert_eq!((timers.advance(Ticks(0)), timers.advance(Ticks(1))), (Ok(Ticks(0)), Err(Error::ClockEnd)));
-    assert_eq!((timers.advance_to(LAST_OF_SMALL), timers.advance_to(Tick(u64::MAX))), (Ok(()), Err(Error::ClockEnd)));
-    for deadline in [Tick(0), LAST_OF_SMALL] {
-        assert_eq!(timers.start_at(deadline, 1).map_err(Error::from), Err(Error::TooLate));
-    }
-}
-
-/// A time before the clock passes no tick, and takes only what is due already.
-#[test]
-fn the_clock_does_not_go_back() {
-    let mut timers = Timers::with_table(Table::Wide, Tick(1000)).unwrap();
-    timers.start(Ticks(500), 1).unwrap();
-    assert_eq!((timers.take(Tick(999)), timers.now()), (None, Tick(1000)));
-    timers.start_at(Tick(0), 2).unwrap();
-    assert_eq!((timers.take(Tick(0)).map(|timer| timer.value), timers.take(Tick(0)), timers.now()), (Some(2), None, Tick(1000)));
 }
 
 /// An iterator that is dropped early has taken what it gave out, and no more.

@@ -118,7 +118,9 @@ unpacks_crate() {
     cmp generated/timers.c "$crate/c/timers.c"
     cmp include/timers.h "$crate/c/timers.h"
     cmp include/timers_desk.h "$crate/c/timers_desk.h"
-    for name in generated/NOTICE LICENSE-{MIT,APACHE} LICENSES/LicenseRef-Rattle-libraries.txt; do cmp "$name" "$crate/${name##*/}"; done
+    for name in generated/NOTICE LICENSES/LicenseRef-Rattle-libraries.txt; do cmp "$name" "$crate/${name##*/}"; done
+    cmp LICENSES/MIT.txt "$crate/LICENSE-MIT"
+    cmp LICENSES/Apache-2.0.txt "$crate/LICENSE-APACHE"
 }
 @test "the tests of a packed crate pass, and so does each program in its README and its pages" {
     needs_cargo
