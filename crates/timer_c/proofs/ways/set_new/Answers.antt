@@ -13,13 +13,13 @@ use Rattle.timer_c.proofs.ways.set_new.Goals as goal
 -- a start where no timer was is a start where it was removed
 pub returns-in-Ok : goal.returns-in-Ok
 returns-in-Ok c = record {
-    made = λ ok.
-        let old = c.args.timers.now in let handle = base_handle c.args.handle.now in let made = c.in-Ok.made in
-        let set = subst (λ (w : WheelState). c.start_at-started.new.self ≡ with_start with_counted_start
-        (after_start_at made.place c.args.deadline c.args.action w old) old)
-        (none_removed handle old.wheel c.requires) c.in-Ok.ensures.started in
-        subst (λ (h : CHandle). IsCall c_counters (SetAt handle c.args.deadline c.args.action (base_handle h)) old c.start_at-started.new.self)
-        (sym c.to_c_handle.ensures) (c.in-Ok.ensures.in_order, c.in-Ok.ensures.named, set);
-    refused = search rules;
-    kept = search rules;
+  made = λ ok.
+      let old = c.args.timers.now in let handle = base_handle c.args.handle.now in let made = c.in-Ok.made in
+      let set = subst (λ (w : WheelState). c.start_at-started.new.self ≡ with_start with_counted_start
+      (after_start_at made.place c.args.deadline c.args.action w old) old)
+      (none_removed handle old.wheel c.requires) c.in-Ok.ensures.started in
+      subst (λ (h : CHandle). IsCall c_counters (SetAt handle c.args.deadline c.args.action (base_handle h)) old c.start_at-started.new.self)
+      (sym c.to_c_handle.ensures) (c.in-Ok.ensures.in_order, c.in-Ok.ensures.named, set);
+  refused = search rules;
+  kept = search rules;
 }
