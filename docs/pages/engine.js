@@ -47,7 +47,9 @@ const ENGINE = (() => {
         return 0;
       },
       fd_read: (file, buffers, count, got) => {
-        const part = input.subarray(at, at + number(buffers + 4));
+        // One line a read: `serve --wakeups` says once a read when to wake up, and the page shows that of each line.
+        const end = input.indexOf(10, at) + 1 || input.length;
+        const part = input.subarray(at, Math.min(end, at + number(buffers + 4)));
         copy(number(buffers), part);
         at += part.length;
         put(got, part.length);
