@@ -16,7 +16,7 @@
 //! equation on this record. The four routines of G. Varghese and T. Lauck, "Hashed and Hierarchical Timing
 //! Wheels" (SOSP 1987), are `start` (START_TIMER), `stop` (STOP_TIMER), `per_tick` (PER_TICK_BOOKKEEPING) and
 //! `expire` (the timers that their EXPIRY_PROCESSING is for).
-ghost use Rattle.std.specs.Prelude.{◌≡◌, ◌<◌, ◌≤◌, ◌-◌, ◌↔◌, ⊤, ℕ, List, [], Option, length, IsTrue, IfOk, OnOk, OnErr, IfSome, MatchOption, MatchResult, vec_capacity};
+ghost use Rattle.std.specs.Prelude.{◌≡◌, ◌<◌, ◌≤◌, ◌-◌, ◌↔◌, ⊤, ℕ, List, [], Option, length, IsTrue, IfOk, OnOk, OnErr, IfSome, IsSome, MatchOption, MatchResult, vec_capacity};
 ghost use Rattle.timer_base.specs.Types.{LAST, Timer};
 ghost use Rattle.timer_base.specs.Counts.{WheelCounts, no_counts};
 ghost use Rattle.timer_base.specs.Layout.{Layout};
@@ -144,6 +144,27 @@ pub trait Wheel {
         ensures restarted { state self.new ≡ after_replacement result handle timer (state self.old) }
         ensures counts { MatchOption result (counts self.new ≡ counts self.old)
             (λ _. counts self.new ≡ count_start (counts self.old)) };
+
+    /// Restarts a timer that is there, as `restart`, for a tick after now, and returns the new handle. Does not allocate.
+    ///
+    /// A wheel that doesn't write this call looks for the timer all the same.
+    fn restart_later(&mut self, handle: Handle, timer: Timer) -> Handle
+        requires held { IsSome (held_at handle (state self.old)) }
+        requires later { (state self.old).now < timer.deadline }
+        requires deadline { timer.deadline ≤ (state self.old).last_tick }
+        requires fresh { (state self.old).last_serial < timer.serial }
+        requires serial { timer.serial ≤ LAST }
+        requires keeps { keeps timer }
+        ensures named { result.serial ≡ timer.serial }
+        ensures restarted { state self.new
+            ≡ after_held_start result.place timer (after_removal handle (state self.old)) }
+        ensures counts { counts self.new ≡ count_start (counts self.old) }
+    {
+        match self.restart(handle, timer) {
+            Some((made, _)) => made,
+            None => unreachable!(),
+        }
+    }
 
     /// Advances the clock by one tick (PER_TICK_BOOKKEEPING): the pending timers with that deadline
     /// become due, by serial. Does not allocate.

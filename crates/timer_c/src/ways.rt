@@ -8,7 +8,7 @@ ghost use Rattle.timer_base.specs.WheelState.{held_at};
 ghost use Rattle.timer_c.specs.Calls.{HasMade};
 ghost use Rattle.timer_c.specs.Outcomes.{IsStartRefusal, IsStartAtRefusal, IsRestartRefusal, IsRestartAtRefusal, IsSetRefusal, base_handle};
 ghost use Rattle.timer_runs.specs.Runs.{Started, StartedAt, Restarted, RestartedAt, SetAt};
-ghost use Rattle.timer_wheels.specs.RestartWays.{IsStay};
+ghost use Rattle.timer_wheels.specs.RestartWays.{IsStay, IsLater};
 
 use crate::conversions::{from_c_handle, restart_status, start_status, to_c_handle};
 use crate::layout::CHandle;
@@ -246,20 +246,31 @@ pub(crate) fn set_kept(
     }
 }
 
-/// A set that moves its timer to another bucket, out of line.
-#[inline(never)]
+/// A set that moves its timer to another bucket.
+// That it is there was seen when its way was, so nothing is looked for again.
+#[inline(always)]
 pub(crate) fn set_moved(
     timers: &mut Timers<CWheel>,
     handle: &mut CHandle,
     deadline: u64,
     action: u64,
 ) -> u32
+    requires { IsLater (base_handle handle.old) deadline timers.old.wheel }
     ensures { HasMade (SetAt (base_handle handle.old) deadline action (base_handle handle.new)) (IsSetRefusal handle.old deadline)
         result handle.old handle.new timers.old timers.new }
 {
-    match timers.wheel().way(from_c_handle(*handle), deadline) {
-        RestartWay::Moves => set(timers, handle, deadline, action),
-        _ => set_apart(timers, handle, deadline, action),
+    let old = from_c_handle(*handle);
+    match timers.admit_later(deadline) {
+        Ok(()) => {
+            let made = timers.restart_later(old, deadline, action);
+            // The place is the same, which a compiler sees: then the serial alone is written.
+            if made.place != old.place {
+                handle.place = made.place;
+            }
+            handle.serial = made.serial;
+            OK
+        }
+        Err(fault) => start_status(fault),
     }
 }
 

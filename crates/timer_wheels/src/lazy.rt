@@ -22,7 +22,7 @@
 //!     files      the buckets, their bits, and what changes them between ticks
 //!     leaps      ticks, and leaps over those at which nothing happens
 //!     filing     one bucket is emptied
-ghost use Rattle.std.specs.Prelude.{◌≡◌, ◌<◌, ◌≤◌, ◌+◌, ◌-◌, ◌*◌, [], length, IfOk, IfErr, IfSome, OnOk, OnErr, MatchOption, MatchResult};
+ghost use Rattle.std.specs.Prelude.{◌≡◌, ◌<◌, ◌≤◌, ◌+◌, ◌-◌, ◌*◌, [], length, IfOk, IfErr, IfSome, IsSome, OnOk, OnErr, MatchOption, MatchResult};
 ghost use Rattle.timer_base.specs.WakeUps.{IsQuietUntil};
 ghost use Rattle.timer_base.specs.WheelState.{empty_wheel, held_at, held_count, old_timer, first_due, after_reserve, after_held_start, after_removal, after_replacement, after_tick, after_expiry, after_clear, Advances};
 ghost use Rattle.timer_base.specs.declared.limits.TheConstants.{LAST};
@@ -247,6 +247,24 @@ impl<N: Kept> Wheel for LazyWheel<N> {
             (λ _. lazy_counts self.new ≡ with_start (lazy_counts self.old)) }
     {
         self.files.restart(handle, timer)
+    }
+
+    /// No test is made whether the timer is there, or may stay in its bucket.
+    #[inline(always)]
+    fn restart_later(&mut self, handle: Handle, timer: Timer) -> Handle
+        requires held { IsSome (held_at handle (lazy_state self.old)) }
+        requires later { (lazy_state self.old).now < timer.deadline }
+        requires deadline { timer.deadline ≤ (lazy_state self.old).last_tick }
+        requires fresh { (lazy_state self.old).last_serial < timer.serial }
+        requires serial { timer.serial ≤ LAST }
+        requires keeps { N.keeps (record { timer = timer; rounds = 0 }) }
+        ensures named { result.serial ≡ timer.serial }
+        ensures place { result.place ≡ handle.place }
+        ensures restarted { lazy_state self.new
+            ≡ after_held_start result.place timer (after_removal handle (lazy_state self.old)) }
+        ensures counts { lazy_counts self.new ≡ with_start (lazy_counts self.old) }
+    {
+        self.files.restart_later(handle, timer)
     }
 
     /// Of the bucket that it visits, each timer that is not due is filed anew.

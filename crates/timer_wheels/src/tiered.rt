@@ -1,7 +1,7 @@
 //! A hierarchy that is chosen as the program runs, as C chooses one: `LazyWheel` or `SmoothWheel`.
 //!
 //! Each call is that of the wheel. What both have, the buckets, is read without a look at which of them it is.
-ghost use Rattle.std.specs.Prelude.{◌≡◌, ◌+◌, ◌-◌, ◌*◌, ◌<◌, ◌≤◌, ℕ, [], true, None, Some, IfOk, IfErr, IfSome, IfNone, OnOk, OnErr, MatchOption, MatchResult};
+ghost use Rattle.std.specs.Prelude.{◌≡◌, ◌+◌, ◌-◌, ◌*◌, ◌<◌, ◌≤◌, ℕ, [], true, None, Some, IfOk, IfErr, IfSome, IfNone, IsSome, OnOk, OnErr, MatchOption, MatchResult};
 ghost use Rattle.timer_base.specs.Counts.{no_counts};
 ghost use Rattle.timer_base.specs.WheelState.{empty_wheel, held_at, held_count, old_timer, first_due, after_reserve, after_held_start, after_removal, after_replacement, after_tick, after_expiry, after_clear, Advances};
 ghost use Rattle.timer_base.specs.declared.limits.TheConstants.{LAST};
@@ -21,8 +21,8 @@ use crate::lazy::LazyWheel;
 use crate::smooth::SmoothWheel;
 use crate::table::Table;
 use crate::tiered::smooth_calls::{
-    copy_of, handle_at, quiet_smooth, restart_smooth, start_smooth, stop_smooth, tick_of,
-    tick_smooth,
+    copy_of, handle_at, quiet_smooth, restart_held, restart_smooth, start_smooth, stop_smooth,
+    tick_of, tick_smooth,
 };
 use crate::tiers::Tiers;
 use std::alloc::Global;
@@ -277,6 +277,26 @@ impl<N: Kept> Wheel for TieredWheel<N> {
                 };
                 Some((made, old))
             }
+        }
+    }
+
+    /// No test is made in a lazy wheel whether the timer is there, or may stay in its bucket.
+    #[inline(always)]
+    fn restart_later(&mut self, handle: Handle, timer: Timer) -> Handle
+        requires held { IsSome (held_at handle (tiered_state self.old)) }
+        requires later { (tiered_state self.old).now < timer.deadline }
+        requires deadline { timer.deadline ≤ (tiered_state self.old).last_tick }
+        requires fresh { (tiered_state self.old).last_serial < timer.serial }
+        requires serial { timer.serial ≤ LAST }
+        requires keeps { N.keeps (record { timer = timer; rounds = 0 }) }
+        ensures named { result.serial ≡ timer.serial }
+        ensures restarted { tiered_state self.new
+            ≡ after_held_start result.place timer (after_removal handle (tiered_state self.old)) }
+        ensures counts { counts_in self.new ≡ with_counted_start (counts_in self.old) }
+    {
+        match self {
+            TieredWheel::Lazy(wheel) => wheel.restart_later(handle, timer),
+            TieredWheel::Smooth(wheel) => restart_held(wheel, handle, copy_of(timer)),
         }
     }
 

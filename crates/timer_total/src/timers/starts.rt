@@ -238,6 +238,34 @@ impl<W: Wheel + Drop> Timers<W> {
         }
     }
 
+    /// Whether a start for this tick, which is after now, is accepted if memory is available.
+    #[inline(always)]
+    pub fn admit_later(&self, deadline: u64) -> Result<(), StartFault>
+        requires { self.now.wheel.now < deadline }
+        ensures in_order { IfOk result (λ _. IsStartable (interval_until deadline self.now) self.now) }
+        ensures in_time { IfOk result (λ _. (deadline ≤ self.now.wheel.last_tick) × (self.now.last_serial < LAST)) }
+        ensures fault { IfErr result (WhyNotStarted (interval_until deadline self.now) self.now) }
+    {
+        self.admit_at(deadline > self.wheel.last_tick())
+    }
+
+    /// Restarts a timer that is there, for an accepted tick after now: no test is made. Does not allocate.
+    #[inline(always)]
+    pub fn restart_later(&mut self, handle: Handle, deadline: u64, action: u64) -> Handle
+        requires at { IsAt handle self.old }
+        requires after_now { self.old.wheel.now < deadline }
+        requires deadline { deadline ≤ self.old.wheel.last_tick }
+        requires serial { self.old.last_serial < LAST }
+        ensures restarted { self.new ≡ with_start W.count_start
+            (after_start_at result.place deadline action (after_removal handle self.old.wheel) self.old) self.old }
+        ensures named { result.serial ≡ self.old.last_serial + 1 }
+    {
+        let timer = self.next(deadline, action);
+        let made = self.wheel.restart_later(handle, timer);
+        self.last_serial = timer.serial;
+        made
+    }
+
     /// Removes the timer with this handle, and starts another in its place for this tick, which is now or later,
     /// under the next serial.
     #[inline(always)]

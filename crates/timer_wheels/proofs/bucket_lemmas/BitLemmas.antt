@@ -1,5 +1,5 @@
 -- The bits of lists after a row left one of them, or came to one.
-use Rattle.std.proofs.Common.{◌≡◌, ◌≢◌, ◌<◌, ◌≤◌, ◌+◌, ℕ, List, [], ◌∷◌, ◌++◌, sym, ◌∙◌, ap, length, inl, inr, subst, arith, slice_set, get_or-set_other, map, Option, Some, IfSome}
+use Rattle.std.proofs.Common.{◌≡◌, ◌≢◌, ◌<◌, ◌≤◌, ◌+◌, ℕ, List, [], ◌∷◌, ◌++◌, refl, sym, ◌∙◌, ap, length, inl, inr, subst, arith, slice_set, get_or-set_other, map, Option, Some, None, IfSome}
 use Rattle.std.proofs.lemmas.Bool.{cases_lt}
 use Rattle.timer_base.specs.WheelState.{held_at}
 use Rattle.timer_links.proofs.Rows.{StandsIn, stands_in}
@@ -8,7 +8,7 @@ use Rattle.timer_wheels.specs.Types.{Handle, Timer, Node, list_at, KeyedLists, R
 use Rattle.timer_wheels.specs.smooth.Wheels.{LeavesBits}
 use Rattle.timer_wheels.specs.BucketLists.{AreBuckets, wheel_state}
 use Rattle.timer_wheels.specs.Buckets.{IsListOf}
-use Rattle.timer_wheels.specs.Occupied.{bit_of, AreMarked, Clears}
+use Rattle.timer_wheels.specs.Occupied.{bit_of, filled, AreMarked, Clears}
 use Rattle.timer_wheels.proofs.bucket_lemmas.Handles.{held_node}
 use Rattle.timer_wheels.proofs.bucket_lemmas.OccupiedLemmas.{marked_same, marked_set, filled_behind}
 use Rattle.timer_wheels.proofs.bucket_lemmas.WheelUpdates.{taken_out}
@@ -86,3 +86,14 @@ come_marked m n now lists words words2 row list d less marked len (inr q) within
     subst (λ (x : List ℕ). AreMarked m x (with_row list row lists)) (sym e)
     (marked_same m words lists (with_row list row lists)
     (λ s h. get_or-set_other lists list s (list_at list lists ++ row ∷ []) [] (λ (y : s ≡ list). omega arith)) marked)
+
+-- where no list became empty, the bit of one that had rows is set still
+pub filled_bit : (m n : ℕ) (words words2 : List ℕ) (emptied : Option ℕ) (list : ℕ) (lists : KeyedLists) → AreMarked m words lists → list < m
+    → LeavesBits n emptied words words2 → emptied ≡ None → list_at list lists ≢ [] → bit_of words2 list ≡ 1
+filled_bit m n words words2 emptied list lists marked within leaves none some =
+    let same : words2 ≡ words = subst (λ (o : Option ℕ). LeavesBits n o words words2) none leaves in
+    ap (λ (x : List ℕ). bit_of x list) same ∙ (marked.0 list within ∙ has (list_at list lists) some)
+  where
+    has : (rows : Rows) → rows ≢ [] → filled rows ≡ 1
+    has [] some = absurd (some refl)
+    has (x ∷ xs) some = refl

@@ -230,3 +230,8 @@ module _ {n last_tick now last : ℕ} {lists : KeyedLists} (b : AreBuckets n las
         ap entries_of (list_at-without_key n handle.place lists)
         ∙ same_rows handle h.node past (subst (P past) h.at past_have) h.serial in
         rw (a, d) refl
+
+-- a timer that is there
+pub the_timer : (o : Option Timer) → IsSome o → (t : Timer) × (o ≡ Some t)
+the_timer None i = absurd (cc)
+the_timer (Some t) i = (t, refl)

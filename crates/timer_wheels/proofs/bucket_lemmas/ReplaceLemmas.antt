@@ -1,9 +1,9 @@
 -- Lemmas for `replace_node`: the lists once another node is under the key of one.
-use Rattle.std.proofs.Common.{◌≡◌, ◌<◌, ℕ, [], ◌∷◌, ◌++◌, length, sym, ◌∙◌, ap, arith, length-set, get_or-set_same, Option, Some, map, slice_set}
+use Rattle.std.proofs.Common.{◌≡◌, ◌<◌, ◌+◌, ℕ, [], ◌∷◌, ◌++◌, length, sym, ◌∙◌, ap, arith, length-set, length-append, get_or-set_same, get_or-set_other, Option, Some, map, slice_set}
 use Rattle.timer_links.proofs.LinksCalls.{Held}
 use Rattle.timer_links.proofs.Rows.{StandsIn, stands_in}
 use Rattle.timer_links.specs.declared.kept.Node.{Node}
-use Rattle.timer_links.specs.Lists.{list_at, node_at, with_row, without_key, AreApart, IsAloneIn, SetsNode, MovesBack, KeyedLists}
+use Rattle.timer_links.specs.Lists.{list_at, node_at, with_row, without_key, AreApart, IsAloneIn, SetsNode, MovesBack, KeyedLists, Rows}
 use Rattle.timer_wheels.proofs.bucket_lemmas.RowLemmas.{set_twice}
 
 -- Another node under the key, at the back of a list.
@@ -28,6 +28,17 @@ module _ (key list : ℕ) (node : Node) (old mid : KeyedLists) (u : Held (node_a
 
   pub now_under : node_at key mid ≡ Some node
   now_under = mid_apart.0
+
+  -- no row comes to a list, and none leaves one
+  pub still_empty : list_at list old ≡ [] → list_at list mid ≡ []
+  still_empty e =
+      ap (list_at list) mid_is
+      ∙ (get_or-set_other old was.l list (was.front ++ (key, node) ∷ was.rest) [] (λ (q : list ≡ was.l).
+      let n : length (was.front ++ (key, u.node) ∷ was.rest) ≡ 0 = ap (λ (r : Rows). length r) (sym was.at ∙ (ap (λ (l : ℕ). list_at l old) (sym q) ∙ e)) in
+      let a : length (was.front ++ (key, u.node) ∷ was.rest) ≡ length was.front + length ((key, u.node) ∷ was.rest)
+      = length-append was.front ((key, u.node) ∷ was.rest) in
+      omega arith)
+      ∙ e)
 
   pub mid_in_range : list < length old → list < length mid
   mid_in_range h = let e : length mid ≡ length old = mid_length in omega arith

@@ -2,7 +2,7 @@
 //!
 //! A start files a timer in the bucket of its deadline. A push back leaves it there, so a bucket may be visited before the
 //! deadlines of its timers, and never after one. Ticks and visits are in `leaps`.
-ghost use Rattle.std.specs.Prelude.{◌≡◌, ◌⊎◌, ◌<◌, ◌≤◌, ◌+◌, ℕ, IfOk, IfSome, IfNone, OnOk, OnErr, MatchOption, MatchResult, Some};
+ghost use Rattle.std.specs.Prelude.{◌≡◌, ◌⊎◌, ◌<◌, ◌≤◌, ◌+◌, ℕ, IfOk, IfSome, IfNone, OnOk, OnErr, IsSome, MatchOption, MatchResult, Some};
 ghost use Rattle.timer_base.specs.Layout.{OneWheel};
 ghost use Rattle.timer_base.specs.WheelState.{after_reserve, empty_wheel, held_at, held_count, first_due, old_timer, after_held_start, after_removal, after_replacement, after_expiry, after_clear};
 ghost use Rattle.timer_base.specs.declared.limits.TheConstants.{LAST};
@@ -222,6 +222,42 @@ impl<N: Kept> Files<N> {
         let counts = &mut self.counts;
         counts.starts += 1;
         Some(restarted)
+    }
+
+    /// Removes the timer with just this handle, which is there, and starts another at its place, for a later tick. No test is
+    /// made whether it may stay in its bucket. Does not allocate.
+    #[inline(always)]
+    pub fn restart_later(&mut self, handle: Handle, timer: Timer) -> Handle
+        requires held { IsSome (held_at handle (state_of self.old.buckets)) }
+        requires later { self.old.buckets.tick < timer.deadline }
+        requires deadline { timer.deadline ≤ self.old.buckets.last_tick }
+        requires fresh { self.old.buckets.last_serial < timer.serial }
+        requires serial { timer.serial ≤ LAST }
+        requires keeps { N.keeps (record { timer = timer; rounds = 0 }) }
+        ensures named { result.serial ≡ timer.serial }
+        ensures place { result.place ≡ handle.place }
+        ensures restarted { state_of self.new.buckets
+            ≡ after_held_start result.place timer (after_removal handle (state_of self.old.buckets)) }
+        ensures counts { self.new.counts ≡ with_start self.old.counts }
+        ensures table { self.new.table ≡ self.old.table }
+    {
+        self.buckets.links.lemma_keys_unique();
+        let tick = self.buckets.tick;
+        let moved = self.buckets.move_later(self.table, handle, timer);
+        leave(&mut self.occupied, self.buckets.slots, moved.emptied);
+        enter_first(
+            &mut self.occupied,
+            tick,
+            timer.deadline,
+            moved.list,
+            moved.was_empty,
+        );
+        let counts = &mut self.counts;
+        counts.starts += 1;
+        Handle {
+            place: handle.place,
+            serial: timer.serial,
+        }
     }
 
     /// Makes room for so many timers.

@@ -1,6 +1,6 @@
 //! Calls of a smooth wheel, out of line. What they return fits into registers: else the calls of a lazy wheel would have their
 //! results in memory, too.
-ghost use Rattle.std.specs.Prelude.{◌≡◌, ◌+◌, ◌<◌, ◌≤◌, ℕ, [], None, Some, IfOk, IfSome, IfNone, MatchOption, MatchResult};
+ghost use Rattle.std.specs.Prelude.{◌≡◌, ◌+◌, ◌<◌, ◌≤◌, ℕ, [], None, Some, IfOk, IfSome, IsSome, IfNone, MatchOption, MatchResult};
 ghost use Rattle.timer_base.specs.WakeUps.{IsQuietUntil};
 ghost use Rattle.timer_base.specs.WheelState.{held_at, held_count, after_held_start, after_removal, after_tick};
 ghost use Rattle.timer_base.specs.declared.limits.TheConstants.{LAST};
@@ -127,6 +127,28 @@ pub fn restart_smooth<N: Kept>(
     match wheel.restart(handle, timer) {
         Some((made, _old)) => Some(made.place),
         None => None,
+    }
+}
+
+/// The same for a timer that is there.
+pub fn restart_held<N: Kept>(wheel: &mut SmoothWheel<N>, handle: Handle, timer: Timer) -> Handle
+    requires held { IsSome (held_at handle (smooth_state wheel.old)) }
+    requires not_past { (smooth_state wheel.old).now ≤ timer.deadline }
+    requires deadline { timer.deadline ≤ (smooth_state wheel.old).last_tick }
+    requires fresh { (smooth_state wheel.old).last_serial < timer.serial }
+    requires serial { timer.serial ≤ LAST }
+    requires keeps { N.keeps (record { timer = timer; rounds = 0 }) }
+    ensures named { result.serial ≡ timer.serial }
+    ensures restarted { smooth_state wheel.new
+        ≡ after_held_start result.place timer (after_removal handle (smooth_state wheel.old)) }
+    ensures starts { starts_of wheel.new ≡ starts_of wheel.old + 1 }
+{
+    let Some(place) = restart_smooth(wheel, handle, timer) else {
+        unreachable!()
+    };
+    Handle {
+        place,
+        serial: timer.serial,
     }
 }
 

@@ -1,7 +1,7 @@
 //! Which way a restart goes: a compiler has a body for each.
 ghost use Rattle.std.specs.Prelude.{◌≡◌, None};
 ghost use Rattle.timer_base.specs.WheelState.{held_at};
-ghost use Rattle.timer_wheels.specs.RestartWays.{IsStay};
+ghost use Rattle.timer_wheels.specs.RestartWays.{IsStay, IsLater};
 ghost use Rattle.timer_wheels.specs.TieredWheel.{tiered_state};
 
 use crate::tiered::TieredWheel;
@@ -28,6 +28,7 @@ impl<N: Kept> TieredWheel<N> {
     #[inline(always)]
     pub fn way(&self, handle: Handle, deadline: u64) -> RestartWay
         ensures stays { result ≡ RestartWay.Stays → IsStay handle deadline (tiered_state self.now) }
+        ensures moves { result ≡ RestartWay.Moves → IsLater handle deadline (tiered_state self.now) }
         ensures starts { result ≡ RestartWay.Starts → held_at handle (tiered_state self.now) ≡ None }
     {
         let TieredWheel::Lazy(wheel) = self else {
