@@ -164,7 +164,8 @@ class Cluster:
     def leader(self):
         """The home of the node that leads, or of some node."""
         with contextlib.suppress(Again):
-            return open_log(self["place"], "steps-0").leader()
+            if (home := open_log(self["place"], "steps-0").leader()) is not None:
+                return home
         return random.randrange(3)
 
     def faults(self):

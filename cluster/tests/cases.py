@@ -27,7 +27,7 @@ from scene import FOLDER, NETS, PROGRAM, Case, Skipped, is_built, is_cut, needs,
 
 from cluster import HERE, Cluster
 from judge import Model
-from logs import Again, Http, Nats, Refused, open_log
+from logs import Again, Nats, Refused, open_log
 from shard import NO_CHAIN, Differs, Shard, said_by, sealed
 from timers_cluster import ANSWER, CUT, EXPIRED, FOREIGN, NOTHING, WRONG, Client, Place, shard_of
 from worker import OPTIONS, GivesUp, Worker
@@ -46,7 +46,7 @@ def said_to(line):
     client.start(10, 7)
     client.next(0)
     with server, server.accept()[0] as connection:
-        connection.sendall(b"from 0 %s 0\nhere 1 %s\n%s\n" % (NO_CHAIN, NO_CHAIN, line))
+        connection.sendall(b"from 0 0 %s 0\nhere 1 9 %s 0\n%s\n" % (NO_CHAIN, NO_CHAIN, line))
         return until(lambda: client.next(0.1).said)
 
 
@@ -309,11 +309,11 @@ def over_postgres():
 @case
 def no_leader():
     """a node of etcd that knows no leader doesn't end a demonstration"""
-    with mock.patch.object(Http, "ask", lambda *_: {"header": {"member_id": "1"}}):
+    with mock.patch("logs.answer_of", lambda *_: {"header": {"member_id": "1"}}):
         try:
             assert open_log("etcd:http://host:1", "any").leader() is None
-        except Again as why:
-            assert str(why) == "no leader"
+        except Again:
+            raise
 
 
 @case
@@ -321,11 +321,11 @@ def nats_settings():
     """NATS is refused by what a server says of itself: a version before 2.10, or no `sync_interval: always`"""
     always = {"sync_always": True}
     for version, config, right in [("2.9.10", always, "which is before 2.10"), ("2.10.27", {}, "lacks sync_interval: always"),
-                                   ("2.10.27", always, "nats://host:1")]:
+                                   ("2.10.27", always, ("host", 1))]:
         said = {"version": version, "port": 1, "jetstream": {"config": config}}
-        with mock.patch.object(Http, "ask", lambda *_, said=said: said):
+        with mock.patch("logs.answer_of", lambda *_, said=said: said):
             try:
-                assert Nats.checked("http://host:8222") == right
+                assert open_log("nats:", "any").checked("http://host:8222") == right
             except Refused as why:
                 assert right in str(why), why
 
@@ -354,7 +354,7 @@ def old_nats():
     """NATS before 2.10 is refused; its calls are the same"""
     with one_of_nats(nats_server(lambda version: version < [2, 10])) as place:
         refused(place, "which is before 2.10")
-        with mock.patch.object(Nats, "checked", lambda _, at: at.replace("http", "nats").replace("8222", "4222")):
+        with mock.patch.object(Nats, "checked", lambda _, at: (at[7:-5], 4222)):
             promises(place)
 
 
