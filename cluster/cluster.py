@@ -17,7 +17,6 @@ import json
 import os
 import pathlib
 import random
-import signal
 import subprocess
 import sys
 import threading
@@ -28,17 +27,18 @@ from logs import Again, open_log
 from shard import Differs, Shard, keep_snapshot, said_by
 
 HERE = pathlib.Path(__file__).resolve().parent
+OWN = sys.executable, pathlib.Path(__file__).resolve()
 HEADLINE = "lost", "doubled", "early", "out of order"
 REFUSED, DIFFERS = 2, 9  # exit statuses of what is not started again
 # Of an engine whose nodes are started here: where a node is for clients, what it is for the others, and its command.
 ENGINES = {
-    "etcd": ("http://{host}:{port}", "n{home}=http://{host}:{peer}", """etcd --name=n{home} --data-dir={folder}/n{home} --initial-cluster={nodes}
-        --listen-client-urls=http://{host}:{port} --advertise-client-urls=http://{host}:{port}
-        --listen-peer-urls=http://{host}:{peer} --initial-advertise-peer-urls=http://{host}:{peer}
+    "etcd": ("http://{host}:23790", "n{home}=http://{host}:23791", """etcd --name=n{home} --data-dir={folder}/n{home}
+        --initial-cluster={nodes} --listen-client-urls=http://{host}:23790 --advertise-client-urls=http://{host}:23790
+        --listen-peer-urls=http://{host}:23791 --initial-advertise-peer-urls=http://{host}:23791
         --heartbeat-interval=200 --election-timeout=2000 --quota-backend-bytes=8589934592
         --auto-compaction-mode=revision --auto-compaction-retention=1000"""),
-    "nats": ("http://{host}:{monitor}", "nats://{host}:{peer}", """nats-server --config={here}/nats.conf --name=n{home} --store_dir={folder}/n{home}
-        --addr={host} --port={port} --http_port={monitor} --cluster_name=timers --cluster=nats://{host}:{peer} --routes={nodes}"""),
+    "nats": ("http://{host}:23790", "nats://{host}:23791", """nats-server --config={here}/nats.conf --name=n{home} --store_dir={folder}/n{home}
+        --addr={host} --port=23792 --http_port=23790 --cluster_name=timers --cluster=nats://{host}:23791 --routes={nodes}"""),
 }
 NETWORKS = """ip link add $TAG type bridge; ip addr add $NET.254/24 dev $TAG; ip link set $TAG up
 for i in $HOMES; do
@@ -46,6 +46,15 @@ for i in $HOMES; do
     ip -n $TAG$i addr add $NET.$((i + 1))/24 dev eth0; ip -n $TAG$i link set eth0 up; ip -n $TAG$i link set lo up
 done"""
 NO_NETWORKS = "for i in $HOMES; do ip link del $TAG$i; ip netns del $TAG$i; done; ip link del $TAG"
+
+
+def until(done, seconds=180, why="it did not come to be in time"):
+    end = time.monotonic() + seconds
+    while not (found := done()):
+        if time.monotonic() > end:
+            sys.exit(why)
+        time.sleep(0.05)
+    return found
 
 
 class Cluster:
@@ -80,59 +89,51 @@ class Cluster:
 
     def addresses(self, shard):
         """Of a shard's workers."""
-        return [f"{self.host(3 + i)}:{self['port'] + 2 + int(shard)}" for i in range(self["workers"])]
+        return [f"{self.host(3 + i)}:{23800 + int(shard)}" for i in range(self["workers"])]
 
     def nodes(self, engine):
         """Their commands, and the place of their logs."""
+        def each(text, **more):
+            return [text.format(home=i, host=self.host(i), here=HERE, folder=self.folder, **more) for i in range(3)]
+
         at, name, command = ENGINES[engine]
-        port, folder = self["port"], self.folder
-        homes = [{"home": i, "host": self.host(i), "port": port, "peer": port + 1, "monitor": port + 2} for i in range(3)]
-        every = {"nodes": ",".join(name.format(**home) for home in homes), "folder": folder, "here": HERE}
-        commands = [[*self.inside(i), *(word.format(**home, **every) for word in command.split())] for i, home in enumerate(homes)]
-        return {"nodes": commands, "place": f"{engine}:" + ",".join(at.format(**home) for home in homes)}
+        words = zip(*(each(word, nodes=",".join(each(name))) for word in command.split()))
+        return {"nodes": [[*self.inside(i), *command] for i, command in enumerate(words)], "place": f"{engine}:{','.join(each(at))}"}
 
     def up(self, given):
         self.folder.mkdir(parents=True, exist_ok=True)
         net = given.net or ("10.77.0" if given.apart else "127.0.0")
-        config = vars(given) | {"net": net, "tag": "tc" + bytes(map(int, net.split("."))).hex() + "n"}
+        config = vars(given) | {"up": True, "net": net, "tag": "tc" + bytes(map(int, net.split("."))).hex() + "n"}
         config |= {"nodes": [], "place": f"file:{self.folder}/logs" if given.engine == "file" else given.engine}
         self.write("config", config)
         if given.engine in ENGINES:
             self.write("config", config | self.nodes(given.engine))
         self.networks("set -e; " + NETWORKS)
         with open(self.folder / "log", "a", encoding="utf-8") as log:
-            subprocess.Popen([sys.executable, HERE / "cluster.py", "keep", self.folder], stdin=subprocess.DEVNULL, stdout=log, stderr=log,
-                             start_new_session=True)
-        end = time.monotonic() + 120
-        while not all(self.holders(shard) for shard in range(given.shards)):
-            if time.monotonic() > end:
-                sys.exit(f"it didn't come up: {self.folder}/log says why")
-            time.sleep(0.2)
+            subprocess.Popen([*OWN, "keep", self.folder], stdin=subprocess.DEVNULL, stdout=log, stderr=log, start_new_session=True)
+        until(lambda: all(self.holders(shard) for shard in range(given.shards)), 120, f"it didn't come up: {self.folder}/log says why")
         print(f"up: {self['place']}; clients reach shard 0 at {','.join(self.addresses(0))}, and {self.folder}/pids has the processes")
 
     def commands(self):
         """Those of all processes, by their names."""
-        now = self.read()
-        found = {f"node {i}": command for i, command in enumerate(now["nodes"])}
-        for shard in map(str, range(now["shards"])):
-            found[f"snapshots {shard}"] = [sys.executable, HERE / "cluster.py", "snapshots", self.folder, shard]
-            at = self.addresses(shard)
-            for i in range(now["workers"]):
-                name = f"{shard}.{i}"
-                options = [option.rpartition(":")[2] for option in now["options"] if option.startswith(f"{name}:") or ":" not in option]
-                found[f"worker {name}"] = [*self.inside(3 + i), sys.executable, HERE / "worker.py", now["place"], shard, name,
-                                           ",".join([*at[i:], *at[:i]]), now["program"], *options]
+        found = {f"node {i}": command for i, command in enumerate(self["nodes"])}
+        for shard in map(str, range(self["shards"])):
+            found[f"snapshots {shard}"], at = [*OWN, "snapshots", self.folder, shard], self.addresses(shard)
+            for i in range(self["workers"]):
+                name, given = f"{shard}.{i}", ",".join([*at[i:], *at[:i]])
+                options = [option.rpartition(":")[2] for option in self["options"] if option.startswith(f"{name}:") or ":" not in option]
+                found[f"worker {name}"] = [*self.inside(3 + i), sys.executable, HERE / "worker.py", self["place"], shard, name, given,
+                                           self["program"], *options]
         return found
 
     def keep(self, _):
         """Starts what doesn't run, of shards that are added, too."""
-        kept, ended = {}, []
-        signal.signal(signal.SIGTERM, lambda *_: ended.append(True))
-        while not ended:
+        kept = {}
+        while self["up"]:
             for name, command in self.commands().items():
                 if name not in kept or kept[name].poll() not in (None, REFUSED, DIFFERS):
                     kept[name] = subprocess.Popen(command, stdin=subprocess.DEVNULL, stdout=subprocess.DEVNULL)
-            self.write("pids", {"keeper": os.getpid()} | {name: process.pid for name, process in kept.items()})
+            self.write("pids", {name: process.pid for name, process in kept.items()})
             time.sleep(0.3)
         for process in kept.values():
             process.kill()
@@ -140,9 +141,8 @@ class Cluster:
         (self.folder / "pids").unlink()
 
     def down(self, _):
-        os.kill(self.read("pids")["keeper"], signal.SIGTERM)
-        while (self.folder / "pids").exists():
-            time.sleep(0.1)
+        self.write("config", self.read() | {"up": False})
+        until(lambda: not (self.folder / "pids").exists(), 60, f"not all ends: {self.folder}/pids has the processes")
         self.networks(NO_NETWORKS)
 
     def shards(self, given):
@@ -162,50 +162,50 @@ class Cluster:
                       f" its clock is {ahead:.1f} ms ahead")
 
     def leader(self):
-        """The home of the node that leads, or of some node."""
+        """The node that leads, or some node."""
+        home = None
         with contextlib.suppress(Again):
-            if (home := open_log(self["place"], "steps-0").leader()) is not None:
-                return home
-        return random.randrange(3)
+            home = open_log(self["place"], "steps-0").leader()
+        return random.randrange(3) if home is None else home
 
     def faults(self):
-        """What can be done to a cluster now, by names: a signal to processes, for some seconds, or ways between homes that are cut."""
-        kill, stop = signal.SIGKILL, signal.SIGSTOP
+        """What can be done to a cluster now, by names: commands that do it, for how many seconds, and commands that undo it."""
+        pids = self.read("pids")
         workers = [name for shard in range(self["shards"]) for name in self.holders(shard)]
-        kept = [name for name in self.read("pids") if name != "keeper"]
-        found = {"a process is killed": ([random.choice(kept)], kill, 0), "workers are killed": (workers, kill, 0),
-                 "workers are stopped and wake up": (workers, stop, 4)}
+
+        def signals(number, names):
+            return [["kill", f"-{number}", str(pids[name])] for name in names]
+
+        def cuts(ways):
+            added, deleted = ([["ip", "-n", f"{self['tag']}{here}", "route", verb, "blackhole", f"{self.host(there)}/32"]
+                               for here, there in ways] for verb in ("add", "del"))
+            return added, 5, deleted
+
+        found = {"a process is killed": (signals("KILL", [random.choice([*pids])]), 0, []),
+                 "workers are killed": (signals("KILL", workers), 0, []),
+                 "workers are stopped and wake up": (signals("STOP", workers), 4, signals("CONT", workers))}
         if self["nodes"]:
-            nodes, first = [f"node {i}" for i in range(3)], self.leader()
-            found |= {"the leader is killed": ([nodes[first]], kill, 3), "the leader is stopped": ([nodes[first]], stop, 4),
-                      "all nodes are killed": (nodes, kill, 2)}
-        if self["nodes"] and self["apart"]:
-            ways = [(first, other) for other in range(3) if other != first]
-            found |= {"the leader is cut off both ways": ways + [way[::-1] for way in ways], "the leader is cut off one way": ways,
-                      "workers are cut off from the log": {(3 + int(name.rpartition(".")[2]), node) for name in workers for node in range(3)}}
+            first = self.leader()
+            leader, ways = [f"node {first}"], [(first, other) for other in range(3) if other != first]
+            found |= {"the leader is killed": (signals("KILL", leader), 3, []),
+                      "the leader is stopped": (signals("STOP", leader), 4, signals("CONT", leader)),
+                      "all nodes are killed": (signals("KILL", [f"node {i}" for i in range(3)]), 2, [])}
+            if self["apart"]:
+                homes = {3 + int(name.rpartition(".")[2]) for name in workers}
+                found |= {"the leader is cut off one way": cuts(ways),
+                          "the leader is cut off both ways": cuts(ways + [way[::-1] for way in ways]),
+                          "workers are cut off from the log": cuts([(home, node) for home in homes for node in range(3)])}
         return found
 
     def fault(self, given):
-        """One that is named, or all of them."""
+        """Does the one that is named, or says which there are."""
         if not given.more:
             return print(*self.faults(), sep="\n")
-        what = self.faults()[given.more]
-        if isinstance(what, tuple):
-            return self.signals(*what)
-        for verb, seconds in (("add", 5), ("del", 1)):
-            for here, there in what:
-                way = ["route", verb, "blackhole", f"{self.host(there)}/32"]
-                subprocess.run(["ip", "-n", f"{self['tag']}{here}", *way], check=True)
-            time.sleep(seconds)
-
-    def signals(self, names, number, seconds=0):
-        """If it stops them, it wakes them up later."""
-        for name in names:
-            with contextlib.suppress(ProcessLookupError):
-                os.kill(self.read("pids")[name], number)
-        time.sleep(seconds)
-        if number == signal.SIGSTOP:
-            self.signals(names, signal.SIGCONT)
+        does, seconds, undoes = self.faults()[given.more]
+        for commands, wait in (does, seconds), (undoes, 0):
+            for command in commands:
+                subprocess.run(command, check=command[0] == "ip")  # a process may have ended meanwhile
+            time.sleep(wait)
 
     def harm(self, given):
         """Faults at random, for so many seconds. How many there were."""
@@ -260,7 +260,7 @@ def main():
     parser.add_argument("verb", choices=["up", "demo", "fault", "status", "shards", "down", "keep", "snapshots"])
     parser.add_argument("folder")
     parser.add_argument("more", nargs="?")
-    for name, default in {"shards": 4, "workers": 2, "port": 23790, "net": "", "seconds": 30, "rate": 60, "every": 1000,
+    for name, default in {"shards": 4, "workers": 2, "net": "", "seconds": 30, "rate": 60, "every": 1000,
                           "engine": "etcd", "faults": "all", "program": f"{HERE}/../timers"}.items():
         parser.add_argument(f"--{name}", type=type(default), default=default)
     parser.add_argument("--apart", action="store_true")

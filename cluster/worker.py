@@ -171,7 +171,7 @@ class Worker(Shard):
         at = record or 1
         while self.clients.get(client) is writer:
             while at <= self.last:
-                own, said = self.recent.get(at) or told(at, await asyncio.to_thread(self.log.wait, at, 2))
+                own, said = self.recent.get(at) or told(at, await asyncio.to_thread(self.log.wait, at, 2) or b"")
                 if at == record and own != chain:
                     break
                 writer.write(b"".join(text for i, text in said[client] if i > line))
