@@ -395,6 +395,8 @@ class Server:
 
     def __exit__(self, *_):
         self.kill(signal.SIGINT if issubclass(self.kind, Postgres) else signal.SIGTERM)  # which doesn't wait for clients
+        if self.kind is RabbitMQ:
+            subprocess.run(["epmd", "-port", str(PORT + 2), "-kill"], stdout=subprocess.DEVNULL, check=False)  # its nodes' names
 
     def connected(self):
         """A connection. A server that didn't start is started again."""

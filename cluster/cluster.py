@@ -40,6 +40,14 @@ ENGINES = {
     "nats": ("http://{host}:23790", "nats://{host}:23791", """nats-server --config={here}/nats.conf --name=n{home} --store_dir={folder}/n{home}
         --addr={host} --port=23792 --http_port=23790 --cluster_name=timers --cluster=nats://{host}:23791 --routes={nodes}"""),
 }
+# A signal to some processes, or ways from their homes to those of nodes that are cut; and for how many seconds.
+FAULTS = {
+    "a process is killed": ("KILL", "any", 0), "workers are killed": ("KILL", "workers", 0),
+    "workers are stopped and wake up": ("STOP", "workers", 4), "all nodes are killed": ("KILL", "nodes", 2),
+    "the leader is killed": ("KILL", "leader", 3), "the leader is stopped": ("STOP", "leader", 4),
+    "the leader is cut off one way": ("cut", "leader", 5), "the leader is cut off both ways": ("cut both ways", "leader", 5),
+    "workers are cut off from the log": ("cut", "workers", 5),
+}
 NETWORKS = """ip link add $TAG type bridge; ip addr add $NET.254/24 dev $TAG; ip link set $TAG up
 for i in $HOMES; do
     ip netns add $TAG$i; ip link add $TAG$i type veth peer name eth0 netns $TAG$i; ip link set $TAG$i master $TAG up
@@ -161,51 +169,40 @@ class Cluster:
                 print(f"  {name} {'holds the lease' if works else 'follows'} at {address}, {max(0, last - record)} records behind;"
                       f" its clock is {ahead:.1f} ms ahead")
 
-    def leader(self):
-        """The node that leads, or some node."""
-        home = None
-        with contextlib.suppress(Again):
-            home = open_log(self["place"], "steps-0").leader()
-        return random.randrange(3) if home is None else home
-
-    def faults(self):
-        """What can be done to a cluster now, by names: commands that do it, for how many seconds, and commands that undo it."""
-        pids = self.read("pids")
-        workers = [name for shard in range(self["shards"]) for name in self.holders(shard)]
-
-        def signals(number, names):
-            return [["kill", f"-{number}", str(pids[name])] for name in names]
-
-        def cuts(ways):
-            added, deleted = ([["ip", "-n", f"{self['tag']}{here}", "route", verb, "blackhole", f"{self.host(there)}/32"]
-                               for here, there in ways] for verb in ("add", "del"))
-            return added, 5, deleted
-
-        found = {"a process is killed": (signals("KILL", [random.choice([*pids])]), 0, []),
-                 "workers are killed": (signals("KILL", workers), 0, []),
-                 "workers are stopped and wake up": (signals("STOP", workers), 4, signals("CONT", workers))}
-        if self["nodes"]:
-            first = self.leader()
-            leader, ways = [f"node {first}"], [(first, other) for other in range(3) if other != first]
-            found |= {"the leader is killed": (signals("KILL", leader), 3, []),
-                      "the leader is stopped": (signals("STOP", leader), 4, signals("CONT", leader)),
-                      "all nodes are killed": (signals("KILL", [f"node {i}" for i in range(3)]), 2, [])}
-            if self["apart"]:
-                homes = {3 + int(name.rpartition(".")[2]) for name in workers}
-                found |= {"the leader is cut off one way": cuts(ways),
-                          "the leader is cut off both ways": cuts(ways + [way[::-1] for way in ways]),
-                          "workers are cut off from the log": cuts([(home, node) for home in homes for node in range(3)])}
-        return found
+    def those(self, who):
+        """Names of processes. If no node says that it leads, any may."""
+        if who == "leader":
+            with contextlib.suppress(Again):
+                return [f"node {open_log(self['place'], 'steps-0').leader()}"]
+        if who == "workers":
+            return [name for shard in range(self["shards"]) for name in self.holders(shard)]
+        nodes = [f"node {i}" for i in range(3)]
+        return nodes if who == "nodes" else [random.choice(nodes if who == "leader" else [*self.read("pids")])]
 
     def fault(self, given):
-        """Does the one that is named, or says which there are."""
+        """Does the one that is named, or says which can be done here."""
         if not given.more:
             return print(*self.faults(), sep="\n")
-        does, seconds, undoes = self.faults()[given.more]
-        for commands, wait in (does, seconds), (undoes, 0):
+        what, who, seconds = FAULTS[given.more]
+        names, pids = self.those(who), self.read("pids")
+        if not what.startswith("cut"):
+            does, undoes = ([["kill", f"-{number}", str(pids[name])] for name in names] for number in (what, "CONT"))
+        else:
+            homes = {int(name[-1]) + 3 * name.startswith("worker") for name in names}
+            ways = [(here, there) for here in homes for there in range(3) if here != there]
+            ways += [way[::-1] for way in ways if what == "cut both ways"]
+            does, undoes = ([["ip", "-n", f"{self['tag']}{here}", "route", verb, "blackhole", f"{self.host(there)}/32"]
+                             for here, there in ways] for verb in ("add", "del"))
+        for commands, wait in (does, seconds), (undoes if what != "KILL" else [], 0):
             for command in commands:
                 subprocess.run(command, check=command[0] == "ip")  # a process may have ended meanwhile
             time.sleep(wait)
+
+    def faults(self):
+        """What can be done to this cluster."""
+        has_nodes, can_cut = bool(self["nodes"]), bool(self["nodes"] and self["apart"])
+        return [name for name, (what, who, _) in FAULTS.items()
+                if (can_cut or not what.startswith("cut")) and (has_nodes or who in ("any", "workers"))]
 
     def harm(self, given):
         """Faults at random, for so many seconds. How many there were."""

@@ -140,12 +140,13 @@ class Etcd(Log):
         self.ask("deleterange", self.span(0, upto + 1))
 
     def leader(self):
-        """Which of the servers it is; None if none says so."""
+        """Which of the servers it is."""
         for i, url in enumerate(self.urls):
             with contextlib.suppress(*self.errors):
                 said = answer_of(server_at(url), "/v3/maintenance/status", {"": 0})
                 if said.get("leader") == said["header"]["member_id"]:
                     return i
+        raise Again("no leader")
 
 
 class Sql(Log):

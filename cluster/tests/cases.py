@@ -35,7 +35,6 @@ from worker import OPTIONS, GivesUp, Worker, are_requests
 
 CASES, SIDE_BY_SIDE = {}, 8
 PROGRAM, FOLDER, NETS = os.environ["TIMERS"], tempfile.mkdtemp(), itertools.count(os.getpid() % 200 * 250)
-RIGHT = "\n0 lost, 0 doubled, 0 early, 0 out of order\n"
 atexit.register(shutil.rmtree, FOLDER, ignore_errors=True)
 
 
@@ -48,36 +47,29 @@ def own_net(apart=False):
     return f"10.77.{number % 250}" if apart else f"127.{20 + number // 250}.{number % 250}"
 
 
+@contextlib.contextmanager
+def a_cluster(engine, *options, more=()):
+    """One with one shard, whose workers have these options."""
+    cluster = Case(tempfile.mkdtemp(dir=FOLDER))
+    given = ["--program", PROGRAM, "--engine", engine, "--shards", "1", "--net", own_net("--apart" in more), *more]
+    try:
+        status, said = cluster.says("up", *given, "--options", "lease=2000", "bound=2000", *options)
+        assert status == 0, said
+        yield cluster
+    finally:
+        cluster.says("down")
+
+
 class Case(Cluster):
-    """A cluster of its own, with one shard, whose workers have these options."""
-
-    def __init__(self, engine, *options, more=()):
-        super().__init__(tempfile.mkdtemp(dir=FOLDER))
-        self.given = ["--program", PROGRAM, "--engine", engine, "--shards", "1", "--net", own_net("--apart" in more), *more]
-        self.given += ["--options", "lease=2000", "bound=2000", *options]
-
-    def __enter__(self):
-        try:
-            assert not self.says("up", *self.given)[0]
-        except BaseException:
-            self.says("down")
-            raise
-        return self
-
-    def __exit__(self, *_):
-        self.says("down")
-
     def says(self, verb, *words):
         """Its status, and what it printed."""
-        done = subprocess.run([sys.executable, HERE / "cluster.py", verb, self.folder, *words], stdout=-1, stderr=-2, text=True, timeout=600)
+        command = [sys.executable, HERE / "cluster.py", verb, self.folder, *words]
+        done = subprocess.run(command, stdout=subprocess.PIPE, stderr=subprocess.STDOUT, text=True, timeout=600, check=False)
         return done.returncode, done.stdout
 
-    def demo(self, fault, *more):
-        return self.says("demo", "--seconds", "1", "--faults", fault, *more)
-
     def stands(self, fault, *more):
-        status, said = self.demo(fault, *more)
-        assert status == 0 and said.endswith(RIGHT), said
+        status, said = self.says("demo", "--seconds", "1", "--faults", fault, *more)
+        assert status == 0 and said.endswith("\n0 lost, 0 doubled, 0 early, 0 out of order\n"), said
 
     def client(self, *given, **more):
         return Client(",".join(self.addresses(0)), "0", *given, **more)
@@ -159,12 +151,10 @@ DIFFERENCES = {
 
 def log_of(records, breaks=False):
     """The place of the log of a shard 0 with these records after its first one."""
-    place, chain = f"file:{tempfile.mkdtemp(dir=FOLDER)}", NO_CHAIN
-    log = open_log(place, "steps-0")
+    place, record = f"file:{tempfile.mkdtemp(dir=FOLDER)}", NO_CHAIN
     for last, body in enumerate([b"genesis 0 10 100\n", *records]):
-        record = sealed(chain, body)
-        assert log.append(last, record)
-        chain = b"1" * 16 if breaks else record[:16]
+        record = sealed(b"1" * 16 if breaks and last else record[:16], body)
+        assert open_log(place, "steps-0").append(last, record)
     return place
 
 
@@ -212,10 +202,14 @@ def servers():
     for place, said, right in [("nats", {"version": "2.9.10", "jetstream": {"config": always}}, "which is before 2.10"),
                                ("nats", {"version": "2.10.27", "jetstream": {"config": {}}}, "lacks sync_interval: always"),
                                ("nats", {"version": "2.10.27", "port": 1, "jetstream": {"config": always}}, "('host', 1)"),
-                               ("etcd", {"header": {"member_id": "1"}}, "None")]:
+                               ("etcd", {"header": {"member_id": "1"}}, "no leader")]:
+        log = open_log(f"{place}:http://host:8222", "any")
         with mock.patch("logs.answer_of", lambda *_, said=said: said):
-            found = said_of(f"{place}:http://host:8222", lambda log, *_: log.leader() if "header" in said else log.checked(log.where))
-            assert right in str(found), found
+            try:
+                found = log.leader() if place == "etcd" else log.checked(log.where)
+            except (Refused, Again) as why:
+                found = why
+        assert right in str(found), found
 
 
 @case
@@ -224,7 +218,7 @@ def places():
     a shard is added"""
     for bad in (b"tick 5\n", b"start 0 1 1\n", b"start 0 01 1 1\n", b"stop 0 1 1152921504606846976\n", b"stop 0 1 1"):
         assert are_requests(b"stop 0 1 1\n") and not are_requests(b"stop 0 1 1\n" + bad)
-    with Case("file", more=["--every", "50"]) as cluster:
+    with a_cluster("file", more=["--every", "50"]) as cluster:
         host, port = until(lambda: [at for at in cluster.addresses(0) if (said := said_by(at)) and said[0]])[0].split(":")
         for said in (b"tick 5\n", b"x" * 200):
             with socket.create_connection((host, int(port))) as connection:
@@ -246,7 +240,7 @@ def places():
 @case
 def many():
     """over a file two have one number, more expire than a record has room for, and workers are killed"""
-    with Case("file") as cluster:
+    with a_cluster("file") as cluster:
         count, heard, end = 10000, collections.Counter(), time.monotonic() + 180
         client, other = cluster.client(7, window=count), cluster.client(7)
         assert all(client.start(300 + i % 3, i) for i in range(count)) and other.start(300, 7)
@@ -268,7 +262,7 @@ def full_disk():
     if subprocess.run(["mount", "-t", "tmpfs", "-o", "size=1m", "tmpfs", small], check=False).returncode:
         raise SkipTest("no small disk can be mounted")
     try:
-        with Case(f"file:{small}") as cluster, concurrent.futures.ThreadPoolExecutor() as pool:
+        with a_cluster(f"file:{small}") as cluster, concurrent.futures.ThreadPoolExecutor() as pool:
             demo = pool.submit(cluster.stands, "none", "--seconds", "8", "--rate", "600")
             until(lambda: os.statvfs(small).f_bavail == 0)
             time.sleep(2)
@@ -281,7 +275,7 @@ def full_disk():
 @case
 def no_fence():
     """over a file without the fence, both workers work in the end, and timers are doubled"""
-    with Case("file", "fence=0") as cluster:
+    with a_cluster("file", "fence=0") as cluster:
         client, model = cluster.client(0, window=10**6), Model(cluster["place"], "0")
 
         def doubled():
@@ -319,7 +313,7 @@ def stands(engine, faults, options, more=(), logs="", logs_no=" no such worker "
         os.environ["PATH"] = f"{nats_server([2, 10], [9])}:{os.environ['PATH']}"
     if "--apart" in more and (not shutil.which("ip") or subprocess.run(["unshare", "-n", "true"], stderr=-3, check=False).returncode):
         raise SkipTest("network namespaces need iproute2, and root")
-    with Case(engine, *options, more=more) as cluster:
+    with a_cluster(engine, *options, more=more) as cluster:
         said_of(cluster["place"], keeps_promises)
         for fault in faults:
             cluster.stands(fault)
@@ -373,27 +367,17 @@ def old_nats():
             server.terminate()
 
 
-def outcome(title):
-    """None, or why it didn't pass."""
-    try:
-        return CASES[title]()
-    except SkipTest as why:
-        return why
-    except Exception:
-        return traceback.format_exc()
-
-
 def main():
     played = pathlib.Path(os.environ.pop("PLAYED", os.devnull))
     known = played.read_text().splitlines()  # no test is played twice
     titles = [title for title in CASES if re.search("".join(sys.argv[1:]), title) and f"cluster: {title}" not in known]
     with concurrent.futures.ThreadPoolExecutor(SIDE_BY_SIDE) as pool:
-        running = {pool.submit(outcome, title): title for title in titles}
+        running = {pool.submit(CASES[title]): title for title in titles}
         for each in concurrent.futures.as_completed(running):
-            if isinstance(each.result(), SkipTest):
-                counts.skip(running[each], each.result())
+            if isinstance(why := each.exception(), SkipTest):
+                counts.skip(running[each], why)
             else:
-                counts.see(each.result() is None, running[each], each.result())
+                counts.see(not why, running[each], "".join(traceback.format_exception(why)))
     played.write_text("".join(f"{line}\n" for line in [*known, *(f"cluster: {title}" for title in titles)]))
     counts.finish()
 
