@@ -159,7 +159,7 @@ def lates(of):
 
 
 def late(given, shards_of):
-    for engine, shards in [("etcd", shards) for shards in shards_of] + [("file", 4)]:
+    for engine, shards in [("etcd", shards) for shards in (1, *shards_of)] + [("file", 1), ("file", 4)]:
         with Own(given, shards, engine) as cluster:
             of = [sorted(sum(cluster.of_each_shard(lateness, number, 500, given.seconds), [])) for number in range(given.repeats)]
             yield [title(engine, shards), *lates(of)]
@@ -459,7 +459,7 @@ def peer_lateness(kind, given, intervals):
 
 
 def peers_late(given, _):
-    for name, kind in peers_of(given):
+    for name, kind in [(name, kind) for name, kind in peers_of(given) if kind is not Postgres]:
         yield [name, *lates([peer_lateness(kind, given, range(200, 2200)) for _ in range(given.repeats)])]
     if kind is RabbitMQ:
         yield [f"{name}, all of 1.2 s", *lates([peer_lateness(kind, given, [1200]) for _ in range(given.repeats)])]

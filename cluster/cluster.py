@@ -1,9 +1,9 @@
 """timers-cluster   a cluster of timers on one machine
 
-    up FOLDER [--shards 4] [--workers 2] [--engine etcd] [--apart]    starts three nodes of etcd or nats, workers and followers (an engine
-                       may be `file` or a PLACE, too; with --apart root gives nodes and workers networks of their own)
-    demo FOLDER [--seconds 30] [--rate 60] [--faults NAME,..]    clients ask, each so often a second, and there are faults (all, unless
-                       some are named; `none`: do what you like. A rate of 100000 is as much as the cluster takes)
+    up FOLDER [--shards 4] [--workers 2] [--engine etcd] [--apart]    starts three nodes of etcd or nats, workers and followers
+                       (an engine may be `file` or a PLACE, too; by root with --apart, nodes and workers have own networks)
+    demo FOLDER [--seconds 30] [--rate 60] [--faults NAME,..]    clients ask, each so often a second, and there are faults
+                       (all, or those that are named; `none`: do what you like. A rate of 100000 is as much as it takes)
     fault FOLDER [NAME]    what can be done to this cluster, or does it
     status FOLDER      shards, leases, how far each follower is behind, clocks
     shards FOLDER N    from now on new timers go to N shards (timers_shard); those that were started stay where they are
@@ -37,8 +37,9 @@ ENGINES = {
         --listen-peer-urls=http://{host}:23791 --initial-advertise-peer-urls=http://{host}:23791
         --heartbeat-interval=200 --election-timeout=2000 --quota-backend-bytes=8589934592
         --auto-compaction-mode=revision --auto-compaction-retention=1000"""),
-    "nats": ("http://{host}:23790", "nats://{host}:23791", """nats-server --config={here}/nats.conf --name=n{home} --store_dir={folder}/n{home}
-        --addr={host} --port=23792 --http_port=23790 --cluster_name=timers --cluster=nats://{host}:23791 --routes={nodes}"""),
+    "nats": ("http://{host}:23790", "nats://{host}:23791", """nats-server --config={here}/nats.conf --name=n{home}
+        --store_dir={folder}/n{home} --addr={host} --port=23792 --http_port=23790
+        --cluster_name=timers --cluster=nats://{host}:23791 --routes={nodes}"""),
 }
 # A signal to some processes, or ways from their homes to those of nodes that are cut; and for how many seconds.
 FAULTS = {
@@ -106,21 +107,22 @@ class Cluster:
 
         at, name, command = ENGINES[engine]
         words = zip(*(each(word, nodes=",".join(each(name))) for word in command.split()))
-        return {"nodes": [[*self.inside(i), *command] for i, command in enumerate(words)], "place": f"{engine}:{','.join(each(at))}"}
+        return [[*self.inside(i), *command] for i, command in enumerate(words)], f"{engine}:{','.join(each(at))}"
 
     def up(self, given):
         self.folder.mkdir(parents=True, exist_ok=True)
         net = given.net or ("10.77.0" if given.apart else "127.0.0")
-        config = vars(given) | {"up": True, "net": net, "tag": "tc" + bytes(map(int, net.split("."))).hex() + "n"}
-        config |= {"nodes": [], "place": f"file:{self.folder}/logs" if given.engine == "file" else given.engine}
-        self.write("config", config)
+        self.write("config", vars(given) | {"up": True, "net": net, "tag": "tc" + bytes(map(int, net.split("."))).hex() + "n"})
+        nodes, place = [], f"file:{self.folder}/logs" if given.engine == "file" else given.engine
         if given.engine in ENGINES:
-            self.write("config", config | self.nodes(given.engine))
+            nodes, place = self.nodes(given.engine)
+        self.write("config", self.read() | {"nodes": nodes, "place": place})
         self.networks("set -e; " + NETWORKS)
         with open(self.folder / "log", "a", encoding="utf-8") as log:
-            subprocess.Popen([*OWN, "keep", self.folder], stdin=subprocess.DEVNULL, stdout=log, stderr=log, start_new_session=True)
-        until(lambda: all(self.holders(shard) for shard in range(given.shards)), 120, f"it didn't come up: {self.folder}/log says why")
-        print(f"up: {self['place']}; clients reach shard 0 at {','.join(self.addresses(0))}, and {self.folder}/pids has the processes")
+            keeper = [*OWN, "keep", self.folder]
+            subprocess.Popen(keeper, stdin=subprocess.DEVNULL, stdout=log, stderr=log, start_new_session=True)
+        until(lambda: all(map(self.holders, range(given.shards))), 120, f"it didn't come up: {self.folder}/log says why")
+        print(f"up: {place}; clients reach shard 0 at {','.join(self.addresses(0))}, and {self.folder}/pids has the processes")
 
     def commands(self):
         """Those of all processes, by their names."""
@@ -128,10 +130,10 @@ class Cluster:
         for shard in map(str, range(self["shards"])):
             found[f"snapshots {shard}"], at = [*OWN, "snapshots", self.folder, shard], self.addresses(shard)
             for i in range(self["workers"]):
-                name, given = f"{shard}.{i}", ",".join([*at[i:], *at[:i]])
-                options = [option.rpartition(":")[2] for option in self["options"] if option.startswith(f"{name}:") or ":" not in option]
-                found[f"worker {name}"] = [*self.inside(3 + i), sys.executable, HERE / "worker.py", self["place"], shard, name, given,
-                                           self["program"], *options]
+                name, own_first = f"{shard}.{i}", ",".join([*at[i:], *at[:i]])
+                options = [option.rpartition(":")[2] for option in self["options"] if option.split(":")[:-1] in ([], [name])]
+                worker = HERE / "worker.py", self["place"], shard, name, own_first, self["program"]
+                found[f"worker {name}"] = [*self.inside(3 + i), sys.executable, *worker, *options]
         return found
 
     def keep(self, _):
@@ -166,8 +168,8 @@ class Cluster:
             print(f"shard {shard}: record {last}")
             for address in self.addresses(shard):
                 works, name, record, ahead = said_by(address) or (False, "nobody", 0, 0)
-                print(f"  {name} {'holds the lease' if works else 'follows'} at {address}, {max(0, last - record)} records behind;"
-                      f" its clock is {ahead:.1f} ms ahead")
+                what = "holds the lease" if works else "follows"
+                print(f"  {name} {what} at {address}, {max(0, last - record)} records behind; its clock is {ahead:.1f} ms ahead")
 
     def those(self, who):
         """Names of processes. If no node says that it leads, any may."""
@@ -220,7 +222,8 @@ class Cluster:
     def demo(self, given):
         begun, ended = time.monotonic(), threading.Event()
         models = [Model(self["place"], str(shard)) for shard in range(self["shards"])]
-        loads = [[Load(",".join(self.addresses(model.shard)), model.shard, i, ended, given.rate) for i in (0, 1)] for model in models]
+        opens = [[(",".join(self.addresses(model.shard)), model.shard, client) for client in (0, 1)] for model in models]
+        loads = [[Load(each, ended, given) for each in of_shard] for of_shard in opens]
         with concurrent.futures.ThreadPoolExecutor(len(models)) as pool:
             judged = pool.map(Model.judged, models, loads)
             try:
@@ -237,8 +240,8 @@ class Cluster:
         return bool(wrong)
 
     def snapshots(self, given):
-        """Two followers of a shard, over different wheels. Every so many records each says its state. If both say the same, that is a
-        snapshot, and the log is cut up to the one before. Who was away for so long that it meets the cut ends, and begins anew."""
+        """Two followers of a shard, over different wheels. Every so many records each says its state. If both say the same, that
+        is a snapshot, and the log is cut up to the one before. Who was away for so long that it meets the cut begins anew."""
         every = self["every"]
         one, other = (Shard(self["place"], given.more, self["program"], scheme) for scheme in ("hier", "hashed"))
         while True:
@@ -257,7 +260,7 @@ def main():
     parser.add_argument("verb", choices=["up", "demo", "fault", "status", "shards", "down", "keep", "snapshots"])
     parser.add_argument("folder")
     parser.add_argument("more", nargs="?")
-    for name, default in {"shards": 4, "workers": 2, "net": "", "seconds": 30, "rate": 60, "every": 1000,
+    for name, default in {"shards": 4, "workers": 2, "net": "", "seconds": 30, "rate": 60, "patience": 180, "every": 1000,
                           "engine": "etcd", "faults": "all", "program": f"{HERE}/../timers"}.items():
         parser.add_argument(f"--{name}", type=type(default), default=default)
     parser.add_argument("--apart", action="store_true")

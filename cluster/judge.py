@@ -13,12 +13,12 @@ LAST = 2**60 - 1
 
 
 class Load(threading.Thread):
-    """A client that asks at random until the event `ended`, and then waits until all its timers are gone. At any time it may end, with
-    requests under way, and go on after the last line that it has read."""
+    """A client that asks at random until the event `ended`, and then waits until all its timers are gone. At any time it may end,
+    with requests under way, and go on after the last line that it has read."""
 
-    def __init__(self, workers, shard, client, ended, rate):
+    def __init__(self, opens, ended, given):
         super().__init__(daemon=True)
-        self.opens, self.number, self.ended, self.rate = (workers, shard, client), client, ended, rate
+        self.opens, self.ended, self.rate, self.left = opens, ended, given.rate, given.patience  # seconds after the end
         self.said, self.lines, self.pending, self.asked, self.answers = "stuck", [], set(), 0, 0
         self.start()
 
@@ -48,9 +48,10 @@ class Load(threading.Thread):
 
     def run(self):
         self.begins()
-        begun, left = time.monotonic(), 180  # seconds after the end
-        while left > 0 and (self.pending or self.client.waiting() or not self.ended.is_set()):
-            while not self.ended.is_set() and self.asked < (time.monotonic() - begun) * self.rate and self.client.waiting() < 1000:
+        begun = time.monotonic()
+        while self.left > 0 and (self.pending or self.client.waiting() or not self.ended.is_set()):
+            due = 0 if self.ended.is_set() else (time.monotonic() - begun) * self.rate
+            while self.asked < due and self.client.waiting() < 1000:
                 self.ask()
             line = self.client.next(0.02)
             if line.said in (CUT, WRONG):
@@ -58,9 +59,9 @@ class Load(threading.Thread):
                 break
             if line.said != NOTHING:
                 self.hear(*line)
-            left -= 0.02 * (line.said == NOTHING and self.ended.is_set())
+            self.left -= 0.02 * (line.said == NOTHING and self.ended.is_set())
         else:
-            self.said = "done" if left > 0 else self.said
+            self.said = "done" if self.left > 0 else self.said
         self.client.close()
 
 
@@ -143,5 +144,5 @@ class Model(Follower):
         for load in loads:
             self.wrong[f"client that is {load.said}"] += load.said != "done"
             self.wrong["requests without one answer"] += abs(load.asked - load.answers)
-            self.wrong["client that saw other lines"] += load.lines != self.lines[load.number][-len(load.lines):]
+            self.wrong["client that saw other lines"] += load.lines != self.lines[load.opens[2]][-len(load.lines):]
         return +self.wrong

@@ -1,7 +1,7 @@
-"""Logs: records of at most 1,000,000 bytes, numbered from 1, that an engine keeps. A log is one list, which only grows at its end.
+"""Logs: records of at most 1,000,000 bytes, numbered from 1, that an engine keeps. A log is a list that only grows at its end.
 
-A cluster needs four calls of an engine: which record is the last, read one, append if the last one is L, and cut off what a snapshot has.
-That append is atomic, in the log's own order: of all that append after L one is accepted."""
+A cluster needs four calls of an engine: which record is the last, read one, append if the last one is L, and cut off what a
+snapshot has. That append is atomic, in the log's own order: of all that append after L one is accepted."""
 import base64
 import contextlib
 import http.client
@@ -30,8 +30,8 @@ class Refused(Exception):
 
 
 class Log:
-    """What all engines share. Each has `connect`; `last`, 0 if the log is empty; `fetch`, at most 16 records from a number on, with their
-    numbers; `append`, which says whether the record stands there; and `delete`."""
+    """What all engines share. Each has `connect`; `last`, 0 if the log is empty; `fetch`, at most 16 records from a number on,
+    with their numbers; `append`, which says whether the record stands there; and `delete`."""
     connection, errors = None, (OSError, ValueError, http.client.HTTPException)
     ahead = {}  # what was fetched, and not read yet: records don't change
 
@@ -59,7 +59,7 @@ class Log:
         return record
 
     def wait(self, at, seconds):
-        """Reads a record, and waits for it: None if it doesn't come in time. What an engine would report by itself is lost with its node."""
+        """Waits for a record: None if it doesn't come in time. What an engine would report by itself is lost with its node."""
         end, pause = time.monotonic() + seconds, 0.002
         while True:
             with contextlib.suppress(Again):
@@ -98,8 +98,8 @@ def answer_of(server, path, asked=None):
 
 
 class Etcd(Log):
-    """Through etcd's JSON gateway: record N is the key timers/NAME/N, N in 16 hexadecimal digits. Reads are linearizable, so a node that is
-    cut off from the others gives no answer. Then the next one is asked."""
+    """Through etcd's JSON gateway: record N is the key timers/NAME/N, N in 16 hexadecimal digits. Reads are linearizable, so a
+    node that is cut off from the others gives no answer. Then the next one is asked."""
 
     def __init__(self, where, name):
         super().__init__(where, name)
@@ -201,17 +201,18 @@ class Postgres(Sql):
         base.autocommit = True
         with base.cursor() as cursor:
             cursor.execute(self.TABLE)
-            cursor.execute("select name from pg_settings where setting = 'off' and name in ('fsync', 'full_page_writes', 'synchronous_commit')")
+            cursor.execute("""select name from pg_settings where setting = 'off'
+                and name in ('fsync', 'full_page_writes', 'synchronous_commit')""")
             for name, in cursor:
                 raise Refused(f"{name} is off: what is committed may be lost")
         return base
 
 
 class Nats(Log):
-    """The messages of the JetStream stream timers-NAME, over NATS' own lines. An append is a publish that expects L as the last sequence.
+    """The messages of the JetStream stream timers-NAME, over NATS' own lines. An append is a publish that expects L to be last.
 
-    Refused: a server before 2.10, whose replicas of one stream came to hold different messages when it was paused or killed, and one that
-    acknowledges before it syncs. Both are read from the /varz of each server that answers."""
+    Refused: a server before 2.10, whose replicas of one stream came to hold different messages when it was paused or killed, and
+    one that acknowledges before it syncs. Both are read from the /varz of each server that answers."""
     MISSING, WRONG_LAST = 10037, 10071  # errors of JetStream
     inbox, asked = b"_INBOX.%b" % os.urandom(8).hex().encode(), itertools.count()
 

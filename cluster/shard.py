@@ -82,8 +82,8 @@ class Shard(Follower):
                                           stdin=subprocess.PIPE, stdout=subprocess.PIPE)
 
     def play(self, text, requests=0):
-        """The answers to lines. They have come when each request has its own, and then a line said when to wake up, which may come
-        once for several lines. The child reads no more while nobody reads its answers, so a thread writes."""
+        """The answers to lines. They have come when each request has its own, and then a line said when to wake up, which may
+        come once for several lines. The child reads no more while nobody reads its answers, so a thread writes."""
         answers, pipe = [], self.child.stdin
         threading.Thread(target=lambda: (pipe.write(text), pipe.flush()), daemon=True).start()
         while line := self.child.stdout.readline():
@@ -106,7 +106,8 @@ class Shard(Follower):
         """Compares its answers with the child's."""
         self.advance(step.tick)
         expired, self.owed = self.owed[:len(step.expired)], self.owed[len(step.expired):]
-        if expired != step.expired or (self.owed and len(expired) < EXPIRED_MOST) or self.answers_to(step.requests) != step.answers:
+        is_all = not self.owed or len(expired) == EXPIRED_MOST
+        if expired != step.expired or not is_all or self.answers_to(step.requests) != step.answers:
             self.differs("other answers")
 
     def state(self):
@@ -139,8 +140,8 @@ def keep_snapshot(shard, lines, before):
 
 
 def said_by(address):
-    """What a worker says of itself: whether it works, its name and its last record, and by how many ms its clock is ahead of ours. The
-    ways there and back are taken to be the same, as by NTP."""
+    """What a worker says of itself: whether it works, its name and last record, and by how many ms its clock is ahead of ours.
+    The ways there and back are taken to be the same, as by NTP."""
     host, port = address.rsplit(":", 1)
     with contextlib.suppress(OSError, ValueError), socket.create_connection((host, int(port)), 0.5) as connection:
         before = time.time()

@@ -23,8 +23,8 @@ def shard_of(key, shards):
 
 
 class Client:
-    """A client of one shard, with the calls start, stop, restart and waiting. `place` is that of the last line that was acted on, or
-    None."""
+    """A client of one shard, with the calls start, stop, restart, waiting and close. `place` is that of the last line that was
+    acted on, or None."""
 
     def __init__(self, workers, shard, client, place=None, window=1000):
         given = workers.encode(), shard.encode(), _NUMBER(client), _PLACE(*place) if place else None, _NUMBER(window)

@@ -51,7 +51,7 @@ class Worker(Shard):
         self.options, self.lease, self.shard, self.written = options, options["lease"] / 1000, shard, 0
         self.name, (self.address, *self.others) = f"{name}-{os.urandom(4).hex()}", addresses.split(",")
         self.heard, self.working = elapsed(), False
-        self.clients, self.recent, self.asked = {}, {}, []  # connections by numbers; what they are told; what they asked for since
+        self.clients, self.recent, self.asked = {}, {}, []  # connections by numbers, what they are told, and what they asked for
         super().__init__(place, shard, program)
 
     def wall(self):
@@ -63,8 +63,8 @@ class Worker(Shard):
         return 2 * sum(ms > self.options["bound"] for ms in apart) > len(apart)
 
     async def follow_until_it_is_free(self):
-        """The lease is held by who appends, four times in it or oftener. It decides who works, and never what is true: two that hold it at
-        once are slow, not wrong. Nothing is known of those that were there before us, so we wait for as long."""
+        """The lease is held by who appends, four times in it or oftener. It decides who works, and never what is true: two that
+        hold it at once are slow, not wrong. Nothing is known of those that were there before us, so we wait for as long."""
         while True:
             while record := await asyncio.to_thread(self.log.wait, self.last + 1, 0.03):
                 self.follow(record)
@@ -138,8 +138,8 @@ class Worker(Shard):
         return int(text.split(None, 2)[1]), text.split(None, 3)[2], int(number[1]) if number else 0
 
     async def serve(self, reader, writer):
-        """A client says which shard it means, which client it is, and after which line of which record it goes on: 0 is after the latest
-        snapshot. Whoever was this client before is told no more. Others ask for our clock."""
+        """A client says which shard it means, which client it is, and after which line of which record it goes on: 0 is after the
+        latest snapshot. Whoever was this client before is told no more. Others ask for our clock."""
         try:
             said = (await reader.readline()).split()
             if said == [b"clock"]:
