@@ -123,16 +123,18 @@ def refused(place):
 @case
 def told():
     """a client compares an answer's deadline and action with what it asked for, and asks for no more than its window"""
-    for said, line in [(ANSWER, b"start 0 1 10 7>started 0 1 1 15"), (FOREIGN, b"start 0 1 10 8>started 0 1 1 15"),
-                       (WRONG, b"start 0 1 10 7>started 0 1 1 16"), (WRONG, b"start 0 2 10 7>started 0 2 1 15"),
+    for said, line in [(ANSWER, b"start 0 2 10 7>started 0 2 1 15"), (FOREIGN, b"start 0 2 10 8>started 0 2 1 15"),
+                       (WRONG, b"start 0 2 10 7>started 0 2 1 16"), (WRONG, b"start 0 3 10 7>started 0 3 1 15"),
                        (EXPIRED, b">expired 5 0 1 7"), (CUT, b"cut"), (WRONG, b"another shard"), (WRONG, b"another past")]:
         with socket.create_server(("127.0.0.1", 0)) as server:
             client = Client(f"127.0.0.1:{server.getsockname()[1]}", "0", 0, window=1)
             assert not client.start(1, 1 << 60) and not client.stop(1 << 60) and not client.restart(1, 1 << 60, 1)
             assert client.start(10, 7) and not client.start(10, 7) and client.next(0).said == NOTHING
             with server.accept()[0] as connection:
-                connection.sendall(b"from 0 0 %s 0\nhere 1 9 %s 0\n" % (NO_CHAIN, NO_CHAIN))
-                assert client.next(0.2).said == NOTHING and connection.recv(200).endswith(b"start 0 1 10 7\n")
+                # What an earlier life asked for is no answer to what this one hasn't sent.
+                connection.sendall(b"from 0 0 0 0\nsaid 1 1 1 5 start 0 1 10 7>started 0 1 1 15\nhere 1 9 1 0\n")
+                assert until(lambda: client.next(0.1).said) == FOREIGN and client.next(0.2).said == NOTHING
+                assert connection.recv(200).endswith(b"\nstart 0 2 10 7\n")
                 connection.sendall(b"said 2 1 1 5 " * (b">" in line) + line + b"\n")
                 assert until(lambda: client.next(0.1).said) == said, line
     assert {shard_of(str(key), 4) for key in range(100)} == {0, 1, 2, 3}
