@@ -214,15 +214,15 @@ class Nats(Log):
     Refused: a server before 2.10, whose replicas of one stream came to hold different messages when it was paused or killed, and
     one that acknowledges before it syncs. Both are read from the /varz of each server that answers."""
     MISSING, WRONG_LAST = 10037, 10071  # errors of JetStream
-    inbox, asked = b"_INBOX.%b" % os.urandom(8).hex().encode(), itertools.count()
+    asked = itertools.count()
 
     def connect(self):
         monitors = self.where.split(",")
         servers = [server for server in map(self.checked, monitors) if server]
         if 2 * len(servers) <= len(monitors):
             raise OSError("most servers don't answer")
-        peer = socket.create_connection(random.choice(servers), 2).makefile("rwb")
-        peer.write(b'CONNECT {"verbose":false,"headers":true,"no_responders":true}\r\nSUB %b.* 1\r\n' % self.inbox)
+        peer, self.inbox = socket.create_connection(random.choice(servers), 2).makefile("rwb"), os.urandom(8).hex().encode()
+        peer.write(b'CONNECT {"verbose":false,"headers":true,"no_responders":true}\r\nSUB _INBOX.%b.* 1\r\n' % self.inbox)
         replicas = {"storage": "file", "num_replicas": 3 if len(monitors) > 2 else 1}
         stream = {"name": f"timers-{self.name}", "subjects": [f"timers.{self.name}"]} | replicas
         self.exchange(peer, f"$JS.API.STREAM.CREATE.timers-{self.name}", json.dumps(stream).encode())
@@ -240,7 +240,7 @@ class Nats(Log):
 
     def exchange(self, peer, subject, body, header=b""):
         """What is answered, with its error's number. Each request has an inbox of its own, since two servers may answer one."""
-        head, inbox = b"NATS/1.0\r\n%b\r\n" % header, b"%b.%d" % (self.inbox, next(self.asked))
+        head, inbox = b"NATS/1.0\r\n%b\r\n" % header, b"_INBOX.%b.%d" % (self.inbox, next(self.asked))
         sizes = len(head), len(head) + len(body)
         peer.write(b"HPUB %b %b %d %d\r\n%b%b\r\n" % (subject.encode(), inbox, *sizes, head, body))
         peer.flush()
