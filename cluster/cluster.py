@@ -17,6 +17,7 @@ import json
 import os
 import pathlib
 import random
+import signal
 import subprocess
 import sys
 import threading
@@ -186,19 +187,25 @@ class Cluster:
         if not given.more:
             return print(*self.faults(), sep="\n")
         what, who, seconds = FAULTS[given.more]
-        names, pids = self.those(who), self.read("pids")
-        if not what.startswith("cut"):
-            does, undoes = ([["kill", f"-{number}", str(pids[name])] for name in names] for number in (what, "CONT"))
-        else:
-            homes = {int(name[-1]) + 3 * name.startswith("worker") for name in names}
-            ways = [(here, there) for here in homes for there in range(3) if here != there]
-            ways += [way[::-1] for way in ways if what == "cut both ways"]
-            does, undoes = ([["ip", "-n", f"{self['tag']}{here}", "route", verb, "blackhole", f"{self.host(there)}/32"]
-                             for here, there in ways] for verb in ("add", "del"))
-        for commands, wait in (does, seconds), (undoes if what != "KILL" else [], 0):
-            for command in commands:
-                subprocess.run(command, check=command[0] == "ip")  # a process may have ended meanwhile
-            time.sleep(wait)
+        does, do, undo = (self.cuts, "add", "del") if what.startswith("cut") else (self.signals, what, "CONT")
+        names = self.those(who)
+        does(names, do, what)
+        time.sleep(seconds)
+        if what != "KILL":
+            does(names, undo, what)
+
+    def signals(self, names, what, _):
+        for name in names:
+            with contextlib.suppress(ProcessLookupError):  # it ended meanwhile
+                os.kill(self.read("pids")[name], getattr(signal, f"SIG{what}"))
+
+    def cuts(self, names, verb, what):
+        """Ways from the homes of these to those of nodes."""
+        homes = {int(name[-1]) + 3 * name.startswith("worker") for name in names}
+        ways = [(here, there) for here in homes for there in range(3) if here != there]
+        for here, there in ways + [way[::-1] for way in ways if what == "cut both ways"]:
+            command = ["ip", "-n", f"{self['tag']}{here}", "route", verb, "blackhole", f"{self.host(there)}/32"]
+            subprocess.run(command, check=True)
 
     def faults(self):
         """What can be done to this cluster."""

@@ -229,14 +229,14 @@ class Nats(Log):
         return peer
 
     def checked(self, monitor):
-        """Where the server is for clients, if it answers."""
+        """Where the server is for clients, if it serves them."""
         with contextlib.suppress(*self.errors):
             said = answer_of(server_at(monitor), "/varz")
             if [int(part) for part in said["version"].split(".")[:2]] < [2, 10]:
                 raise Refused(f"{monitor} has version {said['version']}, which is before 2.10")
-            if not said.get("jetstream", {}).get("config", {}).get("sync_always"):
+            if (config := said.get("jetstream", {}).get("config")) and not config.get("sync_always"):
                 raise Refused(f"{monitor} lacks sync_interval: always")
-            return urllib.parse.urlsplit(monitor).hostname, said["port"]
+            return (urllib.parse.urlsplit(monitor).hostname, said["port"]) if config else None  # while it begins it has none
 
     def exchange(self, peer, subject, body, header=b""):
         """What is answered, with its error's number. Each request has an inbox of its own, since two servers may answer one."""

@@ -200,10 +200,11 @@ def bounds():
 
 @case
 def servers():
-    """what servers say of themselves: NATS before 2.10 or without `sync_interval: always` is refused; etcd may have no leader"""
+    """what servers say: NATS before 2.10 or without `sync_interval: always` is refused, and etcd may know no leader"""
     always = {"sync_always": True}
     for place, said, right in [("nats", {"version": "2.9.10", "jetstream": {"config": always}}, "which is before 2.10"),
-                               ("nats", {"version": "2.10.27", "jetstream": {"config": {}}}, "lacks sync_interval: always"),
+                               ("nats", {"version": "2.10.27", "jetstream": {"config": {"max_memory": 1}}}, "lacks sync_interval"),
+                               ("nats", {"version": "2.10.27", "jetstream": {}}, "None"),
                                ("nats", {"version": "2.10.27", "port": 1, "jetstream": {"config": always}}, "('host', 1)"),
                                ("etcd", {"header": {"member_id": "1"}}, "no leader")]:
         log = open_log(f"{place}:http://host:8222", "any")
@@ -296,7 +297,8 @@ SCENES = {
     "over etcd the leader is cut off both ways and one way, and workers are cut off": ("etcd", CUT_OFF, [], ["--apart"]),
     "over NATS from 2.10 workers and the leader are killed and stopped, and all nodes are killed":
         ("nats", WORKERS + NODES, []),
-    "over NATS from 2.10 the leader is cut off both ways and one way, and workers are cut off": ("nats", CUT_OFF, [], ["--apart"]),
+    "over NATS from 2.10 the leader is cut off both ways and one way, and workers are cut off":
+        ("nats", CUT_OFF, [], ["--apart"]),
 }
 
 
