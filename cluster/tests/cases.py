@@ -137,6 +137,7 @@ def told():
                 assert connection.recv(200).endswith(b"\nstart 0 2 10 7\n")
                 connection.sendall(b"said 2 1 1 5 " * (b">" in line) + line + b"\n")
                 assert until(lambda: client.next(0.1).said) == said, line
+                assert said != FOREIGN or not connection.recv(9)  # what was sent has other numbers, and goes elsewhere
     assert {shard_of(str(key), 4) for key in range(100)} == {0, 1, 2, 3}
 
 
@@ -203,7 +204,7 @@ def servers():
     """what servers say: NATS before 2.10 or without `sync_interval: always` is refused, and etcd may know no leader"""
     always = {"sync_always": True}
     for place, said, right in [("nats", {"version": "2.9.10", "jetstream": {"config": always}}, "which is before 2.10"),
-                               ("nats", {"version": "2.10.27", "jetstream": {"config": {"max_memory": 1}}}, "lacks sync_interval"),
+                               ("nats", {"version": "2.10.27", "jetstream": {"config": {"domain": ""}}}, "lacks sync_interval"),
                                ("nats", {"version": "2.10.27", "jetstream": {}}, "None"),
                                ("nats", {"version": "2.10.27", "port": 1, "jetstream": {"config": always}}, "('host', 1)"),
                                ("etcd", {"header": {"member_id": "1"}}, "no leader")]:
