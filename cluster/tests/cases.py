@@ -54,7 +54,7 @@ def a_cluster(engine, *options, more=()):
     given = ["--program", PROGRAM, "--engine", engine, "--shards", "1", "--net", own_net("--apart" in more), *more]
     try:
         status, said = cluster.says("up", *given, "--options", "lease=2000", "bound=2000", *options)
-        assert status == 0, said
+        assert status == 0, said + (cluster.folder / "log").read_text()[-2000:]
         yield cluster
     finally:
         cluster.says("down")
