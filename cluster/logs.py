@@ -130,9 +130,11 @@ class Etcd(Log):
         return self.range(at, limit=16)[0]
 
     def append(self, last, record):
-        """One transaction: if record L is there and none after it, make L + 1."""
+        """One transaction: if record L is there and no next one, make L + 1. A cut takes the first ones, never what follows one
+        that stays. To look at all after L takes etcd as long as they are, and who is far behind may ask again and again."""
         there = {"target": "CREATE", "result": "GREATER", "create_revision": 0, "key": self.span(last)["key"]}
-        none = {"target": "CREATE", "result": "EQUAL", "create_revision": 0} | self.span(last + 1)
+        span = self.span(last + 1, last + 2 if last else 2**64 - 1)
+        none = {"target": "CREATE", "result": "EQUAL", "create_revision": 0} | span
         put = {"request_put": {"key": none["key"], "value": base64.b64encode(record).decode()}}
         return self.ask("txn", {"compare": [none] + [there] * (last > 0), "success": [put]}).get("succeeded", False)
 
