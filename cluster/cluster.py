@@ -60,11 +60,12 @@ NO_NETWORKS = "for i in $HOMES; do ip link del $TAG$i; ip netns del $TAG$i; done
 
 def until(done, seconds=180, why="it did not come to be in time"):
     end = time.monotonic() + seconds
-    while not (found := done()):
-        if time.monotonic() > end:
-            sys.exit(why)
+    while time.monotonic() < end:
+        with contextlib.suppress(Again):
+            if found := done():
+                return found
         time.sleep(0.05)
-    return found
+    sys.exit(why)
 
 
 class Cluster:
@@ -165,7 +166,8 @@ class Cluster:
 
     def status(self, _):
         for shard in range(self["shards"]):
-            last = open_log(self["place"], f"steps-{shard}").last()
+            log, why = open_log(self["place"], f"steps-{shard}"), f"shard {shard}: no answer from {self['place']}"
+            last, = until(lambda log=log: [log.last()], 6, why)  # each node may have a turn
             print(f"shard {shard}: record {last}")
             for address in self.addresses(shard):
                 works, name, record, ahead = said_by(address) or (False, "nobody", 0, 0)

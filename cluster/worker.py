@@ -50,9 +50,9 @@ class Worker(Shard):
     def __init__(self, place, shard, name, addresses, program, options):
         self.options, self.lease, self.shard, self.written = options, options["lease"] / 1000, shard, 0
         self.name, (self.address, *self.others) = f"{name}-{os.urandom(4).hex()}", addresses.split(",")
-        self.heard, self.working = elapsed(), False
         self.clients, self.recent, self.asked = {}, {}, []  # connections by numbers, what they are told, and what they asked for
         super().__init__(place, shard, program)
+        self.heard, self.working = elapsed(), False
 
     def wall(self):
         return int(time.time() * 1000) + self.options["clock"]
@@ -64,17 +64,22 @@ class Worker(Shard):
 
     async def follow_until_it_is_free(self):
         """The lease is held by who appends, four times in it or oftener. It decides who works, and never what is true: two that
-        hold it at once are slow, not wrong. Nothing is known of those that were there before us, so we wait for as long."""
+        hold it at once are slow, not wrong. Nothing is known of those that were there before us, so we wait for as long. Only time
+        in which the log answers counts. The lease is free once a read that was asked for after it found no record."""
         while True:
-            while record := await asyncio.to_thread(self.log.wait, self.last + 1, 0.03):
-                self.follow(record)
-                self.heard = elapsed()
-            if self.options["duel"]:
-                return
-            if elapsed() - self.heard >= self.lease:
-                if not await asyncio.to_thread(self.is_off):
-                    return
-                self.heard = elapsed()
+            asked = elapsed()
+            try:
+                while record := await asyncio.to_thread(self.log.read, self.last + 1):
+                    self.follow(record)
+                    asked = self.heard = elapsed()
+                if self.options["duel"] or asked - self.heard >= self.lease:
+                    if not await asyncio.to_thread(self.is_off):
+                        return
+                    self.heard = elapsed()
+                await asyncio.sleep(0.02)
+            except Again:
+                await asyncio.sleep(0.02)
+                self.heard += elapsed() - asked
 
     async def work(self):
         self.came, self.appended = asyncio.Event(), asyncio.Event()

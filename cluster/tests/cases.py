@@ -186,7 +186,14 @@ def no_snapshot():
 
 @case
 def bounds():
-    """a lease is refused to a clock that is off by more than 100 ms, and a worker whose clock jumps by as much ends"""
+    """a lease is refused to a clock off by more than 100 ms and while no log answers; a worker whose clock jumps by as much ends"""
+    said, seconds = [*[*[Again] * 9, None] * 2, None], [*[1] * 9, 2, *[1] * 9, 9, 0]  # of each read
+    read = mock.Mock(side_effect=itertools.chain(said, itertools.repeat(None)))
+    with mock.patch("worker.elapsed", lambda: sum(seconds[:read.call_count])):
+        worker = Worker(log_of([]), "0", "waits", "127.0.0.1:0", PROGRAM, OPTIONS)
+        worker.log.read = read
+        asyncio.run(worker.follow_until_it_is_free())
+    assert read.call_count == len(said)
     worker = Worker(log_of([STEP]), "0", "jumps", "127.0.0.1:0,a,b,c", PROGRAM, OPTIONS | {"lease": 100})
     for apart, is_off in (([101, 101, 0], True), ([-101, -101, 0], True), ([100, 100, 101], False), ([101, 0, None], False)):
         clocks = iter(apart)
@@ -199,6 +206,14 @@ def bounds():
         except GivesUp as gives_up:
             why = str(gives_up)
     assert why == "our clock jumped"
+
+
+@case
+def no_answer():
+    """a log gives no answer, and `status` says so in one line"""
+    cluster = Case(tempfile.mkdtemp(dir=FOLDER))
+    cluster.write("config", {"place": "etcd:http://127.0.0.1:9", "shards": 1})
+    assert cluster.says("status") == (1, "shard 0: no answer from etcd:http://127.0.0.1:9\n")
 
 
 @case
