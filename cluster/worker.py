@@ -171,8 +171,9 @@ class Worker(Shard):
             record, chain, number = await asyncio.to_thread(self.latest, client)
             line = ALL
             writer.write(b"from %d %d %s %d\n" % (record, line, chain, number))
-        if record > self.last:  # we were asleep, unless the log has no such record: our next append is its last one
-            await self.appended.wait()
+        for _ in range(2):  # we were asleep, unless the log has no such record: an append that begins now makes its last one
+            if record > self.last:
+                await self.appended.wait()
         at = record or 1
         while self.clients.get(client) is writer:
             while at <= self.last:

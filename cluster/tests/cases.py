@@ -209,6 +209,20 @@ def bounds():
 
 
 @case
+def asleep():
+    """a client that comes with a later record than that of an append under way waits for the next append"""
+    async def shows():
+        worker = Worker(log_of([]), "0", "asleep", "127.0.0.1:0", PROGRAM, OPTIONS)
+        worker.appended = under_way = asyncio.Event()
+        shown = asyncio.create_task(worker.show(None, 0, 3, 1, b""))
+        await asyncio.sleep(0)
+        worker.appended = asyncio.Event()
+        under_way.set()
+        return await asyncio.wait([shown], timeout=0.1)
+    assert not asyncio.run(shows())[0]
+
+
+@case
 def no_answer():
     """a log gives no answer, and `status` says so in one line"""
     cluster = Case(tempfile.mkdtemp(dir=FOLDER))
