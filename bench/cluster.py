@@ -1,14 +1,16 @@
 #!/usr/bin/env python3
 """Figures of a cluster on this machine, beside what else keeps timers on a disk. docs/scale.md has them.
 
-    cluster.py PROGRAM [--repeats 3] [--seconds 5] [--timers 1000000] [--shards 2,4,8] [--only rates,late,polling,failover,recovery,peers]
-               [--peers NAMES]
+    cluster.py PROGRAM [--repeats 3] [--seconds 5] [--timers 1000000] [--shards 2,4,8] [--peers NAMES] [--pending 20000]
+               [--only rates,late,failover,recovery,peers,peers_late,peers_failover]
 
 Rates: a client of each shard sends requests in batches, and waits for the answers to each. Half of them start a timer, half stop
 one. Late: each shard is asked for 500 timers a second; how long after its deadline a client reads that a timer has expired.
-Polling: the same of PostgreSQL's rows, until a worker has taken a row and deleted it.
 Failover: the longest silence for a client that asks every 10 ms, when something is killed. Recovery: how long a worker takes to
-begin with so many pending timers, from a snapshot. Peers do the same as rates, over one connection, each batch on the disk."""
+begin with so many pending timers, from a snapshot.
+
+Peers do the same as rates, over one connection, each batch on the disk. Late: 500 timers a second in all, until who waits for them
+has taken one out. Failover: the server, which has so many pending timers, is killed by SIGKILL, and started again at once."""
 import argparse
 import concurrent.futures
 import contextlib
@@ -27,7 +29,7 @@ import threading
 import time
 
 from figures import HERE, fail, machine, spread, write
-from journal import BATCHES, answers, beanstalkd, rate
+from journal import BATCHES, rate
 
 TOP = pathlib.Path(HERE).parent / "cluster"
 if not TOP.exists():
@@ -157,14 +159,10 @@ def lates(of):
 
 
 def late(given, shards_of):
-    for engine, shards in [("etcd", shards) for shards in shards_of] + [("file", 4)]:
+    for engine, shards in [("etcd", shards) for shards in (1, *shards_of)] + [("file", 1), ("file", 4)]:
         with Own(given, shards, engine) as cluster:
             of = [sorted(sum(cluster.of_each_shard(lateness, number, 500, given.seconds), [])) for number in range(given.repeats)]
             yield [title(engine, shards), *lates(of)]
-
-
-def polling(given, _):
-    yield ["PostgreSQL SKIP LOCKED, 2 workers that look each 10 ms", *lates([polled(given) for _ in range(given.repeats)])]
 
 
 def failover(given, _):
@@ -212,154 +210,301 @@ def recovery(given, _):
         yield [f"{given.timers:,} timers, a snapshot of {size:.0f} MB", spread(ways), spread(found), f"{memory:.0f}", f"{given.timers / filled:.0f}"]
 
 
-@contextlib.contextmanager
-def redis(mode, folder, _):
-    command = ["redis-server", "--port", PORT, "--dir", folder, "--appendonly", "yes", "--appendfsync", mode, "--save", ""]
-    with subprocess.Popen([*map(str, command)], stdout=subprocess.DEVNULL) as process:
-        time.sleep(1)
-        peer = socket.create_connection(("127.0.0.1", PORT))
+class Redis:
+    """The time is the score. Who looks each 10 ms takes what ZREM takes."""
+    workers = 1
 
-        def plays(numbers):
-            peer.sendall(b"".join(b"ZADD t 1000 %d\r\n" % n if n % 2 else b"ZREM t %d\r\n" % (n - 1) for n in numbers))
-            if answers(peer.recv, len(numbers)).count(b":1\r\n") != len(numbers):
-                fail("redis says something else")
+    def __init__(self):
+        self.peer = socket.create_connection(("127.0.0.1", PORT), 5)
+        self.file = self.peer.makefile("rb")
 
-        yield plays
-        peer.close()
-        process.terminate()
+    @staticmethod
+    def command(folder, mode="always"):
+        return ["redis-server", "--port", PORT, "--dir", folder, "--appendonly", "yes", "--appendfsync", mode, "--save", ""]
 
+    def asks(self, lines):
+        self.peer.sendall(b"".join(lines))
+        said = [self.file.readline() for _ in lines]
+        if any(not line.startswith(b":") for line in said):
+            raise OSError(f"redis says {said[-1]}")
+        return said
 
-@contextlib.contextmanager
-def served_by_postgres(folder):
-    """What connects to a server of its own, which syncs each commit, with a table of timers."""
-    import psycopg2
-    said = f"{folder}/postgres"
-    command = ["pg_virtualenv", "-t", "-o", "fsync=on", "sh", "-c", 'env | grep ^PG > "$0.new"; mv "$0.new" "$0"; exec cat', said]
-    with subprocess.Popen(command, stdin=subprocess.PIPE, stdout=subprocess.DEVNULL):
-        while not os.path.exists(said):
-            time.sleep(0.1)
-        with open(said, encoding="utf-8") as file:
-            os.environ |= dict(line.split("=", 1) for line in file.read().split())
+    def plays(self, numbers):
+        self.asks([b"ZADD t 1000 %d\r\n" % n if n % 2 else b"ZREM t %d\r\n" % (n - 1) for n in numbers])
 
-        def connects():
-            base = psycopg2.connect("")
-            base.autocommit = True
-            return base.cursor()
+    def puts(self, timers):
+        self.asks([b"ZADD t %d %d\r\n" % (due, n) for n, due in timers])
 
-        connects().execute("create table t (id bigint primary key, due bigint, action bigint); create index on t (due)")
-        yield connects
+    def takes(self, now):
+        self.peer.sendall(b"ZRANGEBYSCORE t -inf %d WITHSCORES LIMIT 0 1000\r\n" % now)
+        said = [self.file.read(int(self.file.readline()[1:]) + 2) for _ in range(int(self.file.readline()[1:]))]
+        taken = self.asks([b"ZREM t %b" % name for name in said[::2]])
+        return [int(due) for due, one in zip(said[1::2], taken) if one == b":1\r\n"]
 
 
-TAKES = "select id, due from t where due <= %s order by due, id limit %s for update skip locked"
+class EverySecond(Redis):
+    @staticmethod
+    def command(folder):
+        return Redis.command(folder, "everysec")
 
 
-def inserts(ids, due):
-    values = ",".join(f"({n}, {due}, 7)" for n in ids)
-    return f"insert into t values {values};" if values else ""
+class Postgres:
+    """Rows that are put and deleted. In `takes`, workers take rows that are due, and delete them, in one transaction."""
+    workers = 2
+    TABLE = "create table if not exists t (id bigint primary key, due bigint, action bigint); create index if not exists d on t (due)"
+    TAKES = "select id, due from t where due <= %s order by due, id limit %s for update skip locked"
+
+    def __init__(self):
+        import psycopg2
+        base = psycopg2.connect(f"host=127.0.0.1 port={PORT} user=postgres dbname=postgres", connect_timeout=5)
+        base.autocommit = True
+        self.cursor = base.cursor()
+        self.cursor.execute("set client_min_messages = error; " + self.TABLE)
+
+    @staticmethod
+    def command(folder):
+        own = ["setpriv", "--reuid=postgres", "--regid=postgres", "--clear-groups"] if os.geteuid() == 0 else []
+        tools, = pathlib.Path("/usr/lib/postgresql").glob("*/bin")
+        if not os.path.exists(f"{folder}/base"):
+            shutil.chown(folder, "postgres")
+            subprocess.run([*own, tools / "initdb", "-D", f"{folder}/base", "-U", "postgres", "-A", "trust"], stdout=subprocess.DEVNULL, check=True)
+        return [*own, tools / "postgres", "-D", f"{folder}/base", "-h", "127.0.0.1", "-p", PORT, "-k", ""]
+
+    @staticmethod
+    def inserts(timers):
+        values = ",".join(f"({n}, {due}, 7)" for n, due in timers)
+        return f"insert into t values {values} on conflict do nothing;" if values else ""
+
+    def plays(self, numbers):
+        stops = [n - 1 for n in numbers if n % 2 == 0]
+        starts = self.inserts([(n, 1000) for n in numbers if n % 2])
+        self.cursor.execute(f"{starts} delete from t where id = any(array{stops}::bigint[])")
+
+    def puts(self, timers):
+        self.cursor.execute(self.inserts(timers))
+
+    def takes(self, now, most=1000):
+        self.cursor.execute("begin; " + self.TAKES, (now, most))
+        rows = self.cursor.fetchall()
+        self.cursor.execute("delete from t where id = any(%s); commit", ([row[0] for row in rows],))
+        return [due for _, due in rows]
 
 
-def takes(cursor, now, most):
-    """As a worker does: rows that are due, some act, and the rows are gone, in one transaction."""
-    cursor.execute("begin; " + TAKES, (now, most))
-    rows = cursor.fetchall()
-    cursor.execute("delete from t where id = any(%s); commit", ([row[0] for row in rows],))
-    return rows
+class SkipLocked(Postgres):
+    def plays(self, numbers):
+        starts = [(n, 1000) for n in numbers if n % 2]
+        if starts:
+            self.puts(starts)
+        if len(starts) < len(numbers) and not self.takes(1000, len(numbers) - len(starts)):
+            fail("no row was taken")
 
 
-@contextlib.contextmanager
-def postgres(how, folder, _):
-    """Rows that are put and deleted; or are put, and taken out with `skip locked` by a worker."""
-    with served_by_postgres(folder) as connects:
-        cursor, worker = connects(), connects()
+class Beanstalkd:
+    """A delay is of whole seconds: so it is rounded up, and a timer is late by that, too. A job is reserved, and then deleted."""
+    workers = 1
 
-        def deletes(numbers):
-            stops = [n - 1 for n in numbers if n % 2 == 0]
-            cursor.execute(inserts([n for n in numbers if n % 2], 1000) + f"delete from t where id = any(array{stops}::bigint[])")
+    def __init__(self):
+        self.peer = socket.create_connection(("127.0.0.1", PORT), 5)
+        self.file = self.peer.makefile("rb")
 
-        def hands_out(numbers):
-            starts = [n for n in numbers if n % 2]
-            if starts:
-                cursor.execute(inserts(starts, 1000))
-            if len(starts) < len(numbers) and not takes(worker, 1000, len(numbers) - len(starts)):
-                fail("no row was taken")
+    @staticmethod
+    def command(folder):
+        return ["beanstalkd", "-b", folder, "-f0", "-l", "127.0.0.1", "-p", PORT]
 
-        yield {"deletes": deletes, "skip locked": hands_out}[how]
+    def asks(self, *texts):
+        self.peer.sendall(b"".join(texts))
+        said = [self.file.readline() for _ in texts]
+        if not said[-1].startswith((b"INSERTED", b"DELETED", b"RESERVED", b"TIMED_OUT")):
+            raise OSError(f"beanstalkd says {said[-1]}")
+        return said[-1].split()
 
+    def plays(self, numbers):
+        self.asks(*(b"put 0 1000 9 1\r\n7\r\n" if n % 2 else b"delete %d\r\n" % (n // 2) for n in numbers))
 
-def polled(given):
-    """In ms, how late workers that look each 10 ms take 500 timers a second, which one connection puts as they come."""
-    with tempfile.TemporaryDirectory(dir=given.folder) as folder, served_by_postgres(folder) as connects:
-        late, over = [], threading.Event()
+    def puts(self, timers):
+        now = time.time() * 1000
+        self.asks(*(b"put 0 %d 60 %d\r\n%d\r\n" % (max(0, -(now - due) // 1000 + 1), len(str(due)), due) for _, due in timers))
 
-        def works():
-            cursor = connects()
-            while not over.is_set():
-                rows = takes(cursor, int(time.time() * 1000), 1000)
-                late.extend(time.time() * 1000 - due for _, due in rows)
-                time.sleep(0 if rows else 0.01)
-
-        with concurrent.futures.ThreadPoolExecutor() as pool:
-            both, cursor, count, begun = [pool.submit(works) for _ in range(2)], connects(), 0, time.perf_counter()
-            while (elapsed := time.perf_counter() - begun) < given.seconds:
-                if (wanted := int(500 * elapsed)) > count:
-                    cursor.execute(inserts(range(count, wanted), int(time.time() * 1000) + random.randrange(200, 2200)))
-                    count = wanted
-                time.sleep(0.002)
-            while len(late) < count:
-                time.sleep(0.01)
-            over.set()
-            return [each.result() for each in both] and sorted(late)
+    def takes(self, _):
+        taken = []
+        while len(taken) < 1000 and (said := self.asks(b"reserve-with-timeout 0\r\n"))[0] == b"RESERVED":
+            taken.append(int(self.file.readline()))
+            self.asks(b"delete %b\r\n" % said[1])
+        return taken
 
 
-@contextlib.contextmanager
-def rabbitmq(_, folder, __):
-    """A durable queue whose messages die after a time, each batch in a transaction. A message can't be cancelled: all are put."""
-    import pika
-    given = {"RABBITMQ_MNESIA_BASE": folder, "RABBITMQ_LOG_BASE": folder, "RABBITMQ_NODENAME": "figures@localhost",
-             "RABBITMQ_NODE_PORT": str(PORT), "HOME": folder}
-    with subprocess.Popen(["/usr/lib/rabbitmq/bin/rabbitmq-server"], env=os.environ | given, stdout=subprocess.DEVNULL,
-                          start_new_session=True) as process:
-        while True:
-            with contextlib.suppress(pika.exceptions.AMQPError, OSError):
-                peer = pika.BlockingConnection(pika.ConnectionParameters("127.0.0.1", PORT))
+class RabbitMQ:
+    """A durable queue whose messages die after a time, and go to another queue. A message can't be cancelled: all are put."""
+    workers = 1
+
+    def __init__(self):
+        import pika
+        self.channel = pika.BlockingConnection(pika.ConnectionParameters("127.0.0.1", PORT)).channel()
+        self.channel.queue_declare("dead", durable=True)
+        self.channel.queue_declare("t", durable=True, arguments={"x-dead-letter-exchange": "", "x-dead-letter-routing-key": "dead"})
+        self.kept = lambda ms: pika.BasicProperties(delivery_mode=2, expiration=str(max(0, ms)))
+        self.commits = False
+
+    @staticmethod
+    def command(folder):
+        given = {"MNESIA_BASE": folder, "LOG_BASE": folder, "NODENAME": "figures@localhost", "NODE_PORT": PORT, "DIST_PORT": PORT + 1}
+        return ["env", f"HOME={folder}", f"ERL_EPMD_PORT={PORT + 2}", *(f"RABBITMQ_{name}={value}" for name, value in given.items()),
+                "/usr/lib/rabbitmq/bin/rabbitmq-server"]
+
+    def puts(self, timers):
+        if not self.commits:
+            self.commits = self.channel.tx_select()
+        now = int(time.time() * 1000)
+        for _, due in timers:
+            self.channel.basic_publish("", "t", b"%d" % due, self.kept(due - now))
+        self.channel.tx_commit()
+
+    def plays(self, numbers):
+        self.puts([(n, (time.time() + 10000) * 1000 // 1) for n in numbers])
+
+    def takes(self, _):
+        taken, tag = [], None
+        for method, _, body in self.channel.consume("dead", inactivity_timeout=0.01):
+            if method is None or len(taken) == 1000:
                 break
-            time.sleep(0.5)
-        channel = peer.channel()
-        channel.queue_declare("dead", durable=True)
-        channel.queue_declare("t", durable=True, arguments={"x-dead-letter-exchange": "", "x-dead-letter-routing-key": "dead"})
-        channel.tx_select()
+            taken.append(int(body))
+            tag = method.delivery_tag
+        if tag:
+            self.channel.basic_ack(tag, multiple=True)
+        return taken
 
-        def plays(numbers):
-            for _ in numbers:
-                channel.basic_publish("", "t", b"7", pika.BasicProperties(delivery_mode=2, expiration="10000000"))
-            channel.tx_commit()
 
-        yield plays
-        peer.close()
-        os.killpg(process.pid, signal.SIGTERM)
+class Server:
+    """One of a peer, in a folder."""
+
+    def __init__(self, kind, folder):
+        self.kind, self.folder = kind, folder
+        self.start()
+
+    def __enter__(self):
+        return self
+
+    def start(self):
+        command = [*map(str, self.kind.command(self.folder))]
+        self.process = subprocess.Popen(command, stdout=subprocess.DEVNULL, stderr=subprocess.DEVNULL, start_new_session=True)
+
+    def kill(self, number=signal.SIGKILL):
+        with contextlib.suppress(ProcessLookupError):
+            os.killpg(self.process.pid, number)
+        self.process.wait()
+
+    def __exit__(self, *_):
+        self.kill(signal.SIGINT if issubclass(self.kind, Postgres) else signal.SIGTERM)  # which doesn't wait for clients
+        if self.kind is RabbitMQ:
+            subprocess.run(["epmd", "-port", str(PORT + 2), "-kill"], stdout=subprocess.DEVNULL, check=False)  # its nodes' names
+
+    def connected(self):
+        """A connection. A server that didn't start is started again."""
+        while True:
+            try:
+                return self.kind()
+            except Exception:
+                time.sleep(0.02)
+                if self.process.poll() is not None:
+                    self.start()
+
+
+@contextlib.contextmanager
+def playing(kind, folder, _):
+    with Server(kind, folder) as server:
+        yield server.connected().plays
+
+
+PEERS = {"Redis ZSET, AOF always": Redis, "Redis ZSET, AOF everysec": EverySecond, "PostgreSQL rows": Postgres,
+         "PostgreSQL SKIP LOCKED": SkipLocked, "beanstalkd -f0": Beanstalkd, "RabbitMQ TTL, classic queue": RabbitMQ}
+
+
+def peers_of(given):
+    return [(name, kind) for name, kind in PEERS.items() if re.search(given.peers, name)]
 
 
 def peers(given, _):
-    kinds = {"Redis ZSET, AOF always": (redis, "always", True), "Redis ZSET, AOF everysec": (redis, "everysec", True),
-             "PostgreSQL rows": (postgres, "deletes", True), "PostgreSQL SKIP LOCKED": (postgres, "skip locked", True),
-             "beanstalkd -f0": (beanstalkd, shutil.which("beanstalkd"), True), "RabbitMQ TTL, classic queue": (rabbitmq, None, True)}
-    for name, kind in [(name, kind) for name, kind in kinds.items() if re.search(given.peers, name)]:
-        found = {batch: [rate(kind, given.folder, batch, given.seconds) for _ in range(given.repeats)] for batch in BATCHES}
+    for name, kind in peers_of(given):
+        found = {batch: [rate((playing, kind, True), given.folder, batch, given.seconds) for _ in range(given.repeats)] for batch in BATCHES}
         yield [name, *map(spread, found.values())]
+
+
+def peer_lateness(kind, given, intervals):
+    """In ms, sorted, of 500 timers a second that one connection puts as they come, until others have taken them."""
+    late, over = [], threading.Event()
+
+    def works(server):
+        peer = server.connected()
+        while not over.is_set():
+            taken = peer.takes(int(time.time() * 1000))
+            late.extend(time.time() * 1000 - due for due in taken)
+            time.sleep(0 if taken else 0.01)
+
+    with tempfile.TemporaryDirectory(dir=given.folder) as folder, Server(kind, folder) as server:
+        peer, count = server.connected(), 0
+        with concurrent.futures.ThreadPoolExecutor() as pool:
+            workers, begun = [pool.submit(works, server) for _ in range(kind.workers)], time.perf_counter()
+            while (elapsed := time.perf_counter() - begun) < given.seconds or len(late) < count:
+                wanted, now = int(500 * min(elapsed, given.seconds)), int(time.time() * 1000)
+                if wanted > count:
+                    peer.puts([(n, now + random.choice(intervals)) for n in range(count, wanted)])
+                    count = wanted
+                time.sleep(0.002)
+                if any(worker.done() for worker in workers):
+                    break
+            over.set()
+            for worker in workers:
+                worker.result()
+    return sorted(late)
+
+
+def peers_late(given, _):
+    for name, kind in [(name, kind) for name, kind in peers_of(given) if kind is not Postgres]:
+        yield [name, *lates([peer_lateness(kind, given, range(200, 2200)) for _ in range(given.repeats)])]
+    if kind is RabbitMQ:
+        yield [f"{name}, all of 1.2 s", *lates([peer_lateness(kind, given, [1200]) for _ in range(given.repeats)])]
+
+
+def peer_silence(server, first):
+    """The longest in seconds, for one that puts a timer each 10 ms. The numbers are from `first` on."""
+    peer, came, number, killed = server.connected(), [time.perf_counter()], first, None
+    while not killed or came[-1] < killed + 1 or number < first + 200:
+        if not killed and time.perf_counter() > came[0] + 1:
+            killed = time.perf_counter()
+            server.kill()
+            server.start()
+        try:
+            peer.puts([(number, int(time.time() * 1000) + 1_000_000)])
+        except Exception:
+            peer = server.connected()
+            continue
+        came.append(time.perf_counter())
+        number += 1
+        time.sleep(0.01)
+    return max(later - before for before, later in zip(came, came[1:]))
+
+
+def peers_failover(given, _):
+    for name, kind in peers_of(given):
+        with tempfile.TemporaryDirectory(dir=given.folder) as folder, Server(kind, folder) as server:
+            peer = server.connected()
+            for first in range(0, given.pending, 1000):
+                peer.puts([(n, int(time.time() * 1000) + 1_000_000) for n in range(first, first + 1000)])
+            yield [name, spread([peer_silence(server, (1 + i) * 1_000_000) for i in range(given.repeats)])]
 
 
 def main():
     parser = argparse.ArgumentParser()
     parser.add_argument("program", type=os.path.abspath)
-    for name, default in ("repeats", 3), ("seconds", 5.0), ("timers", 1_000_000), ("shards", "2,4,8"), ("folder", tempfile.gettempdir()):
+    for name, default in ("repeats", 3), ("seconds", 5.0), ("timers", 1_000_000), ("pending", 20_000), ("shards", "2,4,8"), ("folder", tempfile.gettempdir()):
         parser.add_argument(f"--{name}", default=default, type=type(default))
-    parser.add_argument("--only", default="rates,late,polling,failover,recovery,peers")
+    parser.add_argument("--only", default="rates,late,failover,recovery,peers,peers_late,peers_failover")
     parser.add_argument("--peers", default=".", help="those whose names match")
     given = parser.parse_args()
     heads = {"rates": ["requests a second, by batches", *BATCHES], "late": ["an expiry is late by, in ms", "p50", "p99"],
-             "polling": ["a row is late by, in ms", "p50", "p99"],
              "failover": ["silence, in s", ""], "recovery": ["recovery", "s, snapshot", "s, all", "MB", "filled, a second"],
-             "peers": ["requests a second, by batches", *BATCHES]}
+             "peers": ["requests a second, by batches", *BATCHES], "peers_late": ["a timer is late by, in ms", "p50", "p99"],
+             "peers_failover": ["silence, in s", ""]}
     for name in given.only.split(","):
         print(f"{machine()}; load {os.getloadavg()[0]:.1f}", flush=True)
         write(f"cluster_{name}", heads[name], globals()[name](given, [int(shards) for shards in given.shards.split(",")]))

@@ -4,8 +4,6 @@
 #include <inttypes.h>
 #include <netdb.h>
 #include <poll.h>
-#include <stdarg.h>
-#include <stdbool.h>
 #include <stdio.h>
 #include <stdlib.h>
 #include <string.h>
@@ -18,8 +16,10 @@
 #define LINE 256        /* bytes: any line is shorter */
 
 struct request {
-	uint64_t name, interval;       /* 0: it starts no timer */
-	char text[80];                 /* its line, without the client and the number behind the word */
+	const char *word;
+	uint64_t interval;             /* 0: it starts no timer */
+	char values[64];               /* what its line has after the number */
+	bool sent;                     /* ever */
 };
 
 struct timers_client {
@@ -28,7 +28,7 @@ struct timers_client {
 	int socket;
 	int64_t tried, heard;
 	bool current;                  /* whether it was shown all, on this connection: before, its number isn't known */
-	uint64_t client, names;
+	uint64_t client;
 	struct timers_place place;     /* of what it was shown last */
 	struct request *waiting;       /* a ring, whose first one has the number after that of the place */
 	size_t window, first, count, sent;   /* how many were sent on this connection */
@@ -51,43 +51,42 @@ uint64_t timers_shard(const char *key, uint64_t shards)   /* FNV-1a */
 	return sum % shards;
 }
 
-size_t timers_client_waiting(const struct timers_client *client) { return client->count; }
+size_t timers_client_waiting(const struct timers_client *c) { return c->count; }
 
-static uint64_t asks(struct timers_client *c, uint64_t interval, const char *format, ...)
+static struct request *waits_at(const struct timers_client *c, size_t i) { return &c->waiting[(c->first + i) % c->window]; }
+
+static bool asks(struct timers_client *c, const char *word, uint64_t interval, size_t count, const uint64_t values[])
 {
+	struct request request = {.word = word, .interval = interval};
+	for (size_t i = 0, length = 0; i < count; i++) {
+		if (values[i] >> 60)
+			return false;
+		length += (size_t)sprintf(request.values + length, " %" PRIu64, values[i]);
+	}
 	if (c->count == c->window)
-		return 0;
-	struct request *request = &c->waiting[(c->first + c->count++) % c->window];
-	va_list values;
-	*request = (struct request){.name = ++c->names, .interval = interval};
-	va_start(values, format);
-	vsnprintf(request->text, sizeof request->text, format, values);
-	va_end(values);
-	return request->name;
+		return false;
+	*waits_at(c, c->count++) = request;
+	return true;
 }
 
-uint64_t timers_client_start(struct timers_client *c, uint64_t interval, uint64_t action)
+bool timers_client_start(struct timers_client *c, uint64_t interval, uint64_t action)
 {
-	return (interval | action) >> 60 ? 0 : asks(c, interval, "start %" PRIu64 " %" PRIu64, interval, action);
+	return asks(c, "start", interval, 2, (uint64_t[]){interval, action});
 }
 
-uint64_t timers_client_stop(struct timers_client *c, uint64_t serial)
-{
-	return serial >> 60 ? 0 : asks(c, 0, "stop %" PRIu64, serial);
-}
+bool timers_client_stop(struct timers_client *c, uint64_t serial) { return asks(c, "stop", 0, 1, &serial); }
 
-uint64_t timers_client_restart(struct timers_client *c, uint64_t serial, uint64_t interval, uint64_t action)
+bool timers_client_restart(struct timers_client *c, uint64_t serial, uint64_t interval, uint64_t action)
 {
-	const bool fits = (serial | interval | action) >> 60 == 0;
-	return fits ? asks(c, interval, "restart %" PRIu64 " %" PRIu64 " %" PRIu64, serial, interval, action) : 0;
+	return asks(c, "restart", interval, 3, (uint64_t[]){serial, interval, action});
 }
 
 /* The request that waits at `i`, with the number that it has now. */
 static size_t form(const struct timers_client *c, size_t i, char line[LINE])
 {
-	const char *text = c->waiting[(c->first + i) % c->window].text, *rest = strchr(text, ' ');
+	const struct request *request = waits_at(c, i);
 	const uint64_t number = c->place.number + 1 + i;
-	return (size_t)snprintf(line, LINE, "%.*s %" PRIu64 " %" PRIu64 "%s\n", (int)(rest - text), text, c->client, number, rest);
+	return (size_t)snprintf(line, LINE, "%s %" PRIu64 " %" PRIu64 "%s\n", request->word, c->client, number, request->values);
 }
 
 static void disconnect(struct timers_client *c)
@@ -140,12 +139,14 @@ static void exchanges(struct timers_client *c, int64_t ms)
 	size_t length = 0;
 	if (c->socket < 0 && elapsed_ms() - c->tried >= 50)
 		connects(c);
-	while (c->current && c->sent < c->count && length < sizeof lines - LINE)
+	while (c->current && c->sent < c->count && length < sizeof lines - LINE) {
+		waits_at(c, c->sent)->sent = true;
 		length += form(c, c->sent++, lines + length);
+	}
 	if (length)
 		sends(c, lines, length);
 	const bool more = c->current && c->sent < c->count;
-	poll(&(struct pollfd){.fd = c->socket, .events = POLLIN}, 1, (int)(more ? 0 : ms < 50 ? ms : 50));
+	poll(&(struct pollfd){.fd = c->socket, .events = POLLIN}, 1, more ? 0 : ms < 50 ? (int)ms : 50);
 	if (c->socket < 0)
 		return;
 	const ssize_t got = recv(c->socket, c->input + c->filled, sizeof c->input - c->filled, MSG_DONTWAIT);
@@ -157,53 +158,51 @@ static void exchanges(struct timers_client *c, int64_t ms)
 	}
 }
 
-/* An answer to the next request of this client: the log has one with each number. */
-static enum timers_said answered(struct timers_client *c, const char *asked, uint64_t tick, struct timers_line *line)
+/* An answer to the next request of this client: the log has one with each number. What was never sent has none. */
+static enum timers_said answered(struct timers_client *c, const char *asked, uint64_t tick, const char *answer)
 {
 	uint64_t number = 0;
-	char own[LINE] = "";
-	if (sscanf(line->text, "%*s %*u %" SCNu64, &number) != 1 || number != c->place.number + 1)
+	char own[LINE];
+	if (sscanf(answer, "%*s %*u %" SCNu64, &number) != 1 || number != c->place.number + 1)
 		return TIMERS_WRONG;
-	if (c->count)
-		own[form(c, 0, own) - 1] = 0;
+	const struct request *request = waits_at(c, 0);
+	const bool waits = c->count && request->sent;
+	own[waits ? form(c, 0, own) - 1 : 0] = 0;
 	c->place.number++;
-	if (strcmp(own, asked) != 0) {
+	if (!waits || strcmp(own, asked) != 0) {
 		if (c->sent)
 			disconnect(c);   /* what was sent has other numbers now */
 		return TIMERS_FOREIGN;
 	}
-	const struct request *request = &c->waiting[c->first];
-	const bool starts = request->interval && strncmp(line->text, "refused", 7) != 0;
-	line->request = request->name;
-	c->first = (c->first + 1) % c->window;
 	c->count--;
+	c->first = (c->first + 1) % c->window;
 	c->sent -= c->sent > 0;
-	return starts && strtoull(strrchr(line->text, ' '), NULL, 10) != tick + request->interval ? TIMERS_WRONG : TIMERS_ANSWER;
+	const bool starts = request->interval && strncmp(answer, "refused", 7) != 0;
+	return starts && strtoull(strrchr(answer, ' '), NULL, 10) != tick + request->interval ? TIMERS_WRONG : TIMERS_ANSWER;
 }
 
 /* A line of the worker, without its end: NOTHING if the caller need not know it. */
 static enum timers_said takes(struct timers_client *c, char *said, struct timers_line *line)
 {
-	struct timers_place place = {.number = c->place.number};
-	uint64_t tick;
+	struct timers_place place = {0};
+	uint64_t number;   /* the tick of what is said */
+	char word[8];
 	int begin = 0;
-	sscanf(said, "said %" SCNu64 " %" SCNx64 " %" SCNu64 " %" SCNu64 " %n", &place.record, &place.chain, &place.line, &tick, &begin);
-	char *asked = said + begin, *answer = strchr(asked, '>');
-	if (begin && answer) {
-		*answer++ = 0;
-		c->place = place;
-		line->text = answer;
-		const enum timers_said what = *asked ? answered(c, asked, tick, line) : TIMERS_EXPIRED;
-		line->place = c->place;
-		return what;
-	}
-	if (sscanf(said, "here %" SCNu64 " %" SCNx64, &place.record, &place.chain) == 2)
-		c->current = true;
-	else if (sscanf(said, "from %" SCNu64 " %" SCNx64 " %" SCNu64, &place.record, &place.chain, &place.number) != 3)
+	if (sscanf(said, "%7s %" SCNu64 " %" SCNu64 " %" SCNx64 " %" SCNu64 " %n", word, &place.record, &place.line, &place.chain,
+	           &number, &begin) < 5)
 		return strcmp(said, "cut") == 0 ? TIMERS_CUT : TIMERS_WRONG;
-	place.line = UINT64_MAX;
+	place.number = strcmp(word, "from") == 0 ? number : c->place.number;
 	c->place = place;
-	return TIMERS_NOTHING;
+	char *asked = said + begin, *answer = strchr(asked, '>');
+	if (!answer) {
+		c->current = strcmp(word, "here") == 0;
+		return TIMERS_NOTHING;
+	}
+	*answer = 0;
+	line->text = answer + 1;
+	const enum timers_said what = *asked ? answered(c, asked, number, line->text) : TIMERS_EXPIRED;
+	line->place = c->place;
+	return what;
 }
 
 enum timers_said timers_client_next(struct timers_client *c, int64_t ms, struct timers_line *line)

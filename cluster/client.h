@@ -5,6 +5,7 @@
 #ifndef TIMERS_CLUSTER_H
 #define TIMERS_CLUSTER_H
 
+#include <stdbool.h>
 #include <stddef.h>
 #include <stdint.h>
 
@@ -23,15 +24,16 @@ struct timers_client *timers_client_open(const char *workers, const char *shard,
                                          size_t window);
 void timers_client_close(struct timers_client *client);
 
-/* Each returns a name for the request, or 0: if a number isn't below 2^60, or if the window is full until timers_client_next. */
-uint64_t timers_client_start(struct timers_client *client, uint64_t interval, uint64_t action);
-uint64_t timers_client_stop(struct timers_client *client, uint64_t serial);
-uint64_t timers_client_restart(struct timers_client *client, uint64_t serial, uint64_t interval, uint64_t action);
+/* Not taken, false: if a number isn't below 2^60, or if the window is full until timers_client_next. Answers come in the order of
+ * the requests. */
+bool timers_client_start(struct timers_client *client, uint64_t interval, uint64_t action);
+bool timers_client_stop(struct timers_client *client, uint64_t serial);
+bool timers_client_restart(struct timers_client *client, uint64_t serial, uint64_t interval, uint64_t action);
 size_t timers_client_waiting(const struct timers_client *client);   /* requests without an answer */
 
 enum timers_said {
 	TIMERS_NOTHING,    /* in this time */
-	TIMERS_ANSWER,     /* to a request of this client */
+	TIMERS_ANSWER,     /* to the first request of this client that has none yet */
 	TIMERS_FOREIGN,    /* to one that it didn't send: of an earlier life, or of another process that has its number */
 	TIMERS_EXPIRED,
 	TIMERS_CUT,        /* the log was cut after this place: what came there is known from a snapshot alone */
@@ -40,12 +42,10 @@ enum timers_said {
 
 struct timers_line {
 	const char *text;            /* as in docs/formats.md, without its end, until the next call; NULL if it is no line's */
-	uint64_t request;            /* the name of the request that it answers, or 0 */
 	struct timers_place place;
 };
 
-/* Sends what waits, and reads the next line that concerns this client. A worker that doesn't read may take half a second more.
- * After a TIMERS_FOREIGN what waits has other numbers. */
+/* Sends what waits, and reads the next line that concerns this client. A worker that doesn't read may take half a second more. */
 enum timers_said timers_client_next(struct timers_client *client, int64_t ms, struct timers_line *line);
 
 /* Which of `shards` shards gets new timers of this key. A timer that was started stays where it is. */

@@ -1,9 +1,9 @@
 """timers-cluster   a cluster of timers on one machine
 
-    up FOLDER [--shards 4] [--workers 2] [--engine etcd] [--apart]    starts three nodes of etcd or nats, workers and followers (an engine
-                       may be `file` or a PLACE, too; with --apart root gives nodes and workers networks of their own)
-    demo FOLDER [--seconds 30] [--rate 60] [--faults NAME,..]    clients ask, each so often a second, and there are faults (all, unless
-                       some are named; `none`: do what you like. A rate of 100000 is as much as the cluster takes)
+    up FOLDER [--shards 4] [--workers 2] [--engine etcd] [--apart]    starts three nodes of etcd or nats, workers and followers
+                       (an engine may be `file` or a PLACE, too; by root with --apart, nodes and workers have own networks)
+    demo FOLDER [--seconds 30] [--rate 60] [--faults NAME,..]    clients ask, each so often a second, and there are faults
+                       (all, or those that are named; `none`: do what you like. A rate of 100000 is as much as it takes)
     fault FOLDER [NAME]    what can be done to this cluster, or does it
     status FOLDER      shards, leases, how far each follower is behind, clocks
     shards FOLDER N    from now on new timers go to N shards (timers_shard); those that were started stay where they are
@@ -28,17 +28,27 @@ from logs import Again, open_log
 from shard import Differs, Shard, keep_snapshot, said_by
 
 HERE = pathlib.Path(__file__).resolve().parent
+OWN = sys.executable, pathlib.Path(__file__).resolve()
 HEADLINE = "lost", "doubled", "early", "out of order"
 REFUSED, DIFFERS = 2, 9  # exit statuses of what is not started again
 # Of an engine whose nodes are started here: where a node is for clients, what it is for the others, and its command.
 ENGINES = {
-    "etcd": ("http://{host}:{port}", "n{home}=http://{host}:{peer}", """etcd --name=n{home} --data-dir={folder}/n{home} --initial-cluster={nodes}
-        --listen-client-urls=http://{host}:{port} --advertise-client-urls=http://{host}:{port}
-        --listen-peer-urls=http://{host}:{peer} --initial-advertise-peer-urls=http://{host}:{peer}
+    "etcd": ("http://{host}:23790", "n{home}=http://{host}:23791", """etcd --name=n{home} --data-dir={folder}/n{home}
+        --initial-cluster={nodes} --listen-client-urls=http://{host}:23790 --advertise-client-urls=http://{host}:23790
+        --listen-peer-urls=http://{host}:23791 --initial-advertise-peer-urls=http://{host}:23791
         --heartbeat-interval=200 --election-timeout=2000 --quota-backend-bytes=8589934592
         --auto-compaction-mode=revision --auto-compaction-retention=1000"""),
-    "nats": ("http://{host}:{monitor}", "nats://{host}:{peer}", """nats-server --config={here}/nats.conf --name=n{home} --store_dir={folder}/n{home}
-        --addr={host} --port={port} --http_port={monitor} --cluster_name=timers --cluster=nats://{host}:{peer} --routes={nodes}"""),
+    "nats": ("http://{host}:23790", "nats://{host}:23791", """nats-server --config={here}/nats.conf --name=n{home}
+        --store_dir={folder}/n{home} --addr={host} --port=23792 --http_port=23790
+        --cluster_name=timers --cluster=nats://{host}:23791 --routes={nodes}"""),
+}
+# A signal to some processes, or ways from their homes to those of nodes that are cut; and for how many seconds.
+FAULTS = {
+    "a process is killed": ("KILL", "any", 0), "workers are killed": ("KILL", "workers", 0),
+    "workers are stopped and wake up": ("STOP", "workers", 4), "all nodes are killed": ("KILL", "nodes", 2),
+    "the leader is killed": ("KILL", "leader", 3), "the leader is stopped": ("STOP", "leader", 4),
+    "the leader is cut off one way": ("cut", "leader", 5), "the leader is cut off both ways": ("cut both ways", "leader", 5),
+    "workers are cut off from the log": ("cut", "workers", 5),
 }
 NETWORKS = """ip link add $TAG type bridge; ip addr add $NET.254/24 dev $TAG; ip link set $TAG up
 for i in $HOMES; do
@@ -46,6 +56,16 @@ for i in $HOMES; do
     ip -n $TAG$i addr add $NET.$((i + 1))/24 dev eth0; ip -n $TAG$i link set eth0 up; ip -n $TAG$i link set lo up
 done"""
 NO_NETWORKS = "for i in $HOMES; do ip link del $TAG$i; ip netns del $TAG$i; done; ip link del $TAG"
+
+
+def until(done, seconds=180, why="it did not come to be in time"):
+    end = time.monotonic() + seconds
+    while time.monotonic() < end:
+        with contextlib.suppress(Again):
+            if found := done():
+                return found
+        time.sleep(0.05)
+    sys.exit(why)
 
 
 class Cluster:
@@ -80,59 +100,52 @@ class Cluster:
 
     def addresses(self, shard):
         """Of a shard's workers."""
-        return [f"{self.host(3 + i)}:{self['port'] + 2 + int(shard)}" for i in range(self["workers"])]
+        return [f"{self.host(3 + i)}:{23800 + int(shard)}" for i in range(self["workers"])]
 
     def nodes(self, engine):
         """Their commands, and the place of their logs."""
+        def each(text, **more):
+            return [text.format(home=i, host=self.host(i), here=HERE, folder=self.folder, **more) for i in range(3)]
+
         at, name, command = ENGINES[engine]
-        port, folder = self["port"], self.folder
-        homes = [{"home": i, "host": self.host(i), "port": port, "peer": port + 1, "monitor": port + 2} for i in range(3)]
-        every = {"nodes": ",".join(name.format(**home) for home in homes), "folder": folder, "here": HERE}
-        commands = [[*self.inside(i), *(word.format(**home, **every) for word in command.split())] for i, home in enumerate(homes)]
-        return {"nodes": commands, "place": f"{engine}:" + ",".join(at.format(**home) for home in homes)}
+        words = zip(*(each(word, nodes=",".join(each(name))) for word in command.split()))
+        return [[*self.inside(i), *command] for i, command in enumerate(words)], f"{engine}:{','.join(each(at))}"
 
     def up(self, given):
         self.folder.mkdir(parents=True, exist_ok=True)
         net = given.net or ("10.77.0" if given.apart else "127.0.0")
-        config = vars(given) | {"net": net, "tag": "tc" + bytes(map(int, net.split("."))).hex() + "n"}
-        config |= {"nodes": [], "place": f"file:{self.folder}/logs" if given.engine == "file" else given.engine}
-        self.write("config", config)
+        self.write("config", vars(given) | {"up": True, "net": net, "tag": "tc" + bytes(map(int, net.split("."))).hex() + "n"})
+        nodes, place = [], f"file:{self.folder}/logs" if given.engine == "file" else given.engine
         if given.engine in ENGINES:
-            self.write("config", config | self.nodes(given.engine))
+            nodes, place = self.nodes(given.engine)
+        self.write("config", self.read() | {"nodes": nodes, "place": place})
         self.networks("set -e; " + NETWORKS)
         with open(self.folder / "log", "a", encoding="utf-8") as log:
-            subprocess.Popen([sys.executable, HERE / "cluster.py", "keep", self.folder], stdin=subprocess.DEVNULL, stdout=log, stderr=log,
-                             start_new_session=True)
-        end = time.monotonic() + 120
-        while not all(self.holders(shard) for shard in range(given.shards)):
-            if time.monotonic() > end:
-                sys.exit(f"it didn't come up: {self.folder}/log says why")
-            time.sleep(0.2)
-        print(f"up: {self['place']}; clients reach shard 0 at {','.join(self.addresses(0))}, and {self.folder}/pids has the processes")
+            keeper = [*OWN, "keep", self.folder]
+            subprocess.Popen(keeper, stdin=subprocess.DEVNULL, stdout=log, stderr=log, start_new_session=True)
+        until(lambda: all(map(self.holders, range(given.shards))), 120, f"it didn't come up: {self.folder}/log says why")
+        print(f"up: {place}; clients reach shard 0 at {','.join(self.addresses(0))}, and {self.folder}/pids has the processes")
 
     def commands(self):
         """Those of all processes, by their names."""
-        now = self.read()
-        found = {f"node {i}": command for i, command in enumerate(now["nodes"])}
-        for shard in map(str, range(now["shards"])):
-            found[f"snapshots {shard}"] = [sys.executable, HERE / "cluster.py", "snapshots", self.folder, shard]
-            at = self.addresses(shard)
-            for i in range(now["workers"]):
-                name = f"{shard}.{i}"
-                options = [option.rpartition(":")[2] for option in now["options"] if option.startswith(f"{name}:") or ":" not in option]
-                found[f"worker {name}"] = [*self.inside(3 + i), sys.executable, HERE / "worker.py", now["place"], shard, name,
-                                           ",".join([*at[i:], *at[:i]]), now["program"], *options]
+        found = {f"node {i}": command for i, command in enumerate(self["nodes"])}
+        for shard in map(str, range(self["shards"])):
+            found[f"snapshots {shard}"], at = [*OWN, "snapshots", self.folder, shard], self.addresses(shard)
+            for i in range(self["workers"]):
+                name, own_first = f"{shard}.{i}", ",".join([*at[i:], *at[:i]])
+                options = [option.rpartition(":")[2] for option in self["options"] if option.split(":")[:-1] in ([], [name])]
+                worker = HERE / "worker.py", self["place"], shard, name, own_first, self["program"]
+                found[f"worker {name}"] = [*self.inside(3 + i), sys.executable, *worker, *options]
         return found
 
     def keep(self, _):
         """Starts what doesn't run, of shards that are added, too."""
-        kept, ended = {}, []
-        signal.signal(signal.SIGTERM, lambda *_: ended.append(True))
-        while not ended:
+        kept = {}
+        while self["up"]:
             for name, command in self.commands().items():
                 if name not in kept or kept[name].poll() not in (None, REFUSED, DIFFERS):
                     kept[name] = subprocess.Popen(command, stdin=subprocess.DEVNULL, stdout=subprocess.DEVNULL)
-            self.write("pids", {"keeper": os.getpid()} | {name: process.pid for name, process in kept.items()})
+            self.write("pids", {name: process.pid for name, process in kept.items()})
             time.sleep(0.3)
         for process in kept.values():
             process.kill()
@@ -140,9 +153,8 @@ class Cluster:
         (self.folder / "pids").unlink()
 
     def down(self, _):
-        os.kill(self.read("pids")["keeper"], signal.SIGTERM)
-        while (self.folder / "pids").exists():
-            time.sleep(0.1)
+        self.write("config", self.read() | {"up": False})
+        until(lambda: not (self.folder / "pids").exists(), 60, f"not all ends: {self.folder}/pids has the processes")
         self.networks(NO_NETWORKS)
 
     def shards(self, given):
@@ -154,57 +166,54 @@ class Cluster:
 
     def status(self, _):
         for shard in range(self["shards"]):
-            last = open_log(self["place"], f"steps-{shard}").last()
+            log, why = open_log(self["place"], f"steps-{shard}"), f"shard {shard}: no answer from {self['place']}"
+            last, = until(lambda log=log: [log.last()], 6, why)  # each node may have a turn
             print(f"shard {shard}: record {last}")
             for address in self.addresses(shard):
                 works, name, record, ahead = said_by(address) or (False, "nobody", 0, 0)
-                print(f"  {name} {'holds the lease' if works else 'follows'} at {address}, {max(0, last - record)} records behind;"
-                      f" its clock is {ahead:.1f} ms ahead")
+                what = "holds the lease" if works else "follows"
+                print(f"  {name} {what} at {address}, {max(0, last - record)} records behind; its clock is {ahead:.1f} ms ahead")
 
-    def leader(self):
-        """The home of the node that leads, or of some node."""
-        with contextlib.suppress(Again):
-            return open_log(self["place"], "steps-0").leader()
-        return random.randrange(3)
-
-    def faults(self):
-        """What can be done to a cluster now, by names: a signal to processes, for some seconds, or ways between homes that are cut."""
-        kill, stop = signal.SIGKILL, signal.SIGSTOP
-        workers = [name for shard in range(self["shards"]) for name in self.holders(shard)]
-        kept = [name for name in self.read("pids") if name != "keeper"]
-        found = {"a process is killed": ([random.choice(kept)], kill, 0), "workers are killed": (workers, kill, 0),
-                 "workers are stopped and wake up": (workers, stop, 4)}
-        if self["nodes"]:
-            nodes, first = [f"node {i}" for i in range(3)], self.leader()
-            found |= {"the leader is killed": ([nodes[first]], kill, 3), "the leader is stopped": ([nodes[first]], stop, 4),
-                      "all nodes are killed": (nodes, kill, 2)}
-        if self["nodes"] and self["apart"]:
-            ways = [(first, other) for other in range(3) if other != first]
-            found |= {"the leader is cut off both ways": ways + [way[::-1] for way in ways], "the leader is cut off one way": ways,
-                      "workers are cut off from the log": {(3 + int(name.rpartition(".")[2]), node) for name in workers for node in range(3)}}
-        return found
+    def those(self, who):
+        """Names of processes. If no node says that it leads, any may."""
+        if who == "leader":
+            with contextlib.suppress(Again):
+                return [f"node {open_log(self['place'], 'steps-0').leader()}"]
+        if who == "workers":
+            return [name for shard in range(self["shards"]) for name in self.holders(shard)]
+        nodes = [f"node {i}" for i in range(3)]
+        return nodes if who == "nodes" else [random.choice(nodes if who == "leader" else [*self.read("pids")])]
 
     def fault(self, given):
-        """One that is named, or all of them."""
+        """Does the one that is named, or says which can be done here."""
         if not given.more:
             return print(*self.faults(), sep="\n")
-        what = self.faults()[given.more]
-        if isinstance(what, tuple):
-            return self.signals(*what)
-        for verb, seconds in (("add", 5), ("del", 1)):
-            for here, there in what:
-                way = ["route", verb, "blackhole", f"{self.host(there)}/32"]
-                subprocess.run(["ip", "-n", f"{self['tag']}{here}", *way], check=True)
-            time.sleep(seconds)
-
-    def signals(self, names, number, seconds=0):
-        """If it stops them, it wakes them up later."""
-        for name in names:
-            with contextlib.suppress(ProcessLookupError):
-                os.kill(self.read("pids")[name], number)
+        what, who, seconds = FAULTS[given.more]
+        does, do, undo = (self.cuts, "add", "del") if what.startswith("cut") else (self.signals, what, "CONT")
+        names = self.those(who)
+        does(names, do, what)
         time.sleep(seconds)
-        if number == signal.SIGSTOP:
-            self.signals(names, signal.SIGCONT)
+        if what != "KILL":
+            does(names, undo, what)
+
+    def signals(self, names, what, _):
+        for name in names:
+            with contextlib.suppress(ProcessLookupError):  # it ended meanwhile
+                os.kill(self.read("pids")[name], getattr(signal, f"SIG{what}"))
+
+    def cuts(self, names, verb, what):
+        """Ways from the homes of these to those of nodes."""
+        homes = {int(name[-1]) + 3 * name.startswith("worker") for name in names}
+        ways = [(here, there) for here in homes for there in range(3) if here != there]
+        for here, there in ways + [way[::-1] for way in ways if what == "cut both ways"]:
+            command = ["ip", "-n", f"{self['tag']}{here}", "route", verb, "blackhole", f"{self.host(there)}/32"]
+            subprocess.run(command, check=True)
+
+    def faults(self):
+        """What can be done to this cluster."""
+        has_nodes, can_cut = bool(self["nodes"]), bool(self["nodes"] and self["apart"])
+        return [name for name, (what, who, _) in FAULTS.items()
+                if (can_cut or not what.startswith("cut")) and (has_nodes or who in ("any", "workers"))]
 
     def harm(self, given):
         """Faults at random, for so many seconds. How many there were."""
@@ -222,7 +231,8 @@ class Cluster:
     def demo(self, given):
         begun, ended = time.monotonic(), threading.Event()
         models = [Model(self["place"], str(shard)) for shard in range(self["shards"])]
-        loads = [[Load(",".join(self.addresses(model.shard)), model.shard, i, ended, given.rate) for i in (0, 1)] for model in models]
+        opens = [[(",".join(self.addresses(model.shard)), model.shard, client) for client in (0, 1)] for model in models]
+        loads = [[Load(each, ended, given) for each in of_shard] for of_shard in opens]
         with concurrent.futures.ThreadPoolExecutor(len(models)) as pool:
             judged = pool.map(Model.judged, models, loads)
             try:
@@ -239,8 +249,8 @@ class Cluster:
         return bool(wrong)
 
     def snapshots(self, given):
-        """Two followers of a shard, over different wheels. Every so many records each says its state. If both say the same, that is a
-        snapshot, and the log is cut up to the one before. Who was away for so long that it meets the cut ends, and begins anew."""
+        """Two followers of a shard, over different wheels. Every so many records each says its state. If both say the same, that
+        is a snapshot, and the log is cut up to the one before. Who was away for so long that it meets the cut begins anew."""
         every = self["every"]
         one, other = (Shard(self["place"], given.more, self["program"], scheme) for scheme in ("hier", "hashed"))
         while True:
@@ -259,7 +269,7 @@ def main():
     parser.add_argument("verb", choices=["up", "demo", "fault", "status", "shards", "down", "keep", "snapshots"])
     parser.add_argument("folder")
     parser.add_argument("more", nargs="?")
-    for name, default in {"shards": 4, "workers": 2, "port": 23790, "net": "", "seconds": 30, "rate": 60, "every": 1000,
+    for name, default in {"shards": 4, "workers": 2, "net": "", "seconds": 30, "rate": 60, "patience": 180, "every": 1000,
                           "engine": "etcd", "faults": "all", "program": f"{HERE}/../timers"}.items():
         parser.add_argument(f"--{name}", type=type(default), default=default)
     parser.add_argument("--apart", action="store_true")

@@ -6,53 +6,63 @@ import threading
 import time
 
 from logs import Again
-from shard import EXPIRED_MOST, Differs, Follower
-from timers_cluster import ANSWER, CUT, EXPIRED, NOTHING, WRONG, Client
+from shard import EXPIRED_MOST, Follower
+from timers_cluster import ANSWER, CUT, NOTHING, WRONG, Client
 
 LAST = 2**60 - 1
 
 
 class Load(threading.Thread):
-    """A client that asks at random until the event `ended`, and then waits until all its timers are gone."""
+    """A client that asks at random until the event `ended`, and then waits until all its timers are gone. At any time it may end,
+    with requests under way, and go on after the last line that it has read."""
 
-    def __init__(self, workers, shard, client, ended, rate):
+    def __init__(self, opens, ended, given):
         super().__init__(daemon=True)
-        self.opens, self.number, self.ended, self.rate = (workers, shard, client), client, ended, rate
-        self.said, self.lines, self.pending, self.asked, self.answers = "", [], set(), 0, 0
+        self.opens, self.ended, self.rate, self.left = opens, ended, given.rate, given.patience  # seconds after the end
+        self.said, self.lines, self.pending, self.asked, self.answers = "stuck", [], set(), 0, 0
         self.start()
 
-    def ask(self, client):
-        serial, interval = random.choice([*self.pending, random.randrange(1, 10**6)]), random.choice((0, 1, 10, 100, 100, 200))
-        what = random.choices((client.start, client.stop, client.restart), (60, 25, 15))[0]
-        given = {client.start: (interval, random.randrange(2**60)), client.stop: (serial,), client.restart: (serial, interval, 7)}[what]
-        self.asked += what(*given) > 0
+    def begins(self, place=None):
+        """A life. It knows all that earlier ones did once its first request is answered."""
+        self.client = Client(*self.opens, place)
+        self.asked += self.client.start(1, random.randrange(2**60))
 
-    def hear(self, line):
-        self.lines.append(line.text)
-        self.answers += line.said == ANSWER
-        word, *values = line.text.split(" ")
+    def ask(self):
+        serial, interval = random.choice([*self.pending, random.randrange(1, 10**6)]), random.choice((0, 1, 10, 100, 100, 200))
+        kinds = {"start": (interval, random.randrange(2**60)), "stop": (serial,), "restart": (serial, interval, 7)}
+        what, = random.choices([*kinds], (60, 25, 15))
+        self.asked += getattr(self.client, what)(*kinds[what])
+
+    def hear(self, said, text, place):
+        self.lines.append(text)
+        self.answers += said == ANSWER
+        word, *values = text.split(" ")
         if word in ("expired", "stopped", "restarted"):
             self.pending.discard(int(values[2]))
         if word in ("started", "restarted"):
             self.pending.add(int(values[-2]))
+        if not self.ended.is_set() and random.random() < 0.003:
+            self.asked -= self.client.waiting()
+            self.client.close()
+            self.begins(place)
 
     def run(self):
-        client, begin, left = Client(*self.opens), time.monotonic(), 180  # seconds after the end
-        while not self.said and left > 0:
-            while not self.ended.is_set() and self.asked < (time.monotonic() - begin) * self.rate and client.waiting() < 1000:
-                self.ask(client)
-            line = client.next(0.02)
+        self.begins()
+        begun = time.monotonic()
+        while self.left > 0 and (self.pending or self.client.waiting() or not self.ended.is_set()):
+            due = 0 if self.ended.is_set() else (time.monotonic() - begun) * self.rate
+            while self.asked < due and self.client.waiting() < 1000:
+                self.ask()
+            line = self.client.next(0.02)
             if line.said in (CUT, WRONG):
                 self.said = f"told that it was cut off, or something wrong: {line.text}"
-            elif line.said != NOTHING:
-                self.hear(line)
-            elif self.ended.is_set():
-                left -= 0.02
-                self.said = "" if self.pending or client.waiting() else "done"
-            if line.said == EXPIRED and not client.waiting() and random.random() < 0.01:
-                client.close()
-                client = Client(*self.opens, line.place)  # as after a restart
-        client.close()
+                break
+            if line.said != NOTHING:
+                self.hear(*line)
+            self.left -= 0.02 * (line.said == NOTHING and self.ended.is_set())
+        else:
+            self.said = "done" if self.left > 0 else self.said
+        self.client.close()
 
 
 class Model(Follower):
@@ -74,16 +84,10 @@ class Model(Follower):
             elif values[0] == b"open":
                 self.serials = int(values[2])
 
-    def judges(self, record):
-        try:
-            self.follow(record)
-        except Differs:
-            self.wrong["breaks in the chain"] += 1
-            self.chain = None  # whatever it is
-            self.follow(record)
+    def differs(self, what):
+        self.wrong[what] += 1
 
     def plays(self, step):
-        self.wrong["ticks that fall"] += step.tick < self.now
         self.now, self.most = step.tick, max(self.most, sum(map(len, step.requests)))
         expired, answers = ([line.decode()[:-1] for line in lines] for lines in (step.expired, step.answers))
         self.expires([tuple(map(int, line.split()[1:])) for line in expired])
@@ -133,12 +137,12 @@ class Model(Follower):
         end = None
         while end is None or self.last < end:
             if record := self.log.wait(self.last + 1, 0.1):
-                self.judges(record)
+                self.follow(record)
             elif not any(load.is_alive() for load in loads):
                 with contextlib.suppress(Again):
                     end = self.log.last()
         for load in loads:
-            self.wrong[f"client that is {load.said or 'stuck'}"] += load.said != "done"
+            self.wrong[f"client that is {load.said}"] += load.said != "done"
             self.wrong["requests without one answer"] += abs(load.asked - load.answers)
-            self.wrong["client that saw other lines"] += load.lines != self.lines[load.number][-len(load.lines):]
+            self.wrong["client that saw other lines"] += load.lines != self.lines[load.opens[2]][-len(load.lines):]
         return +self.wrong

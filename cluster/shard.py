@@ -26,17 +26,14 @@ def sealed(chain, body):
     return b"%08x%08x " % (zlib.crc32(chain + body), zlib.adler32(chain + body)) + body
 
 
-def parsed(record, chain=None):
-    """Its step, which has nothing but three numbers if it is a genesis. It has to follow `chain`, if that is known."""
-    own, _, body = record.partition(b" ")
-    if chain is not None and sealed(chain, body) != record:
-        raise Differs("it doesn't follow the record before it")
-    head, *lines = body.splitlines(keepends=True)
-    kind, *numbers = head.split()[:4]
+def parsed(record):
+    """Its step, which has nothing but three numbers if it is a genesis."""
+    head, *lines = record.splitlines(keepends=True)
+    chain, kind, *numbers = head.split()[:5]
     tick, expired, requests = map(int, numbers)
     if kind == b"genesis":
-        return Step(own, (tick, expired, requests), 0, [], [], [])
-    return Step(own, None, tick, lines[:requests], lines[requests:requests + expired], lines[requests + expired:])
+        return Step(chain, (tick, expired, requests), 0, [], [], [])
+    return Step(chain, None, tick, lines[:requests], lines[requests:requests + expired], lines[requests + expired:])
 
 
 class Follower:
@@ -51,9 +48,16 @@ class Follower:
             self.last, self.now = int(record), int(state.split(None, 3)[2])
             self.begins(*map(int, genesis), state=state)
 
+    def differs(self, what):
+        raise Differs(what)
+
     def follow(self, record):
         """The one after the last one."""
-        step = parsed(record, self.chain)
+        step = parsed(record)
+        if sealed(self.chain, record[len(step.chain) + 1:]) != record:
+            self.differs("breaks in the chain")
+        if step.tick < self.now:
+            self.differs("ticks that fall")
         self.last, self.chain = self.last + 1, step.chain
         if step.genesis:
             self.begins(*step.genesis)
@@ -78,8 +82,8 @@ class Shard(Follower):
                                           stdin=subprocess.PIPE, stdout=subprocess.PIPE)
 
     def play(self, text, requests=0):
-        """The answers to lines. They have come when each request has its own, and then a line said when to wake up, which may come
-        once for several lines. The child reads no more while nobody reads its answers, so a thread writes."""
+        """The answers to lines. They have come when each request has its own, and then a line said when to wake up, which may
+        come once for several lines. The child reads no more while nobody reads its answers, so a thread writes."""
         answers, pipe = [], self.child.stdin
         threading.Thread(target=lambda: (pipe.write(text), pipe.flush()), daemon=True).start()
         while line := self.child.stdout.readline():
@@ -100,14 +104,11 @@ class Shard(Follower):
 
     def plays(self, step):
         """Compares its answers with the child's."""
-        if step.tick < self.now:
-            raise Differs("its tick falls")
         self.advance(step.tick)
         expired, self.owed = self.owed[:len(step.expired)], self.owed[len(step.expired):]
-        if self.owed and len(step.expired) < EXPIRED_MOST:
-            raise Differs("timers are missing")
-        if expired != step.expired or self.answers_to(step.requests) != step.answers:
-            raise Differs("its answers are others")
+        is_all = not self.owed or len(expired) == EXPIRED_MOST
+        if expired != step.expired or not is_all or self.answers_to(step.requests) != step.answers:
+            self.differs("other answers")
 
     def state(self):
         """A snapshot, or nothing if there can be none now: it has no room for what is handed out."""
@@ -139,8 +140,8 @@ def keep_snapshot(shard, lines, before):
 
 
 def said_by(address):
-    """What a worker says of itself: whether it works, its name and its last record, and by how many ms its clock is ahead of ours. The
-    ways there and back are taken to be the same, as by NTP."""
+    """What a worker says of itself: whether it works, its name and last record, and by how many ms its clock is ahead of ours.
+    The ways there and back are taken to be the same, as by NTP."""
     host, port = address.rsplit(":", 1)
     with contextlib.suppress(OSError, ValueError), socket.create_connection((host, int(port)), 0.5) as connection:
         before = time.time()

@@ -12,18 +12,15 @@ import re
 import sys
 import time
 
-from logs import Again, Cut, Refused, open_log
+from logs import Again, Cut, Refused
 from shard import EXPIRED_MOST, NO_CHAIN, Differs, Shard, parsed, said_by, sealed, snapshot
 
 OPTIONS = {"lease": 3000, "bound": 100, "tick": 10, "capacity": 1 << 20, "clock": 0, "fence": 1, "duel": 0}
 ASKED_MOST, LINE_MOST = 100000, 108  # bytes: of requests for which a record has room, and of one
 RECENT = 64  # records, which no client has to wait for
+ALL = 1 << 60  # lines: no record has as many
 NUMBER = rb"(?: (?:0|[1-9]\d{0,18}))"
 REQUESTS = re.compile(rb"(?:start%b{4}\n|stop%b{3}\n|restart%b{5}\n)*" % (NUMBER, NUMBER, NUMBER))
-
-
-class Ends(Exception):
-    """A client is told this, and no more."""
 
 
 class GivesUp(Exception):
@@ -45,7 +42,7 @@ def told(record, text):
     for i, (asked, line) in enumerate(zip([b""] * len(step.expired) + step.requests, step.expired + step.answers), 1):
         if not line.endswith((b" repeated\n", b" ahead\n", b" no-client\n")):
             client = int(line.split(b" ", 3)[1 if asked else 2])
-            said[client].append((i, b"said %d %s %d %d %s>%s" % (record, step.chain, i, step.tick, asked.rstrip(), line)))
+            said[client].append((i, b"said %d %d %s %d %s>%s" % (record, i, step.chain, step.tick, asked.rstrip(), line)))
     return step.chain, said
 
 
@@ -53,9 +50,9 @@ class Worker(Shard):
     def __init__(self, place, shard, name, addresses, program, options):
         self.options, self.lease, self.shard, self.written = options, options["lease"] / 1000, shard, 0
         self.name, (self.address, *self.others) = f"{name}-{os.urandom(4).hex()}", addresses.split(",")
+        self.clients, self.recent, self.asked = {}, {}, []  # connections by numbers, what they are told, and what they asked for
         super().__init__(place, shard, program)
-        self.reader, self.heard, self.working = open_log(place, f"steps-{shard}"), elapsed(), False  # one of all connections
-        self.clients, self.recent, self.asked = {}, {}, []  # connections by numbers; what they are told; what they asked for since
+        self.heard, self.working = elapsed(), False
 
     def wall(self):
         return int(time.time() * 1000) + self.options["clock"]
@@ -66,23 +63,27 @@ class Worker(Shard):
         return 2 * sum(ms > self.options["bound"] for ms in apart) > len(apart)
 
     async def follow_until_it_is_free(self):
-        """The lease is held by who appends, four times in it or oftener. It decides who works, and never what is true: two that hold it at
-        once are slow, not wrong. Nothing is known of those that were there before us, so we wait for as long."""
-        host, port = self.address.rsplit(":", 1)
-        await asyncio.start_server(self.serve, host, int(port))
+        """The lease is held by who appends, four times in it or oftener. It decides who works, and never what is true: two that
+        hold it at once are slow, not wrong. Nothing is known of those that were there before us, so we wait for as long. Only time
+        in which the log answers counts. The lease is free once a read that was asked for after it found no record."""
         while True:
-            while record := await asyncio.to_thread(self.log.wait, self.last + 1, 0.03):
-                self.follow(record)
-                self.heard = elapsed()
-            if self.options["duel"]:
-                return
-            if elapsed() - self.heard >= self.lease:
-                if not await asyncio.to_thread(self.is_off):
-                    return
-                self.heard = elapsed()
+            asked = elapsed()
+            try:
+                while record := await asyncio.to_thread(self.log.read, self.last + 1):
+                    self.follow(record)
+                    asked = self.heard = elapsed()
+                if self.options["duel"] or asked - self.heard >= self.lease:
+                    if not await asyncio.to_thread(self.is_off):
+                        return
+                    self.heard = elapsed()
+                await asyncio.sleep(0.02)
+            except Again:
+                await asyncio.sleep(0.02)
+                self.heard += elapsed() - asked
 
     async def work(self):
-        self.came, self.appended, self.reading = asyncio.Event(), asyncio.Event(), asyncio.Lock()
+        self.came, self.appended = asyncio.Event(), asyncio.Event()
+        await asyncio.start_server(self.serve, *self.address.rsplit(":", 1))
         await self.follow_until_it_is_free()
         apart = self.wall() - 1000 * elapsed()
         if not self.last:
@@ -135,11 +136,6 @@ class Worker(Shard):
                 raise GivesUp(f"fenced after record {self.last}")
             self.last = self.log.last()  # a test: what comes of it
 
-    async def read(self, call, *given):
-        """Of logs that all connections share."""
-        async with self.reading:
-            return await asyncio.to_thread(call, *given)
-
     def latest(self, client):
         """Where a client begins that knows no place: the record of a snapshot, the chain, and its own last number."""
         text = snapshot(self.snapshots, 1) or b"after 0 " + NO_CHAIN
@@ -147,23 +143,23 @@ class Worker(Shard):
         return int(text.split(None, 2)[1]), text.split(None, 3)[2], int(number[1]) if number else 0
 
     async def serve(self, reader, writer):
-        """A client says which shard it means, which client it is, and after which line of which record it goes on: 0 is after the latest
-        snapshot. Whoever was this client before is told no more. Others ask for our clock."""
+        """A client says which shard it means, which client it is, and after which line of which record it goes on: 0 is after the
+        latest snapshot. Whoever was this client before is told no more. Others ask for our clock."""
         try:
             said = (await reader.readline()).split()
             if said == [b"clock"]:
                 writer.write(f"{'works' if self.working else 'follows'} {self.name} {self.last} {self.wall()}\n".encode())
             elif self.working:
-                shard, *numbers, chain = said
-                client, record, line = map(int, numbers)
+                shard, client, record, line, chain = said
                 if shard.decode() != self.shard:
-                    raise Ends("another shard")
-                if before := self.clients.get(client):
+                    raise Cut("another shard")
+                if before := self.clients.get(int(client)):
                     before.transport.abort()
-                self.clients[client] = writer
-                await asyncio.gather(self.hear(reader, writer, client), self.show(writer, client, record, line, chain))
-        except (Ends, Cut) as why:
-            writer.write(b"%s\n" % (str(why) or "cut").encode())
+                self.clients[int(client)] = writer
+                shows = self.show(writer, int(client), int(record), int(line), chain)
+                await asyncio.gather(self.hear(reader, writer, int(client)), shows)
+        except Cut as why:
+            writer.write(f"{why}\n".encode())
         except (OSError, ValueError, Again):
             pass
         finally:
@@ -171,24 +167,25 @@ class Worker(Shard):
 
     async def show(self, writer, client, record, line, chain):
         """Tells a client what stands in the log and concerns it, until it is gone. If it doesn't read, this waits."""
-        at = record
         if not record:
-            record, chain, number = await self.read(self.latest, client)
-            at, line = record + 1, 0
-            writer.write(b"from %d %s %d\n" % (record, chain, number))
-        if record > self.last:  # we were asleep, unless the log has no such record: our next append is its last one
-            await self.appended.wait()
-        if record > self.last:
-            raise Ends("another past")
+            record, chain, number = await asyncio.to_thread(self.latest, client)
+            line = ALL
+            writer.write(b"from %d %d %s %d\n" % (record, line, chain, number))
+        for _ in range(2):  # we were asleep, unless the log has no such record: an append that begins now makes its last one
+            if record > self.last:
+                await self.appended.wait()
+        at = record or 1
         while self.clients.get(client) is writer:
             while at <= self.last:
-                own, said = self.recent.get(at) or told(at, await self.read(self.reader.wait, at, 2))
+                own, said = self.recent.get(at) or told(at, await asyncio.to_thread(self.log.wait, at, 2) or b"")
                 if at == record and own != chain:
-                    raise Ends("another past")
+                    break
                 writer.write(b"".join(text for i, text in said[client] if i > line))
                 await writer.drain()
                 at, line = at + 1, 0
-            writer.write(b"here %d %s\n" % (self.last, self.chain))
+            if at <= record:
+                raise Cut("another past")
+            writer.write(b"here %d %d %s 0\n" % (self.last, ALL, self.chain))
             await self.appended.wait()
 
     async def hear(self, reader, writer, client):
