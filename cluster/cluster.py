@@ -24,7 +24,7 @@ import threading
 import time
 
 from judge import Load, Model
-from logs import Again, open_log
+from logs import Again, Cut, Refused, open_log
 from shard import Differs, Shard, keep_snapshot, said_by
 
 HERE = pathlib.Path(__file__).resolve().parent
@@ -277,9 +277,9 @@ def main():
     given = parser.parse_args()
     try:
         return getattr(Cluster(given.folder), given.verb)(given)
-    except Differs as why:
-        print(f"{given.verb}: Differs {why}", file=sys.stderr)
-        return DIFFERS
+    except (Refused, Cut, Again, Differs) as why:
+        print(f"{given.verb}: {type(why).__name__} {why}", file=sys.stderr)
+        return {Refused: REFUSED, Differs: DIFFERS}.get(type(why), 1)
 
 
 if __name__ == "__main__":

@@ -205,15 +205,15 @@ class Worker(Shard):
         writer.close()
 
 
-def main():
+async def main():
     place, shard, name, addresses, program, *given = sys.argv[1:]
     options = OPTIONS | {key: int(value) for key, value in (option.split("=") for option in given)}
     try:
-        asyncio.run(Worker(place, shard, name, addresses, program, options).work())
+        await Worker(place, shard, name, addresses, program, options).work()
     except (Refused, GivesUp, Cut, Again, OSError, Differs) as why:
         print(f"{name}: {type(why).__name__} {why}", file=sys.stderr, flush=True)
-        os._exit({Refused: 2, Differs: 9}.get(type(why), 1))
+        os._exit({Refused: 2, Differs: 9}.get(type(why), 1))  # at once, whoever is served
 
 
 if __name__ == "__main__":
-    main()
+    asyncio.run(main())

@@ -347,7 +347,7 @@ def stands(engine, faults, options, more=(), logs="", logs_no=" no such worker "
         for fault in faults:
             cluster.stands(fault)
         log = (cluster.folder / "log").read_text()
-        assert logs in log and logs_no not in log
+        assert logs in log and logs_no not in log and "Traceback" not in log, log
 
 
 CASES |= {title: lambda row=row: stands(*row) for title, row in SCENES.items()}
