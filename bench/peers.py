@@ -1,10 +1,11 @@
 #!/usr/bin/env python3
 """Measures build/peers_* and build/counted_*: timers that a user would pick, under three loads of an event loop.
 
-    peers.py [--sizes 1000,10000,100000] [--repeats N] [--peers SET_AT,HEAP] [--only count|time]
+    peers.py [--sizes 1000,10000,100000] [--repeats N] [--peers SET_AT,HEAP] [--only count|time|miss]
 
 Two tables, of what a set, a stop or an expiry takes, all calls of the turns included: instructions, by callgrind, and
-processor time in ns, the median with the least and the greatest of the repeats. Peers that this machine lacks are left out.
+processor time in ns, the median with the least and the greatest of the repeats. With `miss` a third one alone: lines that are
+not in a last cache of 1 MB, by cachegrind, in which the owners' own lines count. Peers that this machine lacks are left out.
 Status 1: a run failed, or two peers disagree on how many timers expired, or on an order that both promise. Status 2: wrong
 arguments, or no program.
 """
@@ -73,6 +74,21 @@ def count(peers, load, size):
     ]
 
 
+def missed(peer, load, size, is_empty):
+    """Misses of the last cache, over a shorter run, and the operations."""
+    program, *words = command("peers", peer, load, size, is_empty)
+    words[2] = str(min(int(words[2]), max(3000, size // 32)))
+    caches = ["--I1=32768,8,64", "--D1=32768,8,64", "--LL=1048576,16,64"]
+    cachegrind = ["valgrind", "--tool=cachegrind", "--cache-sim=yes", "--cachegrind-out-file=/dev/null", *caches]
+    run = subprocess.run([*cachegrind, program, *words], capture_output=True, text=True, check=False)
+    return int(re.search(r"LLd misses: +([\d,]+)", run.stderr)[1].replace(",", "")), sum(output(run)[1])
+
+
+def miss(peers, load, size):
+    runs = [[missed(peer, load, size, is_empty) for is_empty in (False, True)] for peer in peers]
+    return [f"{(misses - at_start) / operations:.2f}" for (misses, operations), (at_start, _) in runs]
+
+
 def compare(load, size, runs):
     """Each peer that is never late has the same operations, and those that keep an order the same."""
     for what, peers in ((1, [peer for peer in runs if peer not in LATE]), (2, [peer for peer in runs if peer in ORDERED])):
@@ -96,16 +112,18 @@ def main():
     parser.add_argument("--sizes", default="1000,10000,100000")
     parser.add_argument("--repeats", type=int, default=5)
     parser.add_argument("--peers", default=",".join(PEERS))
-    parser.add_argument("--only", choices=["count", "time"])
+    parser.add_argument("--only", choices=["count", "time", "miss"])
     options = parser.parse_args()
     peers = [peer for peer in options.peers.split(",") if os.path.exists(os.path.join(HERE, "build", f"peers_{peer}"))]
     if not peers:
         fail("peers.py: no build/peers_*: run make peers", 2)
     rows = [(load, int(size)) for load in LOADS for size in options.sizes.split(",")]
     head = ["load", "timers", *(PEERS[peer] for peer in peers)]
-    if options.only != "time":
+    if options.only == "miss":
+        figures.write("peers_misses", head, [[load, size, *miss(peers, load, size)] for load, size in rows])
+    if options.only in ("count", None):
         figures.write("peers", head, [[load, size, *count(peers, load, size)] for load, size in rows])
-    if options.only != "count":
+    if options.only in ("time", None):
         figures.write("peers_ns", head, [[load, size, *time(peers, load, size, options.repeats)] for load, size in rows])
 
 
