@@ -143,7 +143,8 @@ class Cluster:
         kept = {}
         while self["up"]:
             for name, command in self.commands().items():
-                if name not in kept or kept[name].poll() not in (None, REFUSED, DIFFERS):
+                ends = [] if name.startswith("node") else [REFUSED, DIFFERS]  # a panic in Go has status 2, too
+                if name not in kept or kept[name].poll() not in [None, *ends]:
                     kept[name] = subprocess.Popen(command, stdin=subprocess.DEVNULL, stdout=subprocess.DEVNULL)
             self.write("pids", {name: process.pid for name, process in kept.items()})
             time.sleep(0.3)

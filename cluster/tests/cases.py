@@ -223,6 +223,23 @@ def asleep():
 
 
 @case
+def panics():
+    """a node that panics is started again, and a worker that was refused is not"""
+    cluster, says = Cluster(tempfile.mkdtemp(dir=FOLDER)), 'echo {} >> "$0"; exit 2'
+    starts = cluster.folder / "starts"
+    commands = {name: ["sh", "-c", says.format(name), starts] for name in ("node", "worker")}
+    cluster.write("config", {"up": True, "apart": False})
+    with mock.patch.object(Cluster, "commands", lambda _: commands), concurrent.futures.ThreadPoolExecutor() as pool:
+        kept = pool.submit(cluster.keep, None)
+        try:
+            until(lambda: starts.exists() and starts.read_text().count("node") > 2)
+        finally:
+            cluster.down(None)
+        kept.result()
+    assert starts.read_text().count("worker") == 1
+
+
+@case
 def no_answer():
     """a log gives no answer, and `status` says so in one line"""
     cluster = Case(tempfile.mkdtemp(dir=FOLDER))
