@@ -78,7 +78,7 @@ def missed(peer, load, size, is_empty):
     """Misses of the last cache, over a shorter run, and the operations."""
     program, *words = command("peers", peer, load, size, is_empty)
     words[2] = str(min(int(words[2]), max(3000, size // 32)))
-    caches = ["--I1=32768,8,64", "--D1=32768,8,64", "--LL=1048576,16,64"]
+    caches = [f"--I1={1 << 15},8,64", f"--D1={1 << 15},8,64", f"--LL={1 << 20},16,64"]  # bytes, ways, bytes of a line
     cachegrind = ["valgrind", "--tool=cachegrind", "--cache-sim=yes", "--cachegrind-out-file=/dev/null", *caches]
     run = subprocess.run([*cachegrind, program, *words], capture_output=True, text=True, check=False)
     return int(re.search(r"LLd misses: +([\d,]+)", run.stderr)[1].replace(",", "")), sum(output(run)[1])
