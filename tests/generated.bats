@@ -66,12 +66,6 @@ by_hand() {
 }
 @test "gcc builds a program of it as C99" { by_hand "gcc -std=c99 -pedantic -Wconversion -O2" examples/c/first.c generated/timers.c; }
 @test "clang builds a program of it as C99" { by_hand "clang -std=c99 -pedantic -O2" examples/c/first.c generated/timers.c; }
-@test "g++ builds a program in C++ of it" {
-    needs g++
-    g++ -std=c++17 -Wall -Wextra -Werror -Iinclude -o "$work/cpp" examples/c/first.cpp generated/timers.c
-    "$work/cpp" > "$work/out"
-    grep 'tea$' "$work/out"
-}
 @test "two files are enough without the desk" {
     mkdir "$work/two"
     cp generated/timers.c include/timers.h examples/c/first.c "$work/two"
@@ -225,23 +219,6 @@ cmake_app() {
     cmake --build "$folder/build"
     prints_first "$folder/build/app"
 }
-@test "CMake builds and runs the first program in C++" {
-    needs cmake c++
-    mkdir "$work/cmake_cpp"
-    cat > "$work/cmake_cpp/CMakeLists.txt" << EOT
-cmake_minimum_required(VERSION 3.15)
-project(first LANGUAGES CXX)
-add_subdirectory($top timers)
-add_executable(first $top/examples/c/first.cpp)
-target_compile_features(first PRIVATE cxx_std_17)
-target_link_libraries(first PRIVATE timers::timers)
-add_custom_target(run COMMAND first)
-EOT
-    cmake -S "$work/cmake_cpp" -B "$work/cmake_cpp/build"
-    cmake --build "$work/cmake_cpp/build" --target run > "$work/cmake_cpp/out"
-    grep -x '2400: egg' "$work/cmake_cpp/out"
-    grep -x '3000: tea' "$work/cmake_cpp/out"
-}
 has_licences() {
     cmp generated/NOTICE "$1/NOTICE"
     cmp LICENSES/MIT.txt "$1/LICENSE-MIT"
@@ -267,7 +244,7 @@ EOT
     # shellcheck disable=SC2046
     cc -o "$work/first" examples/c/first.c $(PKG_CONFIG_PATH=$work/installed/prefix/lib/pkgconfig pkg-config --cflags --libs timers)
     LD_LIBRARY_PATH=$work/installed/prefix/lib prints_first "$work/first"
-    diff <(ls include) <(ls "$work/installed/prefix/include")
+    diff <(headers) <(ls "$work/installed/prefix/include")
     has_licences "$work/installed/prefix/share/doc/timers"
     rm -rf "$work/installed"
 }
@@ -283,7 +260,7 @@ EOT
     cmake_app installs "-DCMAKE_INSTALL_PREFIX=$prefix" -DCMAKE_INSTALL_LIBDIR=of/libs -DCMAKE_INSTALL_INCLUDEDIR=of/headers <<< "set(TIMERS_INSTALL ON)
 add_subdirectory($top timers)"
     cmake --install "$work/installs/build"
-    diff <(ls include) <(ls "$prefix/of/headers")
+    diff <(headers) <(ls "$prefix/of/headers")
     cmake_app finds_folders "-Dtimers_DIR=$prefix/of/libs/cmake/timers" <<< "find_package(timers 1.0 CONFIG REQUIRED)"
     needs pkg-config
     for name in libdir:libs includedir:headers; do
@@ -339,7 +316,7 @@ EOT
     # shellcheck disable=SC2046
     cc -o "$work/first" examples/c/first.c $(PKG_CONFIG_PATH=$work/meson_prefix/lib/pkgconfig pkg-config --cflags --libs timers)
     prints_first "$work/first"
-    diff <(ls include) <(ls "$work/meson_prefix/include")
+    diff <(headers) <(ls "$work/meson_prefix/include")
     has_licences "$work/meson_prefix/share/doc/timers"
 }
 

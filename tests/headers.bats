@@ -151,7 +151,6 @@ int main(void)
 }
 EOT
 )
-warnings="-Werror -pedantic -Wall -Wextra -Wswitch-default -Wundef -Wshadow -Wconversion -Wsign-conversion"
 # as_header LANGUAGE COMPILER STANDARD FLAGS..
 as_header() {
     echo "$2 -std=$3"
@@ -177,14 +176,7 @@ in_c() {
 in_cpp() {
     needs "$1"
     for standard in c++11 c++14 c++17 gnu++17 c++20 c++2b; do as_header c++ "$1" $standard $warnings -Wold-style-cast; done
-    for standard in c++17 c++20 c++2b; do
-        "$1" -std=$standard $warnings -Wold-style-cast -Iinclude -fsyntax-only tests/c/agree.cpp tests/c/desk_agree.cpp
-    done
     says "needs C++11" as_header c++ "$1" c++98
-    for header in timers.hpp timers_desk.hpp; do
-        says "needs C++17" "$1" -std=c++14 -Iinclude -fsyntax-only -x c++ - <<< "#include <$header>"
-        [ "$(grep -c 'error:' <<< "$output")" -eq 1 ]
-    done
 }
 # says TEXT COMMAND..: the command fails, and what it writes has the text
 @test "gcc has no warning about the headers" { in_c gcc; }
@@ -192,82 +184,24 @@ in_cpp() {
 @test "g++ has no warning about any header, and says which C++ they need" { in_cpp g++; }
 @test "clang++ has no warning about any header, and says which C++ they need" { in_cpp clang++; }
 
-# A call that would throw says its status in the program's words, and ends the program.
-@test "without exceptions a call that is refused ends the program" {
-    cat > "$work/refused.cpp" << 'EOT'
-#include <cstdio>
-#ifdef SAYS
-#define TIMERS_REFUSED(status) std::puts(timers_message(status)), std::fflush(stdout)
-#define TIMERS_DESK_REFUSED(status) std::puts(timers_desk_message(status)), std::fflush(stdout)
-#endif
-#include <timers.hpp>
-#include <timers_desk.hpp>
-using namespace std::chrono_literals;
-int main(int count, char **)
-{
-    timing::timers<> timers;
-    timers.reserve(2);
-    timers.start(3ms, 7);
-    if (timers.take(timers.at(3ms))->action != 7)
-        return 1;
-    if (count > 1) {
-        std::vector<timing::line> lines;
-        timing::desk desk(lines, TIMERS_DESK_CLIENTS + 1, timing::desk::config(1, 1, 1));
-    }
-    timers.start(0ms, 1);
-}
-EOT
-    for compiler in g++ clang++; do
-        command -v $compiler || continue
-        for flag in "" -DSAYS; do
-            $compiler -std=c++17 -fno-exceptions -fno-rtti $warnings $flag -Iinclude -o "$work/refused" "$work/refused.cpp" "$lib/libtimers.a"
-            run "$work/refused"
-            [ "$status" -eq 134 ]
-            [ "$output" = "${flag:+the interval is 0}" ]
-            run "$work/refused" desk
-            [ "$status" -eq 134 ]
-            [ "$output" = "${flag:+a number of clients, room or configuration is out of range}" ]
-        done
-    done
-}
-
 # Those over FreeRTOS, io_uring and kqueue need headers that a machine may lack: tests/platforms and library.bats compile them.
-@test "the examples compile without a warning, in C and in C++, by gcc and by clang" {
+@test "the examples compile without a warning, by gcc and by clang" {
     local checked=0
-    for file in examples/c/*.c*; do
+    for file in examples/c/*.c; do
         [[ $file =~ (freertos|uring|kqueue)\.c$ ]] && continue
         for compiler in gcc clang; do
-            [[ $file == *.c ]] && command="$compiler -std=c11" || command="${compiler/gcc/g}++ -std=c++17"
-            command -v "${command%% *}" || continue
-            $command -O2 -Wall -Wextra -Werror -pedantic -Iinclude -c -o "$work/example.o" "$file"
+            command -v $compiler || continue
+            $compiler -std=c11 -O2 -Wall -Wextra -Werror -pedantic -Iinclude -c -o "$work/example.o" "$file"
             checked=$((checked + 1))
         done
     done
-    [ "$checked" -ge 14 ] || skip "neither gcc nor clang"
+    [ "$checked" -ge 12 ] || skip "neither gcc nor clang"
 }
 @test "the first lines of docs/embedding.md compile without a warning" {
     { printf '#include <stdlib.h>\n#include <unistd.h>\n' && sed -n '/^## The whole loop/,/^    \.\./s/^    //p' docs/embedding.md | sed '$d'; } > "$work/page.c"
     grep -q '^void hang_up' "$work/page.c"
     for compiler in gcc clang; do
         ! command -v $compiler || $compiler -std=gnu11 -Wall -Wextra -Werror -pedantic -Iinclude -c -o "$work/page.o" "$work/page.c"
-    done
-}
-
-# The comment beside each misuse is part of what the compiler says. It reads what all have, the headers, once.
-@test "misuses in C++ don't compile" {
-    needs "$CXX"
-    sed -n 's/^#.*if MISUSE == [0-9]* *\/\* \(.*\) \*\/$/\1/p' tests/c/misuse.cpp > "$work/misuses"
-    [ "$(wc -l < "$work/misuses")" -eq 18 ]
-    for compiler in g++ clang++; do
-        command -v "$compiler" || continue
-        mkdir "$work/$compiler"
-        grep '^#include' tests/c/misuse.cpp > "$work/$compiler/headers.hpp"
-        with_flags() { "$compiler" -std=c++17 -Werror -Wall -Wextra -Iinclude "$@"; }
-        with_flags -x c++-header -o "$work/$compiler/headers.hpp.gch" "$work/$compiler/headers.hpp"
-        misuse() { with_flags -DMISUSE="$1" -include "$work/$compiler/headers.hpp" -fsyntax-only tests/c/misuse.cpp; }
-        misuse 0
-        number=0
-        while read -r text; do says "$text" misuse $((++number)); done < "$work/misuses"
     done
 }
 

@@ -1,4 +1,4 @@
-# shellcheck shell=bash disable=SC2034,SC2086,SC2154
+# shellcheck shell=bash disable=SC2034,SC2086,SC2119,SC2120,SC2154
 # What the tests of this folder share.
 
 # needs TOOL..: skips the test if the machine lacks one of them
@@ -28,6 +28,9 @@ a_neighbour_is_gone() {
     return 1
 }
 
+# headers: the names of what is installed of them, also of neighbours that have some
+headers() { for folder in include $(of_neighbours include); do ls "$folder"; done | sort; }
+
 # From here on no command sees the toolchain.
 hide_toolchain() {
     mkdir -p "$BATS_FILE_TMPDIR/bin"
@@ -48,15 +51,32 @@ of_cpp="-std=c++17 -O1 -Wall -Wextra -Werror -pedantic -Iinclude"
 wraps=-Wl,--wrap=malloc,--wrap=realloc
 wrap=$wraps,--wrap=free
 
-# build FILE FLAGS..: a program of examples/c or tests/c, in C or C++
+# What the headers are compiled with beside a standard.
+warnings="-Werror -pedantic -Wall -Wextra -Wswitch-default -Wundef -Wshadow -Wconversion -Wsign-conversion"
+
+# find_source FILE: sets `source`, a file of tests/c or examples/c, or one by its path
+find_source() { for source in "tests/c/$1" "examples/c/$1" "$1"; do [ ! -e "$source" ] || break; done; }
+# build FILE FLAGS..: a program of tests/c or examples/c, or one by its path, in C or C++
 build() {
-    local source=tests/c/$1 compiler="$CC $of_c"
-    [ -e "$source" ] || source=examples/c/$1
+    local source compiler="$CC $of_c"
+    find_source "$1"
     [[ $1 != *.cpp ]] || compiler="$CXX $of_cpp"
     needs "${compiler%% *}"
     # shellcheck disable=SC2086
     $compiler -o "$work/program" "$source" -pthread "${@:2}" $library
 }
+
+# with COMPILER SANITIZERS: what is built from here on; the library once
+with() {
+    needs "$1"
+    CC=$1 CXX=${1/gcc/g}++ library=${MADE:-$work}/$1-$2.o
+    sanitize="-O0 -fsanitize=$2 -fno-sanitize-recover=all"
+    [ ! -e "$library" ] || return 0
+    echo 'int main(void) { return 0; }' > "$work/empty.c"
+    "$CC" $sanitize -o "$work/empty" "$work/empty.c" && "$work/empty" || skip "$1 has no -fsanitize=$2"
+    compile_library
+}
+compile_library() { "$CC" -std=c99 -g1 -Wall -Wextra -Werror -pedantic -Iinclude $sanitize "$@" -c -o "$library" generated/timers.c; }
 
 # build_driver FILE FLAGS..: the random driver of tests/driver, in which a model is
 build_driver() {

@@ -26,7 +26,7 @@ needs_compiler() { needs cc pkg-config readelf; }
 # Each installed path of a folder of its own, with its mode, and the link's target or the file of the tree that it is
 # a copy of. The names of the functions are those of the header.
 wanted_files() {
-    local mode path page function
+    local mode path page header function
     cat << EOT
 755 bin/timers timers
 644 lib/libtimers.a build/lib/libtimers.a
@@ -36,8 +36,6 @@ link lib/libtimers.so libtimers.so.${version%%.*}
 644 lib/pkgconfig/timers.pc -
 644 lib/cmake/timers/timers-config.cmake -
 644 lib/cmake/timers/timers-config-version.cmake -
-644 include/timers.hpp include/timers.hpp
-644 include/timers_desk.hpp include/timers_desk.hpp
 644 share/man/man1/timers.1 tools/install/timers.1
 644 share/bash-completion/completions/timers tools/install/completions/timers.bash
 644 share/zsh/site-functions/_timers tools/install/completions/_timers
@@ -59,6 +57,9 @@ EOT
         sed -n 's/^[a-z].*[ *]\(timers_[a-z_]*\)(.*/\1/p' "$path" | sort -u | while read -r function; do
             echo "link share/man/man3/$function.3 $page"
         done
+    done
+    for path in $(of_neighbours include); do
+        for header in "$path"/*; do echo "644 include/${header##*/} $header"; done
     done
     for path in $(of_neighbours installed); do DATADIR=share DOCDIR=share/doc/timers "$path" | awk '{ print $1, $3, $2 }'; done
     git ls-files examples | grep -v gitignore | while read -r path; do
@@ -222,7 +223,7 @@ refused() {
     folders=()
     for name in BINDIR LIBDIR INCLUDEDIR DATADIR MANDIR DOCDIR; do folders+=("$name=$work/apart/$name"); done
     in_tree install PREFIX="$work/apart/PREFIX" "${folders[@]}"
-    for path in BINDIR/timers LIBDIR/libtimers.a INCLUDEDIR/timers.hpp DATADIR/timers/c/timers.h MANDIR/man1/timers.1 \
+    for path in BINDIR/timers LIBDIR/libtimers.a INCLUDEDIR/timers.h DATADIR/timers/c/timers.h MANDIR/man1/timers.1 \
         MANDIR/man3/timers_start.3 DOCDIR/CHANGELOG.md; do
         echo "$path"
         [ -e "$work/apart/$path" ]

@@ -25,7 +25,8 @@ setup() {
     runs | grep -v 'bytes of input' | diff examples/c/event_loop.stdout -
 }
 @test "timers outlive the process that made them" {
-    for program in outlive.c outlive.cpp; do build $program && prints examples/c/outlive.stdout "$work"; done
+    build outlive.c
+    prints examples/c/outlive.stdout "$work"
 }
 @test "over UDP the text arrives whole, and the jobs that repeat wait at the end" {
     build reliable_udp.c
@@ -33,11 +34,6 @@ setup() {
     build job_scheduler.c
     runs | tail -n 1 | grep '^5 jobs wait$'
 }
-@test "the first program in C++ prints the actions' names" {
-    build first.cpp
-    prints <(printf '2400: egg\n3000: tea\n')
-}
-@test "connections in C++ time out over a real clock, in order" { build connections.cpp && prints examples/c/connections.stdout; }
 
 @test "random calls are recorded, for wrappers to replay" { needs_traces "$library"; }
 # agrees KIND: over each table each status and each step comes with 200,000 calls
@@ -64,17 +60,6 @@ agrees() {
     needs python3
     (cd tools && python3 -B -m translator.fields) > "$work/layout.h" || skip "no python3 from 3.11 on"
     build layout.c -I"$work" && runs
-}
-@test "random calls in C++ have the answers of C" {
-    needs_traces "$library"
-    build replay.cpp
-    replays "$made"/timers.? "$made"/desk.?
-}
-@test "the edges of C++ are as the header says" { build agree.cpp $wrap && runs; }
-@test "so they are in C++20, by clang++" {
-    needs clang++
-    CXX=clang++ of_cpp=${of_cpp/c++17/c++20} build agree.cpp $wrap
-    runs
 }
 
 @test "events of a loop run as a sorted list says" { build loop_model.c && runs $((10 * calls)) 1; }
@@ -122,7 +107,6 @@ serves() {
 
 @test "a desk's room is enough for what a client keeps, and with one word less it isn't" { build desk_edges.c && runs; }
 @test "random calls to a desk, its lines freed and opened again, agree with a model over each table" { agrees desk; }
-@test "a desk in C++ and its lines are moved, and throw what is refused" { build desk_agree.cpp && runs; }
 @test "threads beside a desk get all their words, and the end of them" {
     build desk_threads.c
     for clients in 1 8 $(most_clients); do runs $clients 10000 mixed; done
@@ -145,14 +129,4 @@ serves() {
         runs pass 20000
         runs load 20000
     done
-}
-
-@test "the room that a desk needs is one sum in C++, and does not wrap around" {
-    needs "$CXX"
-    "$CXX" $of_cpp -x c++ -o "$work/program" - -x none $library << 'EOT'
-#include <iostream>
-#include <timers_desk.hpp>
-int main() { for (std::uint64_t t, r; std::cin >> t >> r; ) std::cout << timing::desk::config(1, t, r).room << "\n"; }
-EOT
-    has_rooms runs
 }

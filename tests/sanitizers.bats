@@ -11,18 +11,6 @@ setup_file() {
 }
 setup() { set -o pipefail; }
 
-# with COMPILER SANITIZERS: what is built from here on; the library once
-with() {
-    needs "$1"
-    CC=$1 CXX=${1/gcc/g}++ library=${MADE:-$work}/$1-$2.o
-    sanitize="-O0 -fsanitize=$2 -fno-sanitize-recover=all"
-    [ ! -e "$library" ] || return 0
-    echo 'int main(void) { return 0; }' > "$work/empty.c"
-    "$CC" $sanitize -o "$work/empty" "$work/empty.c" && "$work/empty" || skip "$1 has no -fsanitize=$2"
-    compile_library
-}
-compile_library() { "$CC" -std=c99 -g1 -Wall -Wextra -Werror -pedantic -Iinclude $sanitize "$@" -c -o "$library" generated/timers.c; }
-
 examples() {
     for program in $printing; do
         echo "$program"
@@ -44,16 +32,6 @@ models() {
     build loop_model.c $sanitize
     runs 30000 2
     build desk_edges.c $sanitize
-    runs
-}
-# For the sanitizer of memory it would need a C++ library that is compiled for it.
-wrappers() {
-    build agree.cpp $wrap $sanitize
-    runs
-    needs_traces
-    build replay.cpp $sanitize
-    replays "$made"/timers.? "$made"/desk.?
-    build desk_agree.cpp $sanitize
     runs
 }
 threads() {
@@ -87,7 +65,6 @@ each() {
 @test "gcc, addresses and undefined behaviour: the library compiles" { with gcc address,undefined; }
 @test "gcc, addresses and undefined behaviour: examples, timers and desks" { each gcc address,undefined examples models; }
 @test "gcc, addresses and undefined behaviour: threads" { each gcc address,undefined threads; }
-@test "gcc, addresses and undefined behaviour: models, in C++" { each gcc address,undefined wrappers; }
 @test "clang, addresses and undefined behaviour: timers and desks" { each clang address,undefined models; }
 @test "clang, threads: threads, and servers that have some" { each clang thread threads servers; }
 @test "clang, memory: examples, timers, desks and threads" { each clang memory examples models threads; }

@@ -83,7 +83,10 @@ field() { dpkg-deb -f build/deb/"$1"_*.deb "$2"; }
         echo "$page"
         [ -e "$work/dev/usr/$page" ]
     done
-    for example in examples/c/*; do [ -e "$work/dev/usr/share/doc/timers/$example" ]; done
+    for example in $(git ls-files 'examples/c/[a-z]*' bindings/cpp/examples); do
+        echo "$example"
+        [ -e "$work/dev/usr/share/doc/timers/examples/c/${example##*/}" ]
+    done
 }
 
 @test "a library that does not link fails the build, and so does a function that it lacks, in a folder with a space" {

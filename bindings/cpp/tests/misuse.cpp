@@ -1,5 +1,5 @@
 /* Misuses of timers.hpp that the compiler refuses. With MISUSE=0 it compiles, with the others it must not.
- * tests/headers.bats compares what the compiler says with the comment of each. */
+ * cpp.bats compares what the compiler says with the comment of each. */
 #include <functional>
 #include <memory>
 #include <utility>
