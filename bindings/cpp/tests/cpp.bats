@@ -10,6 +10,7 @@ tests=bindings/cpp/tests examples=bindings/cpp/examples
 setup_file() {
     cd "$BATS_TEST_DIRNAME/../../.." || return
     hide_toolchain
+    unset PREFIX BINDIR LIBDIR INCLUDEDIR DATADIR MANDIR DOCDIR DESTDIR
     export top=$PWD work=$BATS_FILE_TMPDIR CC=${CC:-cc} CXX=${CXX:-c++} lib=${LIB:-$PWD/build/lib}
     export library=$lib/libtimers.a
 }
@@ -169,6 +170,18 @@ EOT
     meson setup --wrap-mode=forcefallback "$work/meson/build" "$work/meson"
     ninja -C "$work/meson/build"
     "$work/meson/build/first" | diff <(egg_and_tea) -
+}
+
+@test "make install puts headers and examples beside those of C, where the first program builds" {
+    needs c++ pkg-config
+    needs_built timers build/lib/libtimers.a
+    PREFIX=$work/prefix tools/install/install
+    cd "$work/prefix"
+    [ -e include/timers.hpp ]
+    [ -e include/timers_desk.hpp ]
+    # shellcheck disable=SC2046
+    c++ -std=c++17 -o "$work/program" share/doc/timers/examples/c/first.cpp $(PKG_CONFIG_PATH=lib/pkgconfig pkg-config --cflags --libs timers)
+    LD_LIBRARY_PATH=lib prints <(egg_and_tea)
 }
 
 # there PLATFORM COMPILER: what tests/platforms plays there of C++, after that a program starts and the library compiles
