@@ -3,6 +3,7 @@
 import re
 from collections import namedtuple
 
+from translator.apart import apart
 from translator.blocks import Writer
 from translator.expressions import WIDTHS, declared, struct_name
 from translator.fields import Fields
@@ -73,7 +74,7 @@ class File:
     def with_names(self, text):
         """The text with names of fields in place of offsets. The hints have the same variables."""
         fields = Fields(self.kind.prefix, text, self.exported)
-        text, self.hints = fields.written(self.hints)
+        text, self.hints = apart(*fields.written(self.hints))
         return text.replace(PLACES, '\n'.join([PLACES, 'enum {', ',\n'.join(map(wrapped, fields.constants())), '};']))
 
     def functions(self, names):

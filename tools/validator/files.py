@@ -7,6 +7,7 @@ import tempfile
 
 from validator.check import verdict
 from validator.ir import Module
+from validator.rests import whole
 
 TOP = os.path.dirname(os.path.dirname(os.path.dirname(os.path.abspath(__file__))))
 # No pass, and names and lines stay. What clang computes while it reads the C leaves no trace, and so has to be defined.
@@ -14,15 +15,15 @@ OPTIONS = '''--target=x86_64-unknown-linux-gnu --no-default-config -S -emit-llvm
     -gline-tables-only -fno-discard-value-names -femit-all-decls -Wno-everything -Werror=integer-overflow -nostdlibinc
     -Werror=shift-count-overflow -Werror=shift-count-negative -Werror=division-by-zero'''.split()
 HEADERS = '/usr/lib/llvm-*/lib/clang/*/include', '/usr/lib/gcc/x86_64-linux-gnu/*/include'
-
-
 def compiled(path, to):
-    """The toolchain's clang has no headers of its own."""
+    """The toolchain's clang has no headers of its own. What it gets stands beside the module."""
     page = subprocess.run(['rt', 'doc'], capture_output=True, text=True, check=True).stdout.strip()
     headers = sorted(folder for pattern in HEADERS for folder in glob.glob(pattern))[-1:]
     folders = *headers, '/usr/include/x86_64-linux-gnu', '/usr/include', f'{TOP}/include'
     clang = f'{os.path.dirname(page)}/toolchain/bin/clang'
-    subprocess.run([clang, *OPTIONS, *[f'-isystem{folder}' for folder in folders], path, '-o', to], check=True)
+    with open(path, encoding='utf-8') as file, open(f'{to}.c', 'w', encoding='utf-8') as joined:
+        joined.write(whole(file.read()))
+    subprocess.run([clang, *OPTIONS, *[f'-isystem{folder}' for folder in folders], f'{to}.c', '-o', to], check=True)
 
 
 def read_hints(path):

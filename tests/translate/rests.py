@@ -1,0 +1,130 @@
+"""A call whose rest stands apart, and others that stay whole: cut, and put back by tools/validate, each does the same."""
+# SPDX-License-Identifier: MIT OR Apache-2.0
+import json
+import subprocess
+import sys
+
+CALLS = '''
+/* timer_c::ways::other: crates/timer_c/src/ways.rs */
+static NOINLINE uint32_t tm_other(byte *p1, uint64_t n2, uint64_t n3, uint64_t n4)
+{
+	store64(p1, n2 * 3 + n3 * 5 + n4);
+	return 4;
+}
+
+/* Says what it does. */
+/* timers_call: crates/timer_c/src/start_exports.rs */
+static inline uint32_t tm_timers_call(byte *t, uint64_t n1, uint64_t n2, uint64_t n3)
+{
+	if (n1 == 9)
+		return 5;
+	uint64_t n4 = load64(t + 8);
+	byte *p5 = at(t, 16);
+	uint64_t n6 = load64(p5 + 8);
+	uint64_t n7 = load64(t + 16);
+	if (n1 == 1) {
+		uint64_t n8, n9;
+		if (n2 == n4) {
+			store64(t, n3);
+			return TIMERS_OK;
+		}
+		if (n3 > n7)
+			goto L1;
+		n8 = n4 + n7;
+		n9 = 0;
+		for (;;) {
+			if (n9 == n2)
+				break;
+			n8 = n8 + n9;
+			n9 = n9 + 1;
+		}
+		switch (n8 & 3) {
+		case 0: {
+			goto L2;
+		}
+		case 1: {
+			store64(t + 24, n8);
+			goto L2;
+		}
+		default: {
+			n8 = n6;
+			break;
+		}
+		}
+		store64(p5, n8);
+L2:
+		{
+			store64(t + 8, n8 + n2);
+			return (uint32_t)n8;
+		}
+	}
+L1:
+	{
+		uint32_t n10 = tm_other(t, n1, n2, n3);
+		return n10;
+	}
+}
+'''
+# Edits, and what is in the text then: of some calls all stays.
+EDITS = [
+    ('what returns 0 has not written', '\t\t\tstore64(t, n3);\n\t\t\treturn TIMERS_OK', '\t\t\tn3 = 0;\n\t\t\treturn TIMERS_OK', None),
+    ('memory changes before the rest', '\tif (n1 == 1) {', '\tstore64(t + 16, n3);\n\tif (n1 == 1) {', None),
+    ('a variable changes before the rest', '\tif (n1 == 1) {', '\tn7 = n3;\n\tif (n1 == 1) {', 'uint64_t n7)\n{'),
+    ('something jumps into the rest', '\tif (n1 == 9)\n\t\treturn 5;', '\tif (n1 == 9)\n\t\tgoto L2;', None),
+    ('the rest is short', CALLS[CALLS.index('\t\tn8 = n4'):CALLS.index('L1:')], '\t\treturn 7;\n\t}\n', None),
+    ('a jump leads to more than a call', '\t\tuint32_t n10', '\t\tn1 = n3;\n\t\tuint32_t n10', 'goto L1;\n\t\treturn tm_timers_call_rest('),
+]
+PROGRAM = '''#include <stdint.h>
+#include <stdio.h>
+#include <string.h>
+typedef unsigned char byte;
+#define NOINLINE __attribute__((noinline))
+#define TIMERS_OK 0
+static uint64_t load64(const byte *p) { uint64_t v; memcpy(&v, p, 8); return v; }
+static void store64(byte *p, uint64_t v) { memcpy(p, &v, 8); }
+static byte *at(byte *p, uint64_t n) { return p + n; }
+@CALLS@
+int main(void)
+{
+	uint64_t sum = 0;
+	for (int k = 0; k < 1024; k++) {
+		uint64_t memory[4] = { 7, k & 3, k >> 2 & 3, 11 };
+		sum = sum * 31 + tm_timers_call((byte *)memory, k >> 4 & 3, k >> 6 & 3, k >> 8 & 3);
+		for (int n = 0; n < 4; n++)
+			sum = sum * 31 + memory[n];
+	}
+	printf("%llu\\n", (unsigned long long)sum);
+}
+'''
+HEAD = 'import json, sys\nsys.path.insert(0, sys.argv[1])\nfrom validator.rests import whole\n'
+WHOLE = HEAD + 'print(json.dumps([*map(whole, json.load(sys.stdin))]))'
+CUT = HEAD + '''from translator.apart import apart
+print(json.dumps([(made, whole(made)) for made, _ in (apart(text, []) for text in json.load(sys.stdin))]))'''
+
+
+def printed(folder, calls):
+    """What the program prints, whose warnings are errors."""
+    with open(f'{folder}/rests.c', 'w', encoding='ascii') as file:
+        file.write(PROGRAM.replace('@CALLS@', calls))
+    built = subprocess.run(['gcc', '-O1', '-Wall', '-Wextra', '-Werror', '-Wno-shadow', f'{folder}/rests.c', '-o', f'{folder}/rests'],
+                           capture_output=True, text=True)
+    return subprocess.run([f'{folder}/rests'], capture_output=True, text=True).stdout if built.returncode == 0 else built.stderr
+
+
+def seen(tools, folder):
+    """Of each call what is wanted, whether it is so, and what was said."""
+    texts = [CALLS, *[CALLS.replace(old, new) for _, old, new, _ in EDITS]]
+    (cut, back), *others = run(CUT, tools, texts)
+    wanted, told = printed(folder, CALLS), [printed(folder, text) for text in (cut, back)]
+    yield 'cut: a call, and put back', 'tm_timers_call_rest(' in cut and '_rest(' not in back and told == [wanted, wanted], f'{told} {cut}'
+    for (name, old, _, has), text, (made, _) in zip(EDITS, texts[1:], others):
+        same = made == text if not has else has in made and printed(folder, made) == printed(folder, text)
+        yield f'cut: {name}', old in CALLS and same, made
+    edits = [('uint64_t n3, uint64_t', 'uint32_t n3, uint64_t'), ('_rest(t, n1, n2', '_rest(t, n2, n1')]
+    for (old, new), made in zip(edits, run(WHOLE, tools, [cut.replace(old, new) for old, new in edits])):
+        yield f'not put back: {new}', old in cut and '_rest(' in made, made
+
+
+def run(program, tools, texts):
+    done = subprocess.run([sys.executable, '-Bc', program, tools], input=json.dumps(texts), capture_output=True, text=True)
+    return json.loads(done.stdout) if done.returncode == 0 else [(done.stderr, done.stderr)] * len(texts)
