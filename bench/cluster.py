@@ -1,5 +1,5 @@
 #!/usr/bin/env python3
-"""Figures of a cluster on this machine, beside what else keeps timers on a disk. docs/scale.md has them.
+"""Figures of a cluster on this machine, beside what else keeps timers on a disk. cluster/scale.md has them.
 
     cluster.py PROGRAM [--repeats 3] [--seconds 5] [--timers 1000000] [--shards 2,4,8] [--peers NAMES] [--pending 20000]
                [--only rates,late,failover,recovery,peers,peers_late,peers_failover]

@@ -1,4 +1,4 @@
-"""A shard: its log, and the machine that plays it, `timers serve` in a child, which is proved. ../docs/scale.md has the forms of
+"""A shard: its log, and the machine that plays it, `timers serve` in a child, which is proved. scale.md has the forms of
 records and snapshots."""
 import collections
 import contextlib

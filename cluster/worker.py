@@ -1,5 +1,5 @@
 #!/usr/bin/env python3
-"""worker.py PLACE SHARD NAME ADDRESSES PROGRAM [OPTION=NUMBER ..]    a worker of a shard; ../docs/scale.md says more
+"""worker.py PLACE SHARD NAME ADDRESSES PROGRAM [OPTION=NUMBER ..]    a worker of a shard; scale.md says more
 
 It plays the records of the shard's log in its child, and compares the answers: so it can take over at once. If it gets the lease
 it works: it plays what clients send and what the clock says, and appends that as the next record, which the log accepts if it is
