@@ -120,9 +120,15 @@ def seen(tools, folder):
     for (name, old, _, has), text, (made, _) in zip(EDITS, texts[1:], others):
         same = made == text if not has else has in made and printed(folder, made) == printed(folder, text)
         yield f'cut: {name}', old in CALLS and same, made
-    edits = [('uint64_t n3, uint64_t', 'uint32_t n3, uint64_t'), ('_rest(t, n1, n2', '_rest(t, n2, n1')]
+    edits = [('uint64_t n3, uint64_t n4, ', 'uint32_t n3, uint64_t n4, '), ('_rest(t, n1, n2', '_rest(t, n2, n1'),
+             ('\tif (n1 == 9)', '\tif (n1 == 8) {\n\t\tuint32_t n3 = 1;\n\t\treturn n3;\n\t}\n\tif (n1 == 9)')]
     for (old, new), made in zip(edits, run(WHOLE, tools, [cut.replace(old, new) for old, new in edits])):
-        yield f'not put back: {new}', old in cut and '_rest(' in made, made
+        yield f'not put back: {new.splitlines()[0].strip()}', old in cut and '_rest(' in made, made
+    # The rest has another variable of that name, so it can't jump to where the function returns the call.
+    made = cut.replace('tm_other(t, n1, n2, n3)', 'tm_other(t, n1, n2, n7)')
+    made = made.replace('\tbyte *p5 = at(t, 16);', '\tbyte *p5 = at(t, 16);\n\tuint64_t n7 = 5;')
+    [back] = run(WHOLE, tools, [made])
+    yield 'put back: a call with a variable of the rest', '_rest(' not in back and printed(folder, made) == printed(folder, back) != wanted, back
 
 
 def run(program, tools, texts):
