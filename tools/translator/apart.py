@@ -11,7 +11,7 @@ import re
 CALL = re.compile(r'((?:^/\*[^\n]*\n(?:^ \*[^\n]*\n)*)?^/\* \S+: crates/\S+ \*/\n)static inline (uint32_t )(\w+)\(([^\n]*)\)\n\{\n(.*?)\n\}$',
                   re.M | re.S)
 DECLARED = re.compile(r'\t+(uint\d+_t |bool |byte \*)(\w+(?:, \*?\w+)*)( = .*)?;')
-READ = re.compile(r'\t+\w+ (\w+) = load\d+u?\(\w+ \+ \w+\);')
+READ = re.compile(r'\t+\w+ \w+ = load\d+u?\(\w+ \+ \w+\);')
 EFFECT = re.compile(r'\b(store\w*|mem\w+|atomic\w+|tm_\w+)\(')
 SHORTEST, MOST = 20, 6                                  # lines of a rest, and parameters that processors pass in registers
 
@@ -34,8 +34,8 @@ class Cut:
     def __init__(self, found):
         self.comments, self.of, self.name, self.head, body = found.groups()
         self.lines = body.split('\n')
-        self.jumps = {k: self.lines.index(f'{to[1]}:') for k, line in enumerate(self.lines) if (to := re.search(r'\bgoto (\w+);', line))
-                      and f'{to[1]}:' in self.lines}
+        labels = {line.split(':')[0]: k for k, line in enumerate(self.lines) if is_label(line)}
+        self.jumps = {k: labels[to[1]] for k, line in enumerate(self.lines) if (to := re.search(r'\bgoto (\w+);', line))}
         self.gone = []
         self.made = self.place() and self.cut()
 
@@ -52,7 +52,8 @@ class Cut:
         last = max([k for k, to in self.jumps.items() if arm < k < self.end <= to and not self.returned(k)], default=arm)
         self.begin = next((k for k in range(last + 1, self.end) if depth(lines[k]) == deep and lines[k].strip() != '}'), self.end)
         enters = any(self.begin <= to < self.end and not self.begin <= k < self.end for k, to in self.jumps.items())
-        return not enters and self.end - self.begin >= SHORTEST
+        goes_on = any(self.arm[0] < k < self.arm[1] <= to for k, to in self.jumps.items())
+        return not enters and not goes_on and self.end - self.begin >= SHORTEST
 
     def returned(self, k):
         """The line with what it returns, if its jump leads to a call whose value is returned."""
@@ -69,12 +70,14 @@ class Cut:
         return found
 
     def is_read_again(self, k):
-        """Whether this line reads a variable, and nothing between it and the rest, but for the arm that returns, changes it or memory."""
-        found, between = READ.fullmatch(self.lines[k]), self.lines[k + 1:self.arm[0] + 1] + self.lines[self.arm[1]:self.begin]
-        return found and k < self.arm[0] and not any(EFFECT.search(line) or f'\t{found[1]} = ' in line for line in between)
+        """Whether this line reads a variable, and nothing between it and the rest, but for the arm that returns, changes memory or a
+        variable of the line."""
+        between = self.lines[k + 1:self.arm[0] + 1] + self.lines[self.arm[1]:self.begin]
+        changes = [line for line in between if EFFECT.search(line) or any(f'\t{name} = ' in line for name in words([self.lines[k]]))]
+        return READ.fullmatch(self.lines[k]) and k < self.arm[0] and not changes
 
     def cut(self):
-        """The lines of both functions, or None if the rest needs more than can be passed to it."""
+        """The lines of both functions, or None if the rest needs more than can be passed to it, or what may have no value."""
         leaving = {k: to for k, to in self.jumps.items() if self.begin <= k < self.end <= to}
         moved = [self.returned(k) if k in leaving else self.lines[k] for k in range(self.begin, self.end)]
         kept = dict(enumerate(self.lines[:self.begin])) | {k: self.lines[k] for k in range(self.end, len(self.lines))}
@@ -86,7 +89,8 @@ class Cut:
         calls = [call.split(', ') for call in re.findall(r'\btm_\w+\(([\w, ]+)\)', '\n'.join(kept.values()))]
         passed = [name for name in dict.fromkeys([*max(calls, key=len, default=[]), *found]) if name in found and name not in own]
         again = [name for name in reversed(passed) if self.is_read_again(found[name][1])][:max(0, len(passed) - MOST)]
-        if len(passed) - len(again) > MOST or any(not own >= words([DECLARED.fullmatch(self.lines[k])[2]]) for k in declared):
+        without = [name for name in passed if found[name][1] >= 0 and ' = ' not in self.lines[found[name][1]]]
+        if without or len(passed) - len(again) > MOST or any(not own >= words([DECLARED.fullmatch(self.lines[k])[2]]) for k in declared):
             return None
         begins = ['\t' + self.lines[k].lstrip('\t') for k in [*declared, *[found[name][1] for name in again]]]
         passed = [name for name in passed if name not in again]

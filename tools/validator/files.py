@@ -14,16 +14,26 @@ TOP = os.path.dirname(os.path.dirname(os.path.dirname(os.path.abspath(__file__))
 OPTIONS = '''--target=x86_64-unknown-linux-gnu --no-default-config -S -emit-llvm -O0 -Xclang -disable-llvm-passes
     -gline-tables-only -fno-discard-value-names -femit-all-decls -Wno-everything -Werror=integer-overflow -nostdlibinc
     -Werror=shift-count-overflow -Werror=shift-count-negative -Werror=division-by-zero'''.split()
+# Of the C as it stands, with rests apart: a way that doesn't return, another variable of a name, and one without a value.
+ALONE = '''-fsyntax-only -Werror=return-type -Werror=shadow -Werror=uninitialized -Werror=sometimes-uninitialized
+    -Werror=conditional-uninitialized'''.split()
 HEADERS = '/usr/lib/llvm-*/lib/clang/*/include', '/usr/lib/gcc/x86_64-linux-gnu/*/include'
+
+
 def compiled(path, to):
-    """The toolchain's clang has no headers of its own. What it gets stands beside the module."""
+    """The toolchain's clang has no headers of its own. What it compiles stands beside the module, with rests put back."""
     page = subprocess.run(['rt', 'doc'], capture_output=True, text=True, check=True).stdout.strip()
     headers = sorted(folder for pattern in HEADERS for folder in glob.glob(pattern))[-1:]
     folders = *headers, '/usr/include/x86_64-linux-gnu', '/usr/include', f'{TOP}/include'
-    clang = f'{os.path.dirname(page)}/toolchain/bin/clang'
-    with open(path, encoding='utf-8') as file, open(f'{to}.c', 'w', encoding='utf-8') as joined:
-        joined.write(whole(file.read()))
-    subprocess.run([clang, *OPTIONS, *[f'-isystem{folder}' for folder in folders], f'{to}.c', '-o', to], check=True)
+    clang = [f'{os.path.dirname(page)}/toolchain/bin/clang', *OPTIONS, *[f'-isystem{folder}' for folder in folders]]
+    with open(path, encoding='utf-8') as file:
+        apart = file.read()
+    text = whole(apart)
+    if text != apart and subprocess.run([*clang, *ALONE, path], capture_output=True).returncode:
+        text = apart
+    with open(f'{to}.c', 'w', encoding='utf-8') as file:
+        file.write(text)
+    subprocess.run([*clang, f'{to}.c', '-o', to], check=True)
 
 
 def read_hints(path):
