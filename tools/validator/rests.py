@@ -1,8 +1,8 @@
 """The rest of a call, put back where the call is: what is compared is one function, as in the module.
 
 That both texts mean the same has to be trusted. So a rest is only put back if each of its names is a variable of its own, an argument
-with the name and the type of its parameter, or none of the function's. And in neither text may be what a compiler reads otherwise
-in another place. Whether each way through the rest returns, and each argument has a value, clang is asked (files.py)."""
+with the name and the type of its parameter, or none of the function's. Neither text may have what a compiler reads otherwise in
+another place. files.py asks clang whether each way through the rest returns, and whether each argument has a value."""
 # SPDX-License-Identifier: MIT OR Apache-2.0
 import re
 
